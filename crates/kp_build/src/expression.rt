@@ -8,7 +8,8 @@ use crate::env::Env;
 use crate::walk::node_for;
 use kp_ast::Expr;
 use kp_base::NoMemory;
-use kp_net::{NodeId, Pool};
+use kp_net::NodeId;
+use kp_pool::Pool;
 use std::alloc::Global;
 
 /// A node with the value of the expression, provided that the nodes of the names have the values of the names.

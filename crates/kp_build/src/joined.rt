@@ -7,8 +7,9 @@ ghost use Rattle.kp_net.specs.Growth.{Held, Grown};
 ghost use Rattle.kp_build.specs.inner.Showing.{IsThere, Shows, AllInside, words_at};
 
 use kp_base::NoMemory;
-use kp_net::{NodeId, Operands, Pool};
+use kp_net::{NodeId, Operands};
 use kp_net_gates::join;
+use kp_pool::Pool;
 use std::alloc::Global;
 
 /// `{a, b}`: the concatenation of one or more nodes, the first in the high bits. As each has at least one bit, there are at most 64.

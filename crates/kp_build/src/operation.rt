@@ -10,8 +10,9 @@ ghost use Rattle.kp_net.specs.Growth.{Held, Wire, Grown};
 ghost use Rattle.kp_build.specs.inner.Showing.{IsThere, Shows, width_after, copies};
 
 use kp_bits::{BinOp, Literal};
-use kp_net::{NodeId, Operands, Pool};
+use kp_net::{NodeId, Operands};
 use kp_net_gates::{binary, choose, complement, constant, join, part};
+use kp_pool::Pool;
 use std::alloc::Global;
 
 /// The value of a literal.

@@ -12,7 +12,8 @@ use crate::joined::joined;
 use crate::operation::{chosen, inverted, number, operated, sign_extended, sliced, zero_extended};
 use kp_ast::{Decl, Expr, ExprKind, Name};
 use kp_base::NoMemory;
-use kp_net::{NodeId, Pool};
+use kp_net::NodeId;
+use kp_pool::Pool;
 use std::alloc::Global;
 
 /// A node with the value of an expression.

@@ -4,8 +4,9 @@ ghost use Rattle.kp_net.specs.Nodes.{Cells, at, on};
 ghost use Rattle.kp_net.specs.Widths.{wide};
 ghost use Rattle.kp_net.specs.Growth.{Held, Wire, Grown};
 
-use kp_net::{NodeId, Pool};
+use kp_net::NodeId;
 use kp_net_gates::{both, either, inverse, same};
+use kp_pool::Pool;
 
 /// Whether a stage stalls: it is full, and it has a data hazard, is stalled by the environment, or the stage above stalls.
 #[tactic(auto, using(kp_net::proofs::Growing::growing))]

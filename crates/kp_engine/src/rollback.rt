@@ -6,8 +6,9 @@ ghost use Rattle.kp_pipeline.specs.Pipeline.{greatest};
 ghost use Rattle.kp_engine.specs.Misses.{bit_at, BitsOk};
 
 use crate::swept::Sweep;
-use kp_net::{NodeId, Pool};
+use kp_net::NodeId;
 use kp_net_gates::{bit, choose, constant, either};
+use kp_pool::Pool;
 
 /// The stages that are squashed if these of the n stages mismatch: those up to the greatest that does.
 #[tactic(auto, using(kp_net::proofs::Growing::growing, crate::proofs::Greatest::bits_grown))]

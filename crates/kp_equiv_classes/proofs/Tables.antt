@@ -5,7 +5,7 @@ use Rattle.std.proofs.lemmas.List.{Sums.prefix_len-le-length, Sums.passes_at_fir
 use Rattle.std.specs.{Prelude.if◌then◌else◌, Prelude.nat_lt, List.list_any, List.position_or_len}
 use Rattle.indexmap.specs.IndexSet.{insert_key}
 use Rattle.kp_net.specs.{declared.node.Node.Node, Widths.Distinct, Widths.no_node, inner.Lookup.LacksBelow}
-use Rattle.kp_net.proofs.{Found.is, Found.placed, Found.not_any, Same.node_from_eq}
+use Rattle.kp_net.proofs.{Found.is, Found.placed, Found.not_any, Rightness.distinct_more, Same.node_from_eq}
 use Rattle.kp_equiv_classes.specs.inner.Shapes.{Extends}
 
 pub record Put (ns : List Node) (n : Node) (new : List Node) (i : ℕ) : Type 0 where
@@ -23,16 +23,6 @@ extends_same ns = record { longer = omega arith; same = λ i l. refl }
 
 extends_more : (ns : List Node) (n : Node) → Extends ns (ns ++ n ∷ [])
 extends_more ns n = record { longer = omega (arith, length-append ns (n ∷ [])); same = λ i l. get_or-append ns (n ∷ []) no_node i l }
-
-distinct_more : (ns : List Node) (n : Node) → Distinct ns → LacksBelow ns n (length ns) → Distinct (ns ++ n ∷ [])
-distinct_more ns n d lacks i j l h e =
-    let li : i < length ns = omega (arith, length-append ns (n ∷ []), l, h) in
-    let at_i : get_or (ns ++ n ∷ []) i no_node ≡ get_or ns i no_node = get_or-append ns (n ∷ []) no_node i li in
-    ⊎_elim
-    (λ (m : j < length ns). d i j l m (sym at_i ∙ e ∙ get_or-append ns (n ∷ []) no_node j m))
-    (λ (m : length ns ≤ j). let z : j ≡ length ns = omega (arith, length-append ns (n ∷ []), h) in
-    lacks i li (sym at_i ∙ e ∙ ap (λ (k : ℕ). get_or (ns ++ n ∷ []) k no_node) z ∙ get_or-append_seam ns n [] no_node))
-    (cases_lt j (length ns))
 
 pub put : (ns : List Node) (n : Node) (new : List Node) (i : ℕ) → Distinct ns → new ≡ insert_key is ns n → i ≡ position_or_len (is n) ns → Put ns n new i
 put ns n new i d e f = by (nat_lt (position_or_len (is n) ns) (length ns)) refl

@@ -6,8 +6,9 @@ ghost use Rattle.kp_net.specs.Growth.{Held, Wire, Grown};
 ghost use Rattle.kp_fwd.specs.Forward.{enable_on, addresses_agree, BitOk, PairOk, SameWidth, set_on, set_value};
 
 use crate::rows::Carried;
-use kp_net::{NodeId, Pool};
+use kp_net::NodeId;
 use kp_net_gates::{bit, both, choose, constant, either, inverse, same};
+use kp_pool::Pool;
 
 /// Whether a stage hits: it is full, and its intent isn't known, or is to write at the address that is read. `enable`
 /// is its enable, if it has one, and `address` its address and the one that is read, if the target is a file.

@@ -8,8 +8,9 @@ ghost use Rattle.kp_fwd.specs.Forward.{some_hits, first_ok, first_value, Candida
 ghost use Rattle.kp_fwd.specs.inner.Tree.{StandsFor};
 
 use crate::rows::{Candidate, Picked};
-use kp_net::{NodeId, Pool};
+use kp_net::NodeId;
 use kp_net_gates::{bit, choose, either, pick};
+use kp_pool::Pool;
 
 /// The first of these rows that hits, or `none` if none does, by a balanced tree: at most 6 deeper than its inputs.
 #[tactic(auto, using(kp_net::proofs::Growing::growing))]

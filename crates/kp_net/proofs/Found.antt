@@ -1,9 +1,9 @@
 -- The index of a node in a list, by the test that compares nodes.
-use Rattle.std.proofs.Common.{◌≡◌, ◌⊎◌, ℕ, ◌<◌, ◌≤◌, ◌++◌, ◌∷◌, [], Bool, true, false, List, length, get_or, refl, sym, subst, ap, ◌∙◌, arith, ⊎_elim, Option, None, Some, MatchOption, length-append, if◌then◌else◌, IfOk, OnErr, Result, Ok, Err, inl, inr}
-use Rattle.std.proofs.lemmas.{Bool.cases_lt, Bool.false≢true, Bool.false_from_ne_true, Grind.common_steps, List.get_or_default, List.Quantifiers.position-Some}
-use Rattle.std.proofs.{lemmas.List.Sums.fails_before_first, lemmas.List.Folds.list_any_none, Math.ListN.get_or-append, Math.Seq.get_or-append_seam}
+use Rattle.std.proofs.Common.{◌≡◌, ℕ, ◌<◌, ◌≤◌, Bool, false, List, length, get_or, sym, ap, ◌∙◌, arith, Option, None, Some, MatchOption}
+use Rattle.std.proofs.lemmas.{Bool.false≢true, Bool.false_from_ne_true, Grind.common_steps, List.get_or_default, List.Quantifiers.position-Some}
+use Rattle.std.proofs.{lemmas.List.Sums.fails_before_first, lemmas.List.Folds.list_any_none}
 use Rattle.std.specs.List.{position, position_or_len, list_any}
-use Rattle.kp_net.specs.{declared.node.Node.Node, Widths.no_node, inner.Lookup.LacksBelow, inner.Lookup.IsFront}
+use Rattle.kp_net.specs.{declared.node.Node.Node, Widths.no_node, inner.Lookup.LacksBelow}
 use Rattle.kp_net.proofs.Same.{node_from_eq, node_eq_itself}
 use Rattle.kp_net.specs.contracts.node.NodePartialEq.TheImpl as nodes
 
@@ -25,12 +25,3 @@ placed n ns (Some i) e = let p = position-Some (is n) ns i no_node (sym e) in (p
 placed n ns None e =
     let past : length ns ≤ position_or_len (is n) ns = grind (arith, common_steps) in
     λ i h same. differs n (get_or ns i no_node) (fails_before_first (is n) ns i no_node (omega (arith, h, past))) same
-
--- what an insertion leaves
-pub inserted : {A E : Type 0} (n : Node) (old new : List Node) (r : Result A E) → LacksBelow old n (length old)
-    → IfOk r (λ x. new ≡ (if list_any (is n) old then old else old ++ n ∷ [])) → OnErr r (new ≡ old) → (new ≡ old) ⊎ (new ≡ old ++ n ∷ [])
-inserted n old new (Ok x) lacks put stays = inr (put ∙ ap (λ (b : Bool). if b then old else old ++ n ∷ []) (not_any n old lacks))
-inserted n old new (Err x) lacks put stays = inl stays
-
-pub lacks_front : (ks ns : List Node) (n : Node) → IsFront ks ns → LacksBelow ks n (length ks) → LacksBelow ns n (length ks)
-lacks_front ks ns n h lacks i l e = lacks i l (h.same i l ∙ e)

@@ -1,12 +1,10 @@
 pub mod Cells
 pub mod Depths
 pub mod Exact
-pub mod Folds
 pub mod Found
 pub mod Growing
 pub mod Resets
 pub mod Rightness
 pub mod Runs
 pub mod Same
-pub mod Unfolded
 pub mod Values

@@ -1,5 +1,4 @@
 pub mod Depth
-pub mod Folding
 pub mod Growth
 pub mod Names
 pub mod Netlist

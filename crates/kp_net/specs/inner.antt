@@ -1,3 +1,2 @@
--- Definitions for private contracts and proofs of this crate only: no public clause depends on them.
-pub mod Folds
+-- Definitions for private contracts and proofs only: no public clause depends on them.
 pub mod Lookup

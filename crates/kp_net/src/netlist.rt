@@ -1,12 +1,10 @@
 // Netlists: nodes and the ports, registers, files and outputs around them.
 ghost use Rattle.std.specs.Prelude.{◌≡◌};
 ghost use Rattle.kp_net.specs.Netlist.{Net};
-ghost use Rattle.kp_net.specs.Parts.{PartsOk, NetOk};
-ghost use Rattle.kp_net.specs.Widths.{Distinct};
+ghost use Rattle.kp_net.specs.Parts.{NetOk};
 
 use crate::label::Label;
 use crate::node::{Node, NodeId};
-use crate::pool::Pool;
 use kp_base::List;
 use kp_bits::Bits;
 use std::marker::Model;
@@ -90,18 +88,6 @@ impl Model for Netlist {
 }
 
 impl Netlist {
-    /// The netlist of the pool's nodes, in order, with these parts. Allocates nothing.
-    pub fn close(pool: Pool, parts: Parts) -> Netlist
-        requires { PartsOk pool.nodes parts }
-        ensures net { result ≡ record { nodes = pool.nodes; parts = parts } }
-        ensures distinct { Distinct result.nodes }
-    {
-        Netlist {
-            nodes: pool.into_nodes(),
-            parts,
-        }
-    }
-
     /// The netlist of these nodes, in this order, with these parts. Allocates nothing.
     pub fn from_nodes(nodes: Vec<Node>, parts: Parts) -> Netlist
         requires { NetOk (record { nodes = nodes.items; parts = parts }) }

@@ -42,8 +42,8 @@ pub struct Node {
 }
 
 impl Node {
-    // A copy of the node. Allocates nothing.
-    pub(crate) fn copied(&self, alloc: Global) -> Node
+    /// A copy of the node. Allocates nothing.
+    pub fn copied(&self, alloc: Global) -> Node
         ensures { result ≡ self.now }
     {
         Node {

@@ -6,7 +6,8 @@ ghost use Rattle.kp_net.specs.Growth.{Held, Wire, Grown};
 
 use crate::words::{binary, choose, complement, constant};
 use kp_bits::BinOp;
-use kp_net::{NodeId, Pool};
+use kp_net::NodeId;
+use kp_pool::Pool;
 
 /// `a & b` of single bits.
 pub fn both(pool: &mut Pool, a: NodeId, b: NodeId) -> NodeId

@@ -9,7 +9,8 @@ ghost use Rattle.kp_net.specs.Depth.{depth, IsNoDeeper};
 ghost use Rattle.kp_net.specs.Growth.{Held, Wire, Grown};
 
 use kp_bits::BinOp;
-use kp_net::{Kind, Node, NodeId, Operands, Pool};
+use kp_net::{Kind, Node, NodeId, Operands};
+use kp_pool::Pool;
 
 /// A constant.
 pub fn constant(pool: &mut Pool, width: u8, value: u64) -> NodeId

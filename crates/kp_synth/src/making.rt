@@ -13,7 +13,8 @@ ghost use Rattle.kp_synth.specs.inner.Rooms.{reading_room, inside_room, closing_
 
 use crate::bound::enough_nodes;
 use kp_base::NoMemory;
-use kp_net::{Netlist, Pool};
+use kp_net::Netlist;
+use kp_pool::Pool;
 use kp_stage::{Design, Start};
 use kp_synth_parts::close;
 use kp_synth_pipeline::run_stages;

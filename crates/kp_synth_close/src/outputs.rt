@@ -8,8 +8,9 @@ ghost use Rattle.kp_synth_registers.specs.Meaning.{node_at, Ready, IsTest};
 ghost use Rattle.kp_synth_close.specs.Control.{Controls, ShowRow};
 
 use crate::control::{Control, RowNodes};
-use kp_net::{NodeId, Operands, Pool};
+use kp_net::{NodeId, Operands};
 use kp_net_gates::join;
+use kp_pool::Pool;
 use kp_synth_registers::{Reads, full_in};
 use kp_synth_tables::Layout;
 use std::alloc::Global;

@@ -10,8 +10,9 @@ ghost use Rattle.kp_synth_registers.specs.Holding.{Holds, kept_in};
 ghost use Rattle.kp_synth_registers.specs.Meaning.{Ready, IsTest, Says};
 ghost use Rattle.kp_synth_close.specs.Nexts.{outcome_at, made_at, leaves_pending, leaves_with};
 
-use kp_net::{NodeId, Pool};
+use kp_net::NodeId;
 use kp_net_gates::{choose, pick};
+use kp_pool::Pool;
 use kp_synth_registers::{Made, Outcome, Reads, kept};
 use kp_synth_tables::{GuessSlot, Key, Layout};
 

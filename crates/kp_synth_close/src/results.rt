@@ -10,8 +10,9 @@ ghost use Rattle.kp_synth_tables.specs.Keys.{target_at, is_kept};
 ghost use Rattle.kp_synth_registers.specs.Holding.{optional};
 ghost use Rattle.kp_synth_registers.specs.Meaning.{Ready, IsTest, MayGive, Says};
 
-use kp_net::{NodeId, Pool};
+use kp_net::NodeId;
 use kp_net_gates::{choose, either, pick};
+use kp_pool::Pool;
 use kp_synth_registers::{Outcome, Reads, Set, result_in};
 use kp_synth_tables::Layout;
 

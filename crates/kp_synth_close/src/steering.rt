@@ -10,8 +10,9 @@ ghost use Rattle.kp_synth_close.specs.Control.{AllSay, Controls};
 
 use crate::control::Control;
 use kp_engine::{sweep, update_of};
-use kp_net::{NodeId, Pool};
+use kp_net::NodeId;
 use kp_net_gates::bit;
+use kp_pool::Pool;
 use kp_synth_registers::{Outcome, Reads, full_in};
 use kp_synth_tables::Layout;
 

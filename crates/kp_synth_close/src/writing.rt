@@ -15,8 +15,9 @@ ghost use Rattle.kp_synth_close.specs.inner.Written.{writes, written_value, addr
 
 use crate::results::leaves;
 use kp_base::NoMemory;
-use kp_net::{NodeId, Pool, WritePort};
+use kp_net::{NodeId, WritePort};
 use kp_net_gates::{both, choose, constant};
+use kp_pool::Pool;
 use kp_synth_registers::{Outcome, Reads, Set, kept, pipe_in};
 use kp_synth_tables::{Key, Layout, Port};
 use std::alloc::Global;

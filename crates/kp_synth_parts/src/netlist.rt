@@ -18,7 +18,8 @@ use crate::files::{files, sample_ports};
 use crate::labels::label;
 use crate::registers::registers;
 use kp_base::{List, NoMemory};
-use kp_net::{Netlist, Parts, Pool};
+use kp_net::{Netlist, Parts};
+use kp_pool::Pool;
 use kp_stage::Start;
 use kp_synth_close::{Ends, close_nodes};
 use kp_synth_registers::{Outcome, Reads};
@@ -94,5 +95,5 @@ pub fn close(
     let mut pool = pool;
     let ends = close_nodes(alloc, &mut pool, layout, reads, outs)?;
     let parts = assembled(alloc, &pool, layout, start, &ends)?;
-    Ok(Netlist::close(pool, parts))
+    Ok(pool.close(parts))
 }

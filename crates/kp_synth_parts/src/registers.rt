@@ -11,7 +11,8 @@ use crate::labels::{label, numbered};
 use kp_ast::Decl;
 use kp_base::NoMemory;
 use kp_bits::Bits;
-use kp_net::{NetReg, NodeId, Pool};
+use kp_net::{NetReg, NodeId};
+use kp_pool::Pool;
 use kp_synth_tables::{Key, Layout};
 use std::alloc::Global;
 

@@ -16,7 +16,8 @@ ghost use Rattle.kp_synth_pipeline.specs.inner.Whole.{enabled_by, addressed_by, 
 
 use crate::rows::row_of;
 use kp_base::NoMemory;
-use kp_net::{NodeId, Pool};
+use kp_net::NodeId;
+use kp_pool::Pool;
 use kp_synth_registers::{Reads, Set, pipe_in, result_in};
 use kp_synth_stage::{Row, Source};
 use kp_synth_tables::Layout;

@@ -10,8 +10,9 @@ ghost use Rattle.kp_synth_pipeline.specs.Stages.{no_outcome, own_room, stage_roo
 use crate::entering::sources_in;
 use crate::staging::{stage_above, stage_in};
 use kp_base::NoMemory;
-use kp_net::{NodeId, Pool};
+use kp_net::NodeId;
 use kp_net_gates::bit;
+use kp_pool::Pool;
 use kp_synth_registers::{Outcome, Reads};
 use kp_synth_stage::{Slots, Source};
 use kp_synth_tables::Layout;

@@ -12,8 +12,9 @@ ghost use Rattle.kp_synth_pipeline.specs.inner.Seeing.{SeesAbove, PipesIn, Hints
 ghost use Rattle.kp_synth_pipeline.specs.inner.Whole.{Few, OwnMeans, Bare};
 
 use kp_base::NoMemory;
-use kp_net::{NodeId, Pool};
+use kp_net::NodeId;
 use kp_net_gates::part;
+use kp_pool::Pool;
 use kp_synth_registers::{Reads, kept, pipe_in};
 use kp_synth_stage::{Own, Slot, Source};
 use kp_synth_tables::{Key, Layout};

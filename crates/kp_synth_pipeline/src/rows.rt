@@ -10,8 +10,9 @@ ghost use Rattle.kp_synth_registers.specs.Meaning.{SetFits, set_value};
 ghost use Rattle.kp_synth_stage.specs.Rows.{AddressOk, RowOk};
 
 use kp_fwd::carried;
-use kp_net::{NodeId, Pool};
+use kp_net::NodeId;
 use kp_net_gates::{bit, both, either, inverse};
+use kp_pool::Pool;
 use kp_synth_registers::Set;
 use kp_synth_stage::Row;
 

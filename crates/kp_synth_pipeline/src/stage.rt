@@ -11,7 +11,8 @@ ghost use Rattle.kp_synth_pipeline.specs.inner.Seeing.{SeesAbove, PipesIn, Sampl
 
 use kp_base::NoMemory;
 use kp_engine::stall_of;
-use kp_net::{NodeId, Pool};
+use kp_net::NodeId;
+use kp_pool::Pool;
 use kp_stage::Design;
 use kp_synth_stage::{Slots, Source, Work, run_block};
 use std::alloc::Global;

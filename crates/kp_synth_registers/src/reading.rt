@@ -10,8 +10,9 @@ ghost use Rattle.kp_synth_registers.specs.Meaning.{Ready, IsTest, Gives, MayGive
 
 use crate::outcome::Set;
 use crate::registers::Reads;
-use kp_net::{NodeId, Pool};
+use kp_net::NodeId;
 use kp_net_gates::{bit, constant};
+use kp_pool::Pool;
 use kp_synth_tables::{Key, Layout};
 
 /// The node that reads the register of a key.

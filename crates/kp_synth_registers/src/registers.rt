@@ -12,7 +12,8 @@ ghost use Rattle.kp_synth_registers.specs.Meaning.{Gives, Ready, Added};
 ghost use Rattle.kp_synth_registers.specs.inner.First.{FirstRead, FirstSamples};
 
 use kp_base::{List, NoMemory};
-use kp_net::{Kind, Node, NodeId, Pool};
+use kp_net::{Kind, Node, NodeId};
+use kp_pool::Pool;
 use kp_synth_tables::{Key, Layout};
 use std::alloc::Global;
 

@@ -14,8 +14,9 @@ ghost use Rattle.kp_synth_stage.specs.inner.Reading.{Matched, given, lacks, valu
 use crate::row::{Got, Own, Row, Source, Truth};
 use kp_base::NoMemory;
 use kp_fwd::{Candidate, hit_of, select};
-use kp_net::{Kind, Node, NodeId, Pool};
+use kp_net::{Kind, Node, NodeId};
 use kp_net_gates::{bit, both, choose, constant, inverse};
+use kp_pool::Pool;
 use kp_stage::Design;
 use std::alloc::Global;
 

@@ -11,7 +11,8 @@ ghost use Rattle.kp_synth_stage.specs.inner.Statements.{width_in, IsRight, Optio
 use kp_ast::Expr;
 use kp_base::NoMemory;
 use kp_build::{Env, expr};
-use kp_net::{NodeId, Pool};
+use kp_net::NodeId;
+use kp_pool::Pool;
 use kp_stage::Design;
 use std::alloc::Global;
 

@@ -6,7 +6,8 @@ ghost use Rattle.kp_net.specs.Widths.{wide, no_node};
 ghost use Rattle.kp_net.specs.Parts.{NodeIs, PortOk, RegOk, FileOk, WriteOk, CellOk, AllCells, PartsOk};
 
 use kp_bits::Bits;
-use kp_net::{Kind, NetFile, NetReg, Node, NodeId, Parts, Pool, Port, WritePort};
+use kp_net::{Kind, NetFile, NetReg, Node, NodeId, Parts, Port, WritePort};
+use kp_pool::Pool;
 
 /// Whether a simulator can run a netlist of these nodes with these parts: everything that they name exists, with the right widths.
 pub fn runs(pool: &Pool, parts: &Parts) -> bool

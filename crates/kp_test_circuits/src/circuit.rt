@@ -4,7 +4,8 @@ use crate::names::{Cell, Names};
 use crate::text::{label, number, small, value};
 use kp_base::List;
 use kp_bits::Bits;
-use kp_net::{NetFile, NetReg, NodeId, Parts, Pool, Port, WritePort};
+use kp_net::{NetFile, NetReg, NodeId, Parts, Port, WritePort};
+use kp_pool::Pool;
 use std::alloc::Global;
 use std::mem;
 

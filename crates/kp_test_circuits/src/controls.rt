@@ -10,7 +10,8 @@ use crate::names::Names;
 use crate::text::{small, value};
 use kp_engine::{Sweep, mismatch, sweep};
 use kp_fwd::{Candidate, Carried, Picked, carried, hit_of, select};
-use kp_net::{NodeId, Pool};
+use kp_net::NodeId;
+use kp_pool::Pool;
 use std::alloc::Global;
 
 /// The names of stages after a dot.

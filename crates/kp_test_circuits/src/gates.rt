@@ -8,10 +8,11 @@ use crate::nodes::operator;
 use crate::text::{small, value};
 use kp_bits::{BinOp, Bits};
 use kp_engine::{full_next, stall_of, update_of};
-use kp_net::{Kind, Node, NodeId, Operands, Pool};
+use kp_net::{Kind, Node, NodeId, Operands};
 use kp_net_gates::{
     binary, bit, both, choose, complement, constant, either, inverse, join, part, pick, same,
 };
+use kp_pool::Pool;
 use std::alloc::Global;
 
 /// A line `NAME = ..`, and the names that were given before it.

@@ -32,7 +32,8 @@ mod run;
 mod text;
 
 use circuit::Circuit;
-use kp_net::{NodeId, Pool};
+use kp_net::NodeId;
+use kp_pool::Pool;
 use nodes::{add_depths, print_kind};
 use run::print_run;
 use std::alloc::Global;

@@ -11,7 +11,8 @@ use crate::text::value;
 use kp_base::Row;
 use kp_bits::Bits;
 use kp_cycle::Sim;
-use kp_net::{Netlist, Parts, Pool};
+use kp_net::{Netlist, Parts};
+use kp_pool::Pool;
 use std::alloc::Global;
 use std::io;
 
@@ -44,7 +45,7 @@ fn closed(pool: Pool, parts: Parts) -> Option<Netlist>
     ensures { IfSome result (λ net. ShowsRows net) }
 {
     if runs(&pool, &parts) {
-        Some(Netlist::close(pool, parts))
+        Some(pool.close(parts))
     } else {
         drop(pool);
         drop(parts);

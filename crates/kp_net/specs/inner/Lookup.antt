@@ -1,12 +1,7 @@
 -- Which nodes a lookup has searched.
-use Rattle.std.specs.Prelude.{ℕ, ◌<◌, ◌≤◌, ◌≡◌, List, length, get_or}
+use Rattle.std.specs.Prelude.{ℕ, ◌<◌, ◌≡◌, List, get_or}
 use Rattle.kp_net.specs.{declared.node.Node.Node, Widths.no_node}
 
 -- none of the first m nodes is this one
 abbrev pub LacksBelow : List Node → Node → ℕ → Type 0
 LacksBelow ns n m = (i : ℕ) → i < m → get_or ns i no_node ≡ n → ⊥
-
--- the first nodes of the list ns are these
-pub record IsFront (front ns : List Node) : Type 0 where
-  pub shorter : length front ≤ length ns
-  pub same : (i : ℕ) → i < length front → get_or front i no_node ≡ get_or ns i no_node

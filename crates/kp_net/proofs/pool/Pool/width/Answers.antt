@@ -1,7 +1,0 @@
-use Rattle.std.proofs.Common.{ap}
-use Rattle.kp_net.specs.{declared.node.Node.Node, Widths.wide}
-use Rattle.kp_net.proofs.pool.Pool.width.Goals as goal
-
-pub returns-clause-width : goal.returns-clause-width
-unfolding wide
-returns-clause-width c = ap (λ (n : Node). n.width) c.at.ensures.node

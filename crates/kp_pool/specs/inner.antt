@@ -1,0 +1,3 @@
+-- Definitions for private contracts and proofs of this crate only: no public clause depends on them.
+pub mod Folds
+pub mod Front
