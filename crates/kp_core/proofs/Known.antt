@@ -4,7 +4,7 @@ use Rattle.std.specs.declared.{option.Option.Option, result.Result.Result}
 use Rattle.kp_base.specs.declared.refusal.Refusal.{Refusal}
 use Rattle.kp_ast.specs.declared.tree.Job.{Job}
 use Rattle.kp_frontend.specs.Judging.{JudgesHead, JudgesHead.head_over, JudgesHead.head_within}
-use Rattle.kp_core_words.specs.Words.{Asked, bad_words, help, version, write, reads_input}
+use Rattle.kp_core_words.specs.Words.{Asked, write, reads_input}
 use Rattle.kp_core.specs.Due.{DueFor, IsDue, IsWhole, Prints}
 
 -- a verdict on the bytes that were read is the verdict on all bytes
@@ -23,9 +23,6 @@ ends_or_long taken rest (inr count) = inr count
 
 due_all : (asked : Asked) (taken rest : List ℕ) (status : ℕ) (text : List ℕ) → IsWhole (reads_input asked) taken (Some rest) → DueFor asked taken status text
     → DueFor asked (taken ++ rest) status text
-due_all bad_words taken rest status text whole due = due
-due_all help taken rest status text whole due = due
-due_all version taken rest status text whole due = due
 due_all (write form file) taken rest status text whole (Ok (job, at), judged, due) = go (ends_or_long taken rest whole)
   where
     go : ((rest ≡ []) ⊎ (length taken ≡ 16777217)) → DueFor (write form file) (taken ++ rest) status text
@@ -34,6 +31,7 @@ due_all (write form file) taken rest status text whole (Ok (job, at), judged, du
         subst (λ (bytes : List ℕ). DueFor (write form file) bytes status text) (sym all) (Ok (job, at), judged, due)
     go (inr count) = absurd (never_long taken job at count judged)
 due_all (write form file) taken rest status text whole (Err refusal, judged, due) = (Err refusal, judges_all taken rest (ends_or_long taken rest whole) judged, due)
+due_all _ taken rest status text whole due = due
 
 for_all_bytes : (asked : Asked) (left left_after : Option (List ℕ)) (status : ℕ) (text : List ℕ) → IsDue asked left left_after status text
     → IfSome left (λ input. DueFor asked input status text)

@@ -1,6 +1,6 @@
 -- What the ports show, by the statements on the netlist.
 use Rattle.std.proofs.Common.{◌≡◌, ◌∙◌, ℕ, zero, suc, ◌^◌, ◌+◌, ◌-◌, ◌<◌, ◌≤◌, zero-add, Bool, true, false, cond, ◌&&◌, List, [], ◌∷◌, length, get_or, refl, sym, ap, subst, arith}
-use Rattle.std.{proofs.lemmas.Bool.cond-false, proofs.lemmas.List.get_or-map, proofs.lemmas.List.length-map, specs.Prelude.nat_le}
+use Rattle.std.{proofs.lemmas.Bool.and_parts, proofs.lemmas.Bool.cond-false, proofs.lemmas.Nat.pow_pos, proofs.Math.Bool.and-false, proofs.lemmas.List.get_or-map, proofs.lemmas.List.length-map, specs.Prelude.nat_le}
 use Rattle.kp_ast.specs.declared.tree.Job.{Job}
 use Rattle.kp_pipeline.specs.{Accepted.Accepted, Pipeline.PipelineState, RightPath.HasRightGuesses}
 use Rattle.kp_pipeline.specs.Rows.{Row, passed, one_if, bit, bits, counts, pipe, taken}
@@ -30,10 +30,6 @@ rows_are : (net : Net) (st : State) (ins : List Input) → length (rows_from net
 rows_are net st [] = refl
 rows_are net st (i ∷ ins) = ap suc (rows_are net (state_after net i st) ins)
 
-positive : (n : ℕ) → 0 < 2 ^ n
-positive zero = omega arith
-positive (suc n) = let h = positive n in omega (arith, h)
-
 module _ (job : Job) (net : Net) (s : State) (v : ℕ → ℕ → ℕ) (ins : List Input) (legal : IsLegalFrom job v (inputs_seen job ins) (trace_from job net s ins)) where
   word_is : (T t a : ℕ) → T ≤ length ins → HasWord job t a
       → value_of net (state_in net s ins T) (target_at job t) a ≡ value_from job v (inputs_seen job ins) (trace_from job net s ins).rows T t a
@@ -44,17 +40,13 @@ module _ (job : Job) (net : Net) (s : State) (v : ℕ → ℕ → ℕ) (ins : Li
 
   pub shown : (i : Input) (T t b : ℕ) → T ≤ length ins → Exists job (Show t)
       → port_value job net i (state_in net s ins T) b (Show t) ≡ value_from job v (inputs_seen job ins) (trace_from job net s ins).rows T t 0
-  shown i T t b h exists = word_is T t 0 h (record { target = exists.0; address = positive (target_at job t).address })
+  shown i T t b h exists = word_is T t 0 h (record { target = exists.0; address = pow_pos (target_at job t).address })
 
   pub peeked : (i : Input) (T t a : ℕ) → T ≤ length ins → Exists job (Peek t) → a < 2 ^ (target_at job t).address
       → port_value job net i (state_in net s ins T) a (Peek t) ≡ value_from job v (inputs_seen job ins) (trace_from job net s ins).rows T t a
   peeked i T t a h exists small = word_is T t a h (record { target = exists.0; address = small })
 
 -- ---- the registers of pipes
-
-right_of : (a b : Bool) → (a && b) ≡ true → b ≡ true
-right_of true b h = h
-right_of false b h = absurd (cc h)
 
 module _ (net : Net) (job : Job) (shows : Shows net job) (names : Unbroken (widths_of job)) (carries : Carries net job) (s : State) (v : ℕ → ℕ → ℕ) (ins : List Input) (b : Begins net job s v) (quiet : AreQuiet ins) where
   held_along : HoldsFrom net job s v ins
@@ -64,7 +56,7 @@ module _ (net : Net) (job : Job) (shows : Shows net job) (names : Unbroken (widt
       → port_value job net i (state_in net s ins T) a (Probe x k) ≡ ((moment_in job v (inputs_seen job ins) T).state.stage k).instruction.pipes x
   probed i T x k a h (few, piped, after, before) =
       let st : PipelineState = (moment_in job v (inputs_seen job ins) T).state in
-      let alive : is_alive job x k ≡ true = right_of (nat_le (put_after (pipe_at job x).name 0 job.blocks) k) (is_alive job x k) piped in
+      let alive : is_alive job x k ≡ true = (and_parts (nat_le (put_after (pipe_at job x).name 0 job.blocks) k) (is_alive job x k) piped).1 in
       (held_along.holds T i h).pipes x k few piped after before ∙ ap (λ (c : Bool). cond c ((st.stage k).instruction.pipes x) 0) alive
 
   module _ (anew : BeginsAnew net job) (acc : Accepted (machine_of job)) where
@@ -107,10 +99,6 @@ module _ (net : Net) (job : Job) (shows : Shows net job) (names : Unbroken (widt
 none_quiet : AreQuiet []
 none_quiet k d l = absurd (omega (arith, l))
 
-and_false : (a b : Bool) → b ≡ false → (a && b) ≡ false
-and_false true b h = h
-and_false false b h = refl
-
 pub taken_next : (job : Job) (net : Net) (i : Input) (st : State) (x k b : ℕ) → Carries net job → i.reset ≡ false → Exists job (Next x k)
     → port_value job net i st b (Next x k) ≡ get_or (state_after net i st).regs (place_of job (Pipe x k)) 0
 taken_next job net i st x k b carries off has =
@@ -120,7 +108,7 @@ taken_next job net i st x k b carries off has =
     get_or-map f net.parts.regs (place_of job (Pipe x k)) no_reg 0 within in
     let begun : State = record { regs = start_regs net; files = st.files } in
     let next : State = record { regs = regs_after net (cells_of i st); files = files_after net (cells_of i st) st.files } in
-    let moves : state_after net i st ≡ next = cond-false (net.parts.reset && i.reset) begun next (and_false net.parts.reset i.reset off) in
+    let moves : state_after net i st ≡ next = cond-false (net.parts.reset && i.reset) begun next (ap (λ (b : Bool). net.parts.reset && b) off ∙ and-false net.parts.reset) in
     sym (ap (λ (s : State). get_or s.regs (place_of job (Pipe x k)) 0) moves ∙ same)
 
 -- ---- what leaves the last stage

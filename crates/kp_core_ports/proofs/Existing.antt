@@ -1,8 +1,8 @@
 -- What a port shows or takes exists.
-use Rattle.std.proofs.Common.{◌≡◌, ℕ, suc, ◌+◌, ◌<◌, ◌≤◌, Bool, true, false, cond, ◌&&◌, ◌==◌, not, List, [], ◌∷◌, length, get_or, Option, Some, None, Result, Ok, Err, refl, sym, ap, subst, ◌∙◌, arith}
+use Rattle.std.proofs.Common.{◌≡◌, ℕ, suc, ◌+◌, ◌<◌, ◌≤◌, Bool, true, false, cond, ◌&&◌, ◌==◌, List, [], ◌∷◌, length, get_or, Option, Some, None, Result, Ok, Err, refl, sym, ap, subst, ◌∙◌, arith}
 use Rattle.std.{proofs.lemmas.Bool.and_parts, proofs.lemmas.Bool.not-true, specs.Prelude.IfOk, specs.Prelude.IfSome, specs.Str.bytes_eq}
 use Rattle.kp_ast.specs.declared.tree.{Decl.Decl, Job.Job}
-use Rattle.kp_machine.specs.Slots.{Slot, targets_of, pipes_of, is_register}
+use Rattle.kp_machine.specs.Slots.{Slot, targets_of, pipes_of}
 use Rattle.kp_synth_tables.specs.Keys.{HasKey, no_slot, target_at}
 use Rattle.kp_synth_tables.specs.declared.key.Key.TheVariants as keys
 use Rattle.kp_core_ports.specs.Ports.{asks_register, is_of, target_from, pipe_from, target_ask, pipe_ask, Exists}
@@ -24,38 +24,29 @@ pub record FoundAt (register : Bool) (n t : ℕ) (ss : List Slot) : Type 0 where
   pub there : index < length ss
   pub kind : is_of register (get_or ss index no_slot).address ≡ true
 
-target_at_first : (register : Bool) (n t : ℕ) (s : Slot) (ss : List Slot) → is_of register s.address ≡ true → n ≡ t → FoundAt register n t (s ∷ ss)
-target_at_first register n t s ss kind is = record { index = 0; number = omega (arith, is); there = omega arith; kind = kind }
-
-target_behind : (register : Bool) (n t : ℕ) (s : Slot) (ss : List Slot) → FoundAt register (n + 1) t ss → FoundAt register n t (s ∷ ss)
-target_behind register n t s ss f = let a = f.number in let b = f.there in record { index = suc f.index; number = omega (arith, a); there = omega (arith, b); kind = f.kind }
-
 target_found : (register : Bool) (n t : ℕ) (ss : List Slot) (name : List ℕ) → target_from register n ss name ≡ Some t → FoundAt register n t ss
 target_found register n t [] name e = absurd (cc e)
 target_found register n t (s ∷ ss) name e =
     let b : Bool = bytes_eq s.name name && is_of register s.address in
     let rest : Option ℕ = target_from register (n + 1) ss name in
     either b
-    (λ on. target_at_first register n t s ss (and_parts (bytes_eq s.name name) (is_of register s.address) on).1
-    (some_is n t (ap (λ (c : Bool). cond c (Some n) rest) (sym on) ∙ e)))
-    (λ off. target_behind register n t s ss (target_found register (n + 1) t ss name (ap (λ (c : Bool). cond c (Some n) rest) (sym off) ∙ e)))
+    (λ on. let is = some_is n t (ap (λ (c : Bool). cond c (Some n) rest) (sym on) ∙ e) in
+    record { index = 0; number = omega (arith, is); there = omega arith; kind = (and_parts (bytes_eq s.name name) (is_of register s.address) on).1 })
+    (λ off. let f = target_found register (n + 1) t ss name (ap (λ (c : Bool). cond c (Some n) rest) (sym off) ∙ e) in let a = f.number in let b = f.there in
+    record { index = suc f.index; number = omega (arith, a); there = omega (arith, b); kind = f.kind })
 
-file_exists : (job : Job) (name : List ℕ) (t : ℕ) → target_from false 0 (targets_of job.decls) name ≡ Some t
-    → (t < length (targets_of job.decls)) × (is_register (target_at job t) ≡ false)
-file_exists job name t e =
-    let f = target_found false 0 t (targets_of job.decls) name e in
-    let same : t ≡ f.index = let a = f.number in omega (arith, a) in
-    subst (λ (u : ℕ). (u < length (targets_of job.decls)) × (is_register (target_at job u) ≡ false)) (sym same)
-    (f.there, not-true ((get_or (targets_of job.decls) f.index no_slot).address == 0) f.kind)
+found_exists : (job : Job) (register : Bool) (name : List ℕ) (t : ℕ) → target_from register 0 (targets_of job.decls) name ≡ Some t
+    → (t < length (targets_of job.decls)) × (is_of register (target_at job t).address ≡ true)
+found_exists job register name t e =
+    let f = target_found register 0 t (targets_of job.decls) name e in
+    let same : f.index ≡ t = let a = f.number in omega (arith, a) in
+    subst (λ (u : ℕ). (u < length (targets_of job.decls)) × (is_of register (target_at job u).address ≡ true)) same (f.there, f.kind)
 
 pub target_exists : (job : Job) (verb : TargetVerb) (name : List ℕ) (t : ℕ) → target_from (asks_register verb) 0 (targets_of job.decls) name ≡ Some t
     → Exists job (target_ask verb t)
-target_exists job targets.Show name t e =
-    let f = target_found true 0 t (targets_of job.decls) name e in
-    let same : t ≡ f.index = let a = f.number in omega (arith, a) in
-    subst (λ (u : ℕ). (u < length (targets_of job.decls)) × (is_register (target_at job u) ≡ true)) (sym same) (f.there, f.kind)
-target_exists job targets.Peek name t e = file_exists job name t e
-target_exists job targets.Load name t e = file_exists job name t e
+target_exists job targets.Show name t e = found_exists job true name t e
+target_exists job targets.Peek name t e = let p = found_exists job false name t e in (p.0, not-true ((target_at job t).address == 0) p.1)
+target_exists job targets.Load name t e = let p = found_exists job false name t e in (p.0, not-true ((target_at job t).address == 0) p.1)
 
 -- what a line asks for, whose target is found
 pub named_exists : (job : Job) (verb : TargetVerb) (register : Bool) (ds : List Decl) (name : List ℕ) (target : Option ℕ) (result : Result Port PortsRefused)

@@ -1,13 +1,12 @@
 -- What is recorded depends only on the words that exist in the job.
-use Rattle.std.proofs.Common.{◌≡◌, ◌∙◌, ℕ, zero, suc, ◌+◌, ◌<◌, ◌≤◌, ◌^◌, List, [], ◌∷◌, ◌++◌, length, get_or, drop, refl, ap, ap₂, sym, subst, arith, None}
-use Rattle.std.proofs.lemmas.List.{drop-drop}
+use Rattle.std.proofs.Common.{◌≡◌, ℕ, zero, suc, ◌+◌, ◌<◌, ◌≤◌, ◌^◌, List, [], ◌∷◌, ◌++◌, drop, refl, ap, ap₂, arith, None}
 use Rattle.kp_bits.specs.Word.{word}
 use Rattle.kp_ast.specs.declared.tree.{Decl.Decl, Job.Job}
 use Rattle.kp_ast.specs.declared.tree.Decl.TheVariants as decls
 use Rattle.kp_debug_report.specs.Inspecting.{at_line}
-use Rattle.kp_machine.specs.Slots.{Slot, targets_of}
-use Rattle.kp_seq.specs.Running.{HasWord, no_slot}
+use Rattle.kp_machine.specs.Slots.{targets_of}
 use Rattle.kp_tool_report.specs.{States.State, Texts.register_line}
+use Rattle.kp_tool_report.proofs.{Alike.Agree, Alike.word_is, Lines.past_one, Lines.past_none}
 use Rattle.kp_page.specs.States.{change_line, changes_of_words, change_lines, earlier, recorded_in, recorded_from, recorded}
 
 words_alike : (name : List ℕ) (width : ℕ) (o p f g : ℕ → ℕ) (address n : ℕ) → ((a : ℕ) → a < address + n → o a ≡ p a) → ((a : ℕ) → a < address + n → f a ≡ g a)
@@ -19,44 +18,20 @@ words_alike name width o p f g address (suc n) k h =
     (ap₂ (change_line name width address) (k address (omega arith)) (h address (omega arith)))
     (words_alike name width o p f g (address + 1) n (λ a l. k a (omega (arith, l))) (λ a l. h a (omega (arith, l))))
 
-there : (ss : List Slot) (t a : ℕ) (s : Slot) (more : List Slot) → drop t ss ≡ s ∷ more → a < 2 ^ s.address → (t < length ss) × (a < 2 ^ (get_or ss t no_slot).address)
-there [] zero a s more e h = cc
-there [] (suc t) a s more e h = cc
-there (x ∷ ss) zero a s more e h =
-    let same : s ≡ x = cc in (omega arith, subst (λ (y : Slot). a < 2 ^ y.address) same h)
-there (x ∷ ss) (suc t) a s more e h = let p = there ss t a s more e h in (omega (arith, p.0), p.1)
-
 module _ (job : Job) where
-  -- two states agree in all words of the job
-  abbrev pub Agree : State → State → Type 0
-  Agree s u = (t a : ℕ) → HasWord job t a → s t a ≡ u t a
-
-  word_is : (s u : State) → Agree s u → (t a : ℕ) (x : Slot) (more : List Slot) → drop t (targets_of job.decls) ≡ x ∷ more → a < 2 ^ x.address → s t a ≡ u t a
-  word_is s u same t a x more e h = let p = there (targets_of job.decls) t a x more e h in same t a (record { target = p.0; address = p.1 })
-
-  next : (t : ℕ) (x : Slot) (more : List Slot) → drop t (targets_of job.decls) ≡ x ∷ more → drop (t + 1) (targets_of job.decls) ≡ more
-  next t x more e = sym (drop-drop 1 t (targets_of job.decls)) ∙ ap (drop 1) e
-
-  stays : (t : ℕ) (more : List Slot) → drop t (targets_of job.decls) ≡ more → drop (t + 0) (targets_of job.decls) ≡ more
-  stays t more e = let none : t + 0 ≡ t = omega arith in ap (λ (k : ℕ). drop k (targets_of job.decls)) none ∙ e
-
-  module _ (o p s u : State) (old : Agree o p) (same : Agree s u) where
+  module _ (o p s u : State) (old : Agree job o p) (same : Agree job s u) where
     from : (t : ℕ) (ds : List Decl) → drop t (targets_of job.decls) ≡ targets_of ds → change_lines t o s ds ≡ change_lines t p u ds
     from t [] e = refl
     from t (decls.Reg n width start ∷ ds) e =
-        ap₂ (λ (v : ℕ) (rest : List ℕ). register_line n.name (word width.value v) None ++ rest) (word_is s u same t 0 _ _ e (omega arith)) (from (t + 1) ds (next t _ _ e))
+        ap₂ (λ (v : ℕ) (rest : List ℕ). register_line n.name (word width.value v) None ++ rest) (word_is job s u same t 0 _ _ e (omega arith)) (from (t + 1) ds (past_one (targets_of job.decls) t _ _ e))
     from t (decls.File n width address ∷ ds) e =
         ap₂ (λ (x y : List ℕ). x ++ y)
-        (words_alike n.name width.value (o t) (p t) (s t) (u t) 0 (2 ^ address.value) (λ a h. word_is o p old t a _ _ e (omega (arith, h))) (λ a h. word_is s u same t a _ _ e (omega (arith, h))))
-        (from (t + 1) ds (next t _ _ e))
-    from t (decls.Pipe n width ∷ ds) e = from (t + 0) ds (stays t _ e)
-    from t (decls.Sample n width stage ∷ ds) e = from (t + 0) ds (stays t _ e)
-    from t (decls.Hint n width start ∷ ds) e = from (t + 0) ds (stays t _ e)
-    from t (decls.Target r ∷ ds) e = from (t + 0) ds (stays t _ e)
-    from t (decls.Func f ∷ ds) e = from (t + 0) ds (stays t _ e)
+        (words_alike n.name width.value (o t) (p t) (s t) (u t) 0 (2 ^ address.value) (λ a h. word_is job o p old t a _ _ e (omega (arith, h))) (λ a h. word_is job s u same t a _ _ e (omega (arith, h))))
+        (from (t + 1) ds (past_one (targets_of job.decls) t _ _ e))
+    from t (_ ∷ ds) e = from (t + 0) ds (past_none (targets_of job.decls) t _ e)
 
-  module _ (v w : ℕ → State) (n : ℕ) (same : (T : ℕ) → T ≤ n → Agree (v T) (w T)) where
-    earlier_same : (T : ℕ) → T ≤ n → Agree (earlier v T) (earlier w T)
+  module _ (v w : ℕ → State) (n : ℕ) (same : (T : ℕ) → T ≤ n → Agree job (v T) (w T)) where
+    earlier_same : (T : ℕ) → T ≤ n → Agree job (earlier v T) (earlier w T)
     earlier_same zero h t a word = refl
     earlier_same (suc T) h t a word = same T (omega (arith, h)) t a word
 

@@ -15,7 +15,7 @@ use kp_base::{Sink, SinkFault, write_pieces};
 use kp_bits::Bits;
 use kp_cycle::Sim;
 use kp_frontend::Accepted;
-use kp_run::step;
+use kp_run::next_cycle;
 
 /// Writes the states of `count` cycles, and the state after the last one. Both simulators are in the start state; the first of them is one cycle behind the other.
 /// `room` is a buffer for the sample values, with one entry for each sample.
@@ -75,24 +75,11 @@ fn write_later<K: Sink>(
     ensures cause { HasCause (K.faults sink.old) (K.faults sink.new) result }
 {
     for cycle in 0..count {
-        pass(now, room, job, cycle);
+        next_cycle(now, job, room, cycle);
         write_cycle(false, before, now, job, cycle + 1, sink)?;
-        pass(before, room, job, cycle);
+        next_cycle(before, job, room, cycle);
     }
     Ok(())
-}
-
-// Runs one cycle.
-fn pass(sim: &mut Sim<'_>, room: &mut [Bits], job: &Accepted, cycle: u32)
-    requires shows { Shows sim.old.net job.now.design.job }
-    requires sim { sim.old ≡ after_cycles job.now.design.job sim.old.net cycle }
-    requires room { length room.old ≡ length job.now.sections.inputs }
-    ensures sim { sim.new ≡ after_cycles job.now.design.job sim.old.net (cycle + 1) }
-    ensures room { length room.new ≡ length job.now.sections.inputs }
-{
-    // The invariant of the type, for the proof only.
-    let _kept = job.design.job();
-    step(sim, &job.sections, room, u64::from(cycle));
 }
 
 // The number of a cycle, and what changed in it.

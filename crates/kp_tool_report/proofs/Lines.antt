@@ -1,6 +1,6 @@
 -- The steps of the loops that write a state.
 use Rattle.std.proofs.Common.{◌≡◌, ◌∙◌, ℕ, zero, suc, ◌+◌, ◌-◌, ◌<◌, ◌≤◌, List, [], ◌∷◌, ◌++◌, length, get_or, drop, ap, sym, subst, arith}
-use Rattle.std.{proofs.lemmas.List.drop_more, proofs.lemmas.List.drop_all, proofs.lemmas.List.drop-drop, specs.declared.option.Option.Option, specs.List.All}
+use Rattle.std.{proofs.lemmas.List.drop_more, proofs.lemmas.List.drop-drop, specs.declared.option.Option.Option, specs.List.All}
 use Rattle.kp_base.specs.inner.Bytes.{WrittenUpTo}
 use Rattle.kp_ast.specs.declared.tree.{Decl.Decl, Job.Job}
 use Rattle.kp_ast.specs.declared.tree.Decl.TheVariants as decls
@@ -22,11 +22,17 @@ module _ (name : List ℕ) (width : ℕ) (behind : Option ℕ) (values : ℕ →
   unfolding lines_of_words
   words_end h = let none : count - address ≡ 0 = omega arith in ap (lines_of_words name width behind values address) none
 
-slot_at : (ss : List Slot) (t : ℕ) (s : Slot) (more : List Slot) → drop t ss ≡ s ∷ more → (t < length ss) × (get_or ss t no_slot ≡ s)
+pub slot_at : (ss : List Slot) (t : ℕ) (s : Slot) (more : List Slot) → drop t ss ≡ s ∷ more → (t < length ss) × (get_or ss t no_slot ≡ s)
 slot_at [] zero s more e = cc
 slot_at [] (suc t) s more e = cc
 slot_at (x ∷ ss) zero s more e = (omega arith, cc)
 slot_at (x ∷ ss) (suc t) s more e = let h = slot_at ss t s more e in (omega (arith, h.0), h.1)
+
+pub past_one : (ss : List Slot) (t : ℕ) (s : Slot) (more : List Slot) → drop t ss ≡ s ∷ more → drop (t + 1) ss ≡ more
+past_one ss t s more e = sym (drop-drop 1 t ss) ∙ ap (drop 1) e
+
+pub past_none : (ss : List Slot) (t : ℕ) (more : List Slot) → drop t ss ≡ more → drop (t + 0) ss ≡ more
+past_none ss t more e = let same : t + 0 ≡ t = omega arith in ap (λ (k : ℕ). drop k ss) same ∙ e
 
 module _ (ds : List Decl) (i : ℕ) (x : Decl) (h : i < length ds) (is : x ≡ get_or ds i x) where
   at : drop i ds ≡ x ∷ drop (i + 1) ds
@@ -46,30 +52,16 @@ module _ (ds : List Decl) (i : ℕ) (x : Decl) (h : i < length ds) (is : x ≡ g
   stands_by : (job : Job) (t : ℕ) (d : Decl) → targets_of ds ≡ targets_of job.decls → IsSmall d → drop t (targets_of ds) ≡ targets_of (d ∷ drop (i + 1) ds) → StandsAt job t d
   stands_by job t (decls.Reg n width start) same small e = target_at job t _ _ same e
   stands_by job t (decls.File n width address) same small e = (target_at job t _ _ same e, small)
-  stands_by job t (decls.Pipe n width) same small e = tt
-  stands_by job t (decls.Sample n width stage) same small e = tt
-  stands_by job t (decls.Hint n width start) same small e = tt
-  stands_by job t (decls.Target r) same small e = tt
-  stands_by job t (decls.Func f) same small e = tt
+  stands_by job t _ same small e = tt
 
   -- a register or file of the list is the target whose number has been counted so far
   pub stands : (job : Job) (t : ℕ) → targets_of ds ≡ targets_of job.decls → All IsSmall ds → drop t (targets_of ds) ≡ targets_of (drop i ds) → StandsAt job t x
   stands job t same all e = stands_by job t x same (small_at all) (e ∙ ap targets_of at)
 
-  past_one : (t : ℕ) (s : Slot) (more : List Slot) → drop t (targets_of ds) ≡ s ∷ more → drop (t + 1) (targets_of ds) ≡ more
-  past_one t s more e = sym (drop-drop 1 t (targets_of ds)) ∙ ap (drop 1) e
-
-  past_none : (t : ℕ) (more : List Slot) → drop t (targets_of ds) ≡ more → drop (t + 0) (targets_of ds) ≡ more
-  past_none t more e = let same : t + 0 ≡ t = omega arith in ap (λ (k : ℕ). drop k (targets_of ds)) same ∙ e
-
   past_by : (t : ℕ) (d : Decl) → drop t (targets_of ds) ≡ targets_of (d ∷ drop (i + 1) ds) → drop (t + targets_in d) (targets_of ds) ≡ targets_of (drop (i + 1) ds)
-  past_by t (decls.Reg n width start) e = past_one t _ _ e
-  past_by t (decls.File n width address) e = past_one t _ _ e
-  past_by t (decls.Pipe n width) e = past_none t _ e
-  past_by t (decls.Sample n width stage) e = past_none t _ e
-  past_by t (decls.Hint n width start) e = past_none t _ e
-  past_by t (decls.Target r) e = past_none t _ e
-  past_by t (decls.Func f) e = past_none t _ e
+  past_by t (decls.Reg n width start) e = past_one (targets_of ds) t _ _ e
+  past_by t (decls.File n width address) e = past_one (targets_of ds) t _ _ e
+  past_by t _ e = past_none (targets_of ds) t _ e
 
   -- and then the next one
   pub past : (t : ℕ) → drop t (targets_of ds) ≡ targets_of (drop i ds) → drop (t + targets_in x) (targets_of ds) ≡ targets_of (drop (i + 1) ds)
@@ -77,9 +69,4 @@ module _ (ds : List Decl) (i : ℕ) (x : Decl) (h : i < length ds) (is : x ≡ g
 
 pub at_most_one : (d : Decl) → targets_in d ≤ 1
 at_most_one (decls.Reg n width start) = omega arith
-at_most_one (decls.File n width address) = omega arith
-at_most_one (decls.Pipe n width) = omega arith
-at_most_one (decls.Sample n width stage) = omega arith
-at_most_one (decls.Hint n width start) = omega arith
-at_most_one (decls.Target r) = omega arith
-at_most_one (decls.Func f) = omega arith
+at_most_one _ = omega arith

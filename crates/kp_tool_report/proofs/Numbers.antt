@@ -22,11 +22,7 @@ none_less ss n k = let same : n ≡ n - 0 = omega arith in (omega (arith, k), ap
 behind : (d : Decl) (rest : List Decl) (n : ℕ) → targets_in d ≤ n → n < length (targets_of (d ∷ rest)) → IsBehind d rest n
 behind (decls.Reg n width start) rest m h k = one_less _ (targets_of rest) m h k
 behind (decls.File n width address) rest m h k = one_less _ (targets_of rest) m h k
-behind (decls.Pipe n width) rest m h k = none_less (targets_of rest) m k
-behind (decls.Sample n width stage) rest m h k = none_less (targets_of rest) m k
-behind (decls.Hint n width start) rest m h k = none_less (targets_of rest) m k
-behind (decls.Target r) rest m h k = none_less (targets_of rest) m k
-behind (decls.Func f) rest m h k = none_less (targets_of rest) m k
+behind _ rest m h k = none_less (targets_of rest) m k
 
 -- and a target with a lower number is the one that d declares
 abbrev IsThere : Decl → List Decl → ℕ → Type 0
@@ -39,11 +35,7 @@ first_of s ss (suc n) h = absurd (omega (arith, h))
 there : (d : Decl) (rest : List Decl) (n : ℕ) → n < targets_in d → IsThere d rest n
 there (decls.Reg n width start) rest m h = (refl, first_of _ (targets_of rest) m h)
 there (decls.File n width address) rest m h = (refl, first_of _ (targets_of rest) m h)
-there (decls.Pipe n width) rest m h = absurd (omega (arith, h))
-there (decls.Sample n width stage) rest m h = absurd (omega (arith, h))
-there (decls.Hint n width start) rest m h = absurd (omega (arith, h))
-there (decls.Target r) rest m h = absurd (omega (arith, h))
-there (decls.Func f) rest m h = absurd (omega (arith, h))
+there _ rest m h = absurd (omega (arith, h))
 
 module _ (ds : List Decl) (i : ℕ) (x : Decl) (h : i < length ds) (is : x ≡ get_or ds i x) (n : ℕ) where
   at : drop i ds ≡ x ∷ drop (i + 1) ds

@@ -1,6 +1,6 @@
 -- A run of a netlist, compared with the sequential machine, has exactly one outcome.
-use Rattle.std.proofs.Common.{◌≡◌, ◌≢◌, ◌==◌, ◌∙◌, ℕ, zero, suc, ◌<◌, ◌≤◌, ◌^◌, ◌⊎◌, List, length, Bool, true, false, inl, inr, refl, sym, subst, arith}
-use Rattle.std.proofs.lemmas.Bool.{cases_lt, eqb-true, eq-eqb}
+use Rattle.std.proofs.Common.{◌≡◌, ◌≢◌, ◌∙◌, ℕ, zero, suc, ◌<◌, ◌≤◌, ◌^◌, ◌⊎◌, List, length, inl, inr, refl, sym, subst, arith}
+use Rattle.std.proofs.lemmas.Bool.{cases_lt, cases_eq}
 use Rattle.kp_machine.specs.Slots.{targets_of}
 use Rattle.kp_seq.specs.Running.{HasWord, target}
 use Rattle.kp_ast.specs.declared.tree.Job.{Job}
@@ -26,12 +26,9 @@ first_bad Good Bad test (suc n) = elim (first_bad Good Bad test n) [
   ]
 ]
 
-equal_or_not : (x y : ℕ) → (x ≡ y) ⊎ (x ≢ y)
-equal_or_not x y = go (x == y) refl
-  where
-    go : (b : Bool) → (x == y) ≡ b → (x ≡ y) ⊎ (x ≢ y)
-    go true e = inl (eqb-true x y e)
-    go false e = inr (λ same. cc (eq-eqb x y same, e))
+-- two numbers of which neither is the lower are equal
+only : (x y : ℕ) → (x < y → ⊥) → (y < x → ⊥) → x ≡ y
+only x y f g = omega (arith, f, g)
 
 module _ (job : Job) (net : Net) (n : ℕ) where
   own_many : length (own_trace job net n).rows ≡ n
@@ -44,52 +41,14 @@ module _ (job : Job) (net : Net) (n : ℕ) where
       let within = d.within in
       d.differs (all T t a (let e : T ≤ length (own_trace job net n).rows = omega (arith, own_many, within) in e) d.there)
 
-  -- two first differences are in the same cycle,
-  no_earlier : (T t a U s b : ℕ) → IsFirstDifference job net n T t a → IsFirstDifference job net n U s b → T < U → ⊥
-  no_earlier T t a U s b d e h = d.differs (e.cycles_before T t a h d.there)
-
-  one_cycle : (T t a U s b : ℕ) → IsFirstDifference job net n T t a → IsFirstDifference job net n U s b → T ≡ U
-  one_cycle T t a U s b d e = elim (cases_lt T U) [
-    | inl h ↦ absurd (no_earlier T t a U s b d e h)
-    | inr h ↦ elim (cases_lt U T) [
-      | inl k ↦ absurd (no_earlier U s b T t a e d k)
-      | inr k ↦ (let same : T ≡ U = omega (arith, h, k) in same)
-    ]
-  ]
-
-  -- at one target,
-  no_target_before : (T t a s b : ℕ) → IsFirstDifference job net n T t a → IsFirstDifference job net n T s b → t < s → ⊥
-  no_target_before T t a s b d e h = d.differs (e.words_before t a d.there (inl h))
-
-  one_target : (T t a s b : ℕ) → IsFirstDifference job net n T t a → IsFirstDifference job net n T s b → t ≡ s
-  one_target T t a s b d e = elim (cases_lt t s) [
-    | inl h ↦ absurd (no_target_before T t a s b d e h)
-    | inr h ↦ elim (cases_lt s t) [
-      | inl k ↦ absurd (no_target_before T s b t a e d k)
-      | inr k ↦ (let same : t ≡ s = omega (arith, h, k) in same)
-    ]
-  ]
-
-  -- and at one address.
-  no_address_before : (T t a b : ℕ) → IsFirstDifference job net n T t a → IsFirstDifference job net n T t b → a < b → ⊥
-  no_address_before T t a b d e h = d.differs (e.words_before t a d.there (inr (refl, h)))
-
-  one_address : (T t a b : ℕ) → IsFirstDifference job net n T t a → IsFirstDifference job net n T t b → a ≡ b
-  one_address T t a b d e = elim (cases_lt a b) [
-    | inl h ↦ absurd (no_address_before T t a b d e h)
-    | inr h ↦ elim (cases_lt b a) [
-      | inl k ↦ absurd (no_address_before T t b a e d k)
-      | inr k ↦ (let same : a ≡ b = omega (arith, h, k) in same)
-    ]
-  ]
-
+  -- two first differences are in the same cycle, at one target, and at one address
   pub one_difference : (T t a U s b : ℕ) → IsFirstDifference job net n T t a → IsFirstDifference job net n U s b → differing_text n job net T t a ≡ differing_text n job net U s b
   one_difference T t a U s b d e =
-      let when : U ≡ T = sym (one_cycle T t a U s b d e) in
+      let when : U ≡ T = only U T (λ h. e.differs (d.cycles_before U s b h e.there)) (λ h. d.differs (e.cycles_before T t a h d.there)) in
       let then = subst (λ (V : ℕ). IsFirstDifference job net n V s b) when e in
-      let which : s ≡ t = sym (one_target T t a s b d then) in
+      let which : s ≡ t = only s t (λ h. then.differs (d.words_before s b then.there (inl h))) (λ h. d.differs (then.words_before t a d.there (inl h))) in
       let there = subst (λ (u : ℕ). IsFirstDifference job net n T u b) which then in
-      let at : b ≡ a = sym (one_address T t a b d there) in
+      let at : b ≡ a = only b a (λ h. there.differs (d.words_before t b there.there (inr (refl, h)))) (λ h. d.differs (there.words_before t a d.there (inr (refl, h)))) in
       sym (λ i. differing_text n job net (when i) (which i) (at i))
 
   pub said_of_run : (s t : ℕ) (x y : List ℕ) → DueOfRun n job net s x → DueOfRun n job net t y → (s ≡ t) × (x ≡ y)
@@ -120,7 +79,7 @@ module _ (job : Job) (net : Net) (n : ℕ) where
   DiffersState T = (t : ℕ) × (t < length (targets_of job.decls)) × DiffersTarget T t × ((s : ℕ) → s < t → SameTarget T s)
 
   test_target : (T t : ℕ) → SameTarget T t ⊎ DiffersTarget T t
-  test_target T t = first_bad (Same T t) (Differs T t) (λ a. equal_or_not _ _) (2 ^ (target job t).address)
+  test_target T t = first_bad (Same T t) (Differs T t) (λ a. cases_eq _ _) (2 ^ (target job t).address)
 
   test_state : (T : ℕ) → SameState T ⊎ DiffersState T
   test_state T = first_bad (SameTarget T) (DiffersTarget T) (test_target T) (length (targets_of job.decls))

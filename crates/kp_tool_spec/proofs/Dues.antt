@@ -5,13 +5,13 @@ use Rattle.kp_tool_words.specs.declared.words.Command.TheVariants.{OnJob, Assemb
 use Rattle.kp_tool_words.specs.{declared.words.Command.Command, declared.words.JobCommand.JobCommand, Words.command_of, Words.reads_input}
 use Rattle.kp_base.specs.declared.refusal.Refusal.{Refusal}
 use Rattle.kp_ast.specs.declared.tree.Job.{Job}
-use Rattle.kp_frontend.specs.Judging.{Judges, JudgesText, JudgesHeadText, too_long, JudgesHead.head_over, JudgesHead.head_within, Judges.over, Judges.within}
+use Rattle.kp_frontend.specs.Judging.{Judges, JudgesText, JudgesHeadText, too_long, JudgesHead, JudgesHead.head_over, JudgesHead.head_within, Judges.over, Judges.within}
 use Rattle.kp_tool_report.specs.Texts.{refusal_line}
 use Rattle.kp_net.specs.Netlist.{Net}
 use Rattle.kp_vlog.specs.Canon.{canon}
 use Rattle.kp_tool_spec.specs.Due.{Completes, Due, DueFor, DueOfJob, DueOfProgram, program_of, IsDue, IsWhole}
-use Rattle.kp_tool_spec.specs.{Read.ReadsVerilog, Read.DueOfRead, Read.read_over, Read.read_within, Watched.DueOfWatch, Watched.DueOfText}
-use Rattle.kp_tool_spec.specs.{Compared.DueOfModules, Compared.DueOfCompare, Scripted.DueOfScript, Scripted.DueOfDebug}
+use Rattle.kp_tool_spec.specs.{Read.ReadsVerilog, Read.DueOfRead, Read.read_over, Read.read_within, Watched.DueOfHead, Watched.DueOfText}
+use Rattle.kp_tool_spec.specs.{Compared.DueOfModules, Compared.DueOfPairHead, Scripted.DueOfScript, Scripted.DueOfScriptHead}
 use Rattle.kp_debug_script.specs.Scripts.{script_of}
 use Rattle.kp_vread_split.specs.Splitting.{FirstEnds}
 
@@ -61,26 +61,14 @@ read_all taken rest status text (inl none) due =
 read_all taken rest status text (inr count) (read_over long said) = read_over (simp length-append (omega arith)) said
 read_all taken rest status text (inr count) (read_within verdict short read said) = absurd (omega arith)
 
--- and for a job followed by a Verilog text
-watch_all : (n : ℕ) (taken rest : List ℕ) (status : ℕ) (text : List ℕ) → ((rest ≡ []) ⊎ (length taken ≡ 16777217)) → DueOfWatch n taken status text → DueOfWatch n (taken ++ rest) status text
-watch_all n taken rest status text (inl none) due =
-    subst (λ (bytes : List ℕ). DueOfWatch n bytes status text) (sym (ap (λ (r : List ℕ). taken ++ r) none ∙ append-nil taken)) due
-watch_all n taken rest status text (inr count) (_, head_over long, said) = (Err too_long, head_over (simp length-append (omega arith)), said)
-watch_all n taken rest status text (inr count) (_, head_within short judged, said) = absurd (omega arith)
-
--- and for a job followed by two of them
-compare_all : (taken rest : List ℕ) (status : ℕ) (text : List ℕ) → ((rest ≡ []) ⊎ (length taken ≡ 16777217)) → DueOfCompare taken status text → DueOfCompare (taken ++ rest) status text
-compare_all taken rest status text (inl none) due =
-    subst (λ (bytes : List ℕ). DueOfCompare bytes status text) (sym (ap (λ (r : List ℕ). taken ++ r) none ∙ append-nil taken)) due
-compare_all taken rest status text (inr count) (_, head_over long, said) = (Err too_long, head_over (simp length-append (omega arith)), said)
-compare_all taken rest status text (inr count) (_, head_within short judged, said) = absurd (omega arith)
-
--- and for a job followed by a script
-debug_all : (taken rest : List ℕ) (status : ℕ) (text : List ℕ) → ((rest ≡ []) ⊎ (length taken ≡ 16777217)) → DueOfDebug taken status text → DueOfDebug (taken ++ rest) status text
-debug_all taken rest status text (inl none) due =
-    subst (λ (bytes : List ℕ). DueOfDebug bytes status text) (sym (ap (λ (r : List ℕ). taken ++ r) none ∙ append-nil taken)) due
-debug_all taken rest status text (inr count) (_, head_over long, said) = (Err too_long, head_over (simp length-append (omega arith)), said)
-debug_all taken rest status text (inr count) (_, head_within short judged, said) = absurd (omega arith)
+-- and for a job followed by a text, of which nothing is said where there are too many bytes
+head_all : (D : List ℕ → Result (Job × ℕ) Refusal → ℕ → List ℕ → Type 0) → ((a b : List ℕ) (status : ℕ) (text : List ℕ) → D a (Err too_long) status text → D b (Err too_long) status text)
+    → (taken rest : List ℕ) (status : ℕ) (text : List ℕ) → ((rest ≡ []) ⊎ (length taken ≡ 16777217)) → (v : Result (Job × ℕ) Refusal) × JudgesHead taken v × D taken v status text
+    → (v : Result (Job × ℕ) Refusal) × JudgesHead (taken ++ rest) v × D (taken ++ rest) v status text
+head_all D same taken rest status text (inl none) due =
+    subst (λ (bytes : List ℕ). (v : Result (Job × ℕ) Refusal) × JudgesHead bytes v × D bytes v status text) (sym (ap (λ (r : List ℕ). taken ++ r) none ∙ append-nil taken)) due
+head_all D same taken rest status text (inr count) (_, head_over long, said) = (Err too_long, head_over (simp length-append (omega arith)), same taken (taken ++ rest) status text said)
+head_all D same taken rest status text (inr count) (_, head_within short judged, said) = absurd (omega arith)
 
 -- the source is at its end, or it gave one byte more than fit
 end_or_over : (taken rest : List ℕ) → IsWhole true taken (Some rest) → (rest ≡ []) ⊎ (length taken ≡ 16777217)
@@ -92,9 +80,9 @@ due_all_for None taken rest status text whole due = due
 due_all_for (Some (OnJob command)) taken rest status text whole (verdict, judged, said) = (verdict, judges_all taken rest (end_or_over taken rest whole) judged, said)
 due_all_for (Some Assemble) taken rest status text whole due =
     subst (λ (found : Result (List ℕ) Refusal). DueOfProgram found status text) (sym (program_all taken rest (end_or_over taken rest whole))) due
-due_all_for (Some (Watch n)) taken rest status text whole due = watch_all n taken rest status text (end_or_over taken rest whole) due
-due_all_for (Some Compare) taken rest status text whole due = compare_all taken rest status text (end_or_over taken rest whole) due
-due_all_for (Some Debug) taken rest status text whole due = debug_all taken rest status text (end_or_over taken rest whole) due
+due_all_for (Some (Watch n)) taken rest status text whole due = head_all (DueOfHead n) (λ a b status text said. said) taken rest status text (end_or_over taken rest whole) due
+due_all_for (Some Compare) taken rest status text whole due = head_all DueOfPairHead (λ a b status text said. said) taken rest status text (end_or_over taken rest whole) due
+due_all_for (Some Debug) taken rest status text whole due = head_all DueOfScriptHead (λ a b status text said. said) taken rest status text (end_or_over taken rest whole) due
 due_all_for (Some Read) taken rest status text whole due = read_all taken rest status text (end_or_over taken rest whole) due
 due_all_for (Some (Generate number count)) taken rest status text whole due = due
 

@@ -292,19 +292,16 @@ pipe_implements input text (Ok job, judged, (zero, verilog)) = record {
 pipe_implements input text (Err refusal, judged, due) = absurd (omega (arith, due.0))
 
 -- the name of the module doesn't affect what is seen
-pub same_trace : (net : Net) (job : Job) (name : List ℕ) (ins : List Input) → trace_of job (renamed net name) ins ≡ trace_of job net ins
-unfolding trace_of value_shown
-same_trace net job name ins = λ i. record {
-  rows = rows_seen job.stages.value (rows_same net name (begin_of net) ins i);
-  visible = λ T t a. value_of net (get_or (states_same net name (begin_of net) ins i) T no_state) (target job t) a;
-}
-
 same_trace_from : (net : Net) (job : Job) (name : List ℕ) (st : State) (ins : List Input) → trace_from job (renamed net name) st ins ≡ trace_from job net st ins
 unfolding trace_from value_shown
 same_trace_from net job name st ins = λ i. record {
   rows = rows_seen job.stages.value (rows_same net name st ins i);
   visible = λ T t a. value_of net (get_or (states_same net name st ins i) T no_state) (target job t) a;
 }
+
+pub same_trace : (net : Net) (job : Job) (name : List ℕ) (ins : List Input) → trace_of job (renamed net name) ins ≡ trace_of job net ins
+unfolding trace_of trace_from
+same_trace net job name ins = same_trace_from net job name (begin_of net) ins
 
 same_values : (net : Net) (job : Job) (name : List ℕ) (st : State) → value_shown job (renamed net name) st ≡ value_shown job net st
 unfolding value_shown

@@ -183,15 +183,11 @@ is_identifier (kinds.Mark m) e = absurd (no_mark m e)
 
 read_fine : (c : ℕ) (way : Way) (t : Lexeme) (vs : List Value) → kind_class t.kind ≡ c → is_fine (Terminal c way) ≡ true → IsNamed t → AllFine vs → AllFine (values_read way t vs)
 read_fine c lang.as_name t vs e k n h = (n (is_identifier t.kind (e ∙ eqb-true c IDENTIFIER k)), h)
-read_fine c lang.as_place t vs e k n h = (tt, h)
-read_fine c lang.as_number t vs e k n h = (tt, h)
-read_fine c lang.as_literal t vs e k n h = (tt, h)
-read_fine c lang.counts_one t vs e k n h = (tt, h)
-read_fine c lang.opens_at t vs e k n h = (tt, h)
 read_fine c lang.dropped t vs e k n h = h
 read_fine c lang.opens t vs e k n h = h
 read_fine c lang.closes t vs e k n h = h
 read_fine c lang.separates t vs e k n h = h
+read_fine c _ t vs e k n h = (tt, h)
 
 derived_fine : {s s' : List (Symbol Way Step)} {v v' : State} {ts left : List Lexeme} → Derives language s v ts s' v' left → all_fine s ≡ true → AllNamed ts
     → AllFine v.values → AllFine v'.values

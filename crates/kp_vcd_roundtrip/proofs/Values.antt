@@ -14,6 +14,7 @@ use Rattle.kp_machine.{specs.Slots.targets_of, specs.Slots.pipes_of, specs.Slots
 use Rattle.kp_machine.proofs.Text.{declared_right}
 use Rattle.kp_machine_laws.proofs.Accepting as accepting
 use Rattle.kp_machine_laws.proofs.Showing.{shown, stays}
+use Rattle.kp_run.proofs.Legal.{inputs_many}
 use Rattle.kp_seq_plan.specs.Names.{keys_of}
 use Rattle.kp_seq.specs.{Running.no_slot, Running.state_in, inner.Tables.Laid, inner.Tables.ports_of, inner.Fits.FitSlots}
 use Rattle.kp_seq.specs.inner.{Ready.AreTables, Ready.HasPlaces, Ready.words_of_start, Steps.Under, Steps.executed}
@@ -34,52 +35,33 @@ row_below (decls.Sample n width stage ∷ ds) (v ∷ row) h (suc x) = row_below 
 row_below (_ ∷ ds) row h x = row_below ds row h x
 
 -- the input vector with these values
-abbrev row_of : (ℕ → ℕ) → ℕ → List Decl → List Word
-row_of q i [] = []
-row_of q i (decls.Sample n width stage ∷ ds) = word width.value (q i) ∷ row_of q (suc i) ds
-row_of q i (_ ∷ ds) = row_of q i ds
+abbrev row_of : (ℕ → ℕ) → List Decl → List Word
+row_of q [] = []
+row_of q (decls.Sample n width stage ∷ ds) = word width.value (q 0) ∷ row_of (λ x. q (suc x)) ds
+row_of q (_ ∷ ds) = row_of q ds
 
-row_samples : (q : ℕ → ℕ) (i : ℕ) (ds : List Decl) → Apart (samples_of ds) → ((x : ℕ) → q (i + x) < 2 ^ width_of_sample ds x) → AreSamples ds (row_of q i ds)
-row_samples q i [] a h = refl
-row_samples q i (decls.Sample n width stage ∷ ds) a h =
-    let here : i + 0 ≡ i = omega arith in (
-      refl,
-      record { positive = a.1; at_most = a.2; fits = subst (λ (j : ℕ). q j < 2 ^ width.value) here (h 0) },
-      row_samples q (suc i) ds a.3 (λ x. let there : i + suc x ≡ suc i + x = omega arith in subst (λ (j : ℕ). q j < 2 ^ width_of_sample ds x) there (h (suc x))),
-    )
-row_samples q i (_ ∷ ds) a h = row_samples q i ds a h
+row_samples : (q : ℕ → ℕ) (ds : List Decl) → Apart (samples_of ds) → ((x : ℕ) → q x < 2 ^ width_of_sample ds x) → AreSamples ds (row_of q ds)
+row_samples q [] a h = refl
+row_samples q (decls.Sample n width stage ∷ ds) a h = (refl, record { positive = a.1; at_most = a.2; fits = h 0 }, row_samples (λ x. q (suc x)) ds a.3 (λ x. h (suc x)))
+row_samples q (_ ∷ ds) a h = row_samples q ds a h
 
-only_zero : (v : ℕ) → v < 2 ^ 0 → v ≡ 0
+only_zero : (v : ℕ) → v < 2 ^ 0 → 0 ≡ v
 only_zero v h = omega (arith, h)
 
-row_values : (q : ℕ → ℕ) (i : ℕ) (ds : List Decl) → ((x : ℕ) → q (i + x) < 2 ^ width_of_sample ds x) → (x : ℕ) → values_in (row_of q i ds) x ≡ q (i + x)
-row_values q i [] h x = sym (only_zero (q (i + x)) (h x))
-row_values q i (decls.Sample n width stage ∷ ds) h zero = let here : i ≡ i + 0 = omega arith in ap q here
-row_values q i (decls.Sample n width stage ∷ ds) h (suc x) =
-    let there : suc i + x ≡ i + suc x = omega arith in
-    row_values q (suc i) ds (λ y. let e : i + suc y ≡ suc i + y = omega arith in subst (λ (j : ℕ). q j < 2 ^ width_of_sample ds y) e (h (suc y))) x
-    ∙ ap q there
-row_values q i (_ ∷ ds) h x = row_values q i ds h x
+row_values : (q : ℕ → ℕ) (ds : List Decl) → ((x : ℕ) → q x < 2 ^ width_of_sample ds x) → (x : ℕ) → values_in (row_of q ds) x ≡ q x
+row_values q [] h x = only_zero (q x) (h x)
+row_values q (decls.Sample n width stage ∷ ds) h zero = refl
+row_values q (decls.Sample n width stage ∷ ds) h (suc x) = row_values (λ x. q (suc x)) ds (λ y. h (suc y)) x
+row_values q (_ ∷ ds) h x = row_values q ds h x
 
 -- the values that instructions read
-abbrev AllBelow : ℕ → ℕ → List Inputs → Type 0
-AllBelow x b [] = Unit {0}
-AllBelow x b (j ∷ ins) = (j.samples x < b) × AllBelow x b ins
-
-taken_below : (m : Machine) (updates : ℕ → ℕ) (ins : List Inputs) (rows : List Row) (i x b : ℕ) → 0 < b → AllBelow x b ins → taken_from m updates ins rows i x < b
-taken_below m updates [] rows i x b some h = some
-taken_below m updates (j ∷ ins) [] i x b some h = some
-taken_below m updates (j ∷ ins) (r ∷ rows) i x b some h =
-    cond_both _ (j.samples x) (taken_from m (λ k. one_if (bit r.ue k) + updates k) ins rows i x) (λ (v : ℕ). v < b)
-    (λ y. h.0) (λ y. taken_below m (λ k. one_if (bit r.ue k) + updates k) ins rows i x b some h.1)
-
-inputs_below : (job : Job) (x b cycle n : ℕ) → ((cycle : ℕ) → values_in (input job cycle) x < b) → AllBelow x b (inputs_from job cycle n)
-inputs_below job x b cycle zero h = tt
-inputs_below job x b cycle (suc n) h = (h cycle, inputs_below job x b (suc cycle) n h)
-
-inputs_many : (job : Job) (cycle n : ℕ) → length (inputs_from job cycle n) ≡ n
-inputs_many job cycle zero = refl
-inputs_many job cycle (suc n) = ap (λ (k : ℕ). suc k) (inputs_many job (suc cycle) n)
+taken_below : (job : Job) (m : Machine) (updates : ℕ → ℕ) (cycle n : ℕ) (rows : List Row) (i x b : ℕ) → 0 < b → ((cycle : ℕ) → values_in (input job cycle) x < b)
+    → taken_from m updates (inputs_from job cycle n) rows i x < b
+taken_below job m updates cycle zero rows i x b some h = some
+taken_below job m updates cycle (suc n) [] i x b some h = some
+taken_below job m updates cycle (suc n) (r ∷ rows) i x b some h =
+    cond_both _ (values_in (input job cycle) x) (taken_from m (λ k. one_if (bit r.ue k) + updates k) (inputs_from job (suc cycle) n) rows i x) (λ (v : ℕ). v < b)
+    (λ y. h cycle) (λ y. taken_below job m (λ k. one_if (bit r.ue k) + updates k) (suc cycle) n rows i x b some h)
 
 -- ---- the sequential run
 
@@ -140,18 +122,12 @@ module _ (job : Job) (entries : map (λ e. e.name) (widths_of job).value ≡ dec
   abbrev Given : (ℕ → ℕ → ℕ) → Type 0
   Given given = (i x : ℕ) → given i x < 2 ^ width_of_sample job.decls x
 
-  from_zero : (q : ℕ → ℕ) → ((x : ℕ) → q x < 2 ^ width_of_sample job.decls x) → (x : ℕ) → q (0 + x) < 2 ^ width_of_sample job.decls x
-  from_zero q h x = let e : x ≡ 0 + x = omega arith in subst (λ (j : ℕ). q j < 2 ^ width_of_sample job.decls x) e (h x)
-
-  given_row : (q : ℕ → ℕ) → ((x : ℕ) → q x < 2 ^ width_of_sample job.decls x) → values_in (row_of q 0 job.decls) ≡ q
-  given_row q h = λ j x. (row_values q 0 job.decls (from_zero q h) x ∙ (let e : 0 + x ≡ x = omega arith in ap q e)) j
-
   run_fits : (given : ℕ → ℕ → ℕ) → Given given → (i : ℕ) → Fits (sequential job given i)
   unfolding seq
   run_fits given h zero = starts_fit
   run_fits given h (suc i) =
-      subst (λ (q : ℕ → ℕ). Fits (exec (machine_of job) (sequential job given i) q)) (given_row (given i) (h i))
-      (step_keeps (sequential job given i) (row_of (given i) 0 job.decls) (row_samples (given i) 0 job.decls apart (from_zero (given i) (h i))) (run_fits given h i))
+      subst (λ (q : ℕ → ℕ). Fits (exec (machine_of job) (sequential job given i) q)) (λ j x. row_values (given i) job.decls (h i) x j)
+      (step_keeps (sequential job given i) (row_of (given i) job.decls) (row_samples (given i) job.decls apart (h i)) (run_fits given h i))
 
   value_fits : (s : ℕ → ℕ → ℕ) (t a : ℕ) → Fits s → t < length (targets_of job.decls) → s t a < 2 ^ (get_or (targets_of job.decls) t no_slot).width
   value_fits s t a h there =
@@ -164,8 +140,8 @@ module _ (job : Job) (entries : map (λ e. e.name) (widths_of job).value ≡ dec
 
   given_taken : (n : ℕ) → Given (taken_of job (ins n))
   given_taken n i x =
-      taken_below (machine_of job) (λ k. 0) (ins n) (pipe_of job (ins n)).rows i x (2 ^ width_of_sample job.decls x) (pow_pos (width_of_sample job.decls x))
-      (inputs_below job x (2 ^ width_of_sample job.decls x) 0 n (λ cycle. row_below job.decls (input job cycle) (rows_fit job widths sections cycle) x))
+      taken_below job (machine_of job) (λ k. 0) 0 n (pipe_of job (ins n)).rows i x (2 ^ width_of_sample job.decls x) (pow_pos (width_of_sample job.decls x))
+      (λ cycle. row_below job.decls (input job cycle) (rows_fit job widths sections cycle) x)
 
   abbrev bound : ℕ → ℕ
   bound t = 2 ^ (get_or (targets_of job.decls) t no_slot).width

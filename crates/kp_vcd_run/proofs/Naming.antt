@@ -10,12 +10,7 @@ use Rattle.kp_vcd_run.specs.Dumps.{register, register_signals}
 width_at : (ds : List Decl) (i : ℕ) (d : Decl) (n : Named) (width : Num) (start : Lit) → Fine ds → i < length ds → get_or ds i d ≡ decls.Reg n width start → width.value ≤ 64
 width_at [] i d n width start fine h e = absurd (omega (arith, h))
 width_at (decls.Reg m w v ∷ ds) zero d n width start fine h e = let same : w.value ≡ width.value = cc in omega (arith, same, fine.1)
-width_at (decls.File m w a ∷ ds) zero d n width start fine h e = cc
-width_at (decls.Pipe m w ∷ ds) zero d n width start fine h e = cc
-width_at (decls.Hint m w v ∷ ds) zero d n width start fine h e = cc
-width_at (decls.Sample m w s ∷ ds) zero d n width start fine h e = cc
-width_at (decls.Target r ∷ ds) zero d n width start fine h e = cc
-width_at (decls.Func f ∷ ds) zero d n width start fine h e = cc
+width_at (_ ∷ ds) zero d n width start fine h e = cc
 width_at (decls.Reg m w v ∷ ds) (suc i) d n width start fine h e = width_at ds i d n width start fine.2 (omega (arith, h)) e
 width_at (decls.File m w a ∷ ds) (suc i) d n width start fine h e = width_at ds i d n width start fine.3 (omega (arith, h)) e
 width_at (_ ∷ ds) (suc i) d n width start fine h e = width_at ds i d n width start fine (omega (arith, h)) e
@@ -38,9 +33,4 @@ one_signal olds x rest n width start s e is =
 
 pub no_signal : (x : Decl) (rest : List Decl) → ((n : Named) (width : Num) (start : Lit) → x ≡ decls.Reg n width start → ⊥) → register_signals rest ≡ register_signals (x ∷ rest)
 no_signal (decls.Reg n width start) rest other = absurd (other n width start refl)
-no_signal (decls.File n width address) rest other = refl
-no_signal (decls.Pipe n width) rest other = refl
-no_signal (decls.Hint n width start) rest other = refl
-no_signal (decls.Sample n width stage) rest other = refl
-no_signal (decls.Target r) rest other = refl
-no_signal (decls.Func f) rest other = refl
+no_signal _ rest other = refl

@@ -24,12 +24,7 @@ past_one ss t s more e = sym (drop-drop 1 t ss) ∙ ap (drop 1) e
 places_few : (names : List (List ℕ)) (ds : List Decl) → length (places_from names ds) ≤ length ds
 places_few names [] = omega arith
 places_few names (decls.Reg n width start ∷ ds) = let h = places_few names ds in omega (arith, h)
-places_few names (decls.File n width address ∷ ds) = let h = places_few names ds in omega (arith, h)
-places_few names (decls.Pipe n width ∷ ds) = let h = places_few names ds in omega (arith, h)
-places_few names (decls.Hint n width start ∷ ds) = let h = places_few names ds in omega (arith, h)
-places_few names (decls.Sample n width stage ∷ ds) = let h = places_few names ds in omega (arith, h)
-places_few names (decls.Target r ∷ ds) = let h = places_few names ds in omega (arith, h)
-places_few names (decls.Func f ∷ ds) = let h = places_few names ds in omega (arith, h)
+places_few names (_ ∷ ds) = let h = places_few names ds in omega (arith, h)
 
 module _ (job : Job) (net : Net) (of_job : IsOfJob net job) where
   abbrev slots : List Slot

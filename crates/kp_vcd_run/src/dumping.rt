@@ -13,7 +13,7 @@ use kp_cycle::Sim;
 use kp_frontend::Accepted;
 use kp_net::Netlist;
 use kp_run::laws::a_job_gives_its_own_inputs;
-use kp_run::step;
+use kp_run::next_cycle;
 use kp_vcd::{Dump, Moment, Recorder};
 use std::alloc::Global;
 
@@ -58,7 +58,7 @@ fn moments_of(
     let mut recorder = Recorder::new(alloc, last);
     for cycle in 0..count {
         let registers = registers_in(alloc, &sim, places)?;
-        let row = step(&mut sim, &job.sections, room, u64::from(cycle));
+        let row = next_cycle(&mut sim, job, room, cycle);
         let now = values_in(alloc, stages, row, registers.as_slice())?;
         recorder.record(now)?;
     }

@@ -1,5 +1,5 @@
 -- How calls end: from what was written to what is expected.
-use Rattle.std.proofs.Common.{◌≡◌, ℕ, ◌≤◌, Bool, false, List, length, Ok, Err, refl, sym, ap₂, subst, inl, inr, arith}
+use Rattle.std.proofs.Common.{◌≡◌, ℕ, ◌≤◌, Bool, false, None, List, length, Ok, Err, refl, sym, ap₂, subst, inl, inr, arith}
 use Rattle.std.specs.{declared.option.Option.Option, declared.result.Result.Result, Prelude.MatchResult, Io.KnownBytes.Appends}
 use Rattle.kp_base.specs.{Bytes.AppendsPart, Causes.Rose, declared.refusal.Refused.Refused}
 use Rattle.kp_base.specs.declared.refusal.Refused.TheVariants as refused
@@ -16,8 +16,7 @@ use Rattle.kp_view.specs.declared.failure.Stop.TheVariants as stops
 -- a complaint has another status than 0
 never_zero : (c : Complaint) → complaint_status c ≡ 0 → ⊥
 never_zero (complaints.BadWords topic) e = absurd (omega (arith, e))
-never_zero (complaints.WrongNames given stages) e = absurd (omega (arith, e))
-never_zero (complaints.Refused refusal) e = absurd (omega (arith, e))
+never_zero _ e = absurd (omega (arith, e))
 
 module _ {S : Type 0} (held : S → Option (List ℕ)) (faults : S → ℕ) (file : Option (List ℕ)) where
   -- what is expected by one account is expected by another
@@ -61,9 +60,12 @@ module _ {S : Type 0} (held : S → Option (List ℕ)) (faults : S → ℕ) (fil
       by_names (names_fit order job) false order input job unfit s s {T = T} (Err (Complained (complaints.WrongNames given stages))) (refl, (refl, ap₂ names_text g k))
 
 -- the text of a word was written, which shows the run
-pub drawn_as : (order other : Order) (input : List ℕ) (job : Job) (text : List ℕ) → order ≡ other → text ≡ order_text other input job → IsShown other job
-    → Draws order input job 0 text
-drawn_as order other input job text is same shows = subst (λ (o : Order). Draws o input job 0 text) (sym is) (refl, same, shows)
+pub drawn_by : {S : Type 0} (held : S → Option (List ℕ)) (faults : S → ℕ) (task : Task) (order : Order) (input : List ℕ) (job : Job) → task.order ≡ order → IsShown order job
+    → (old new : S) {T : Type 0} (r : Result T Failure) → Ends held faults ⊥ (Says 0 (order_text order input job)) None old new r
+    → Ends held faults ⊥ (Draws task.order input job) task.file old new r
+drawn_by held faults task order input job is shows old new r ends =
+    said held faults task.file None ⊥ (Draws task.order input job) (order_text order input job)
+    (subst (λ (o : Order). Draws o input job 0 (order_text order input job)) (sym is) (refl, refl, shows)) old new r ends
 
 -- a complaint was written
 module _ {S T : Type 0} (held : S → Option (List ℕ)) (faults : S → ℕ) (held_err : T → Option (List ℕ)) (faults_err : T → ℕ) (V : Type 0) (Q : ℕ → List ℕ → Type 0) where
@@ -75,11 +77,10 @@ module _ {S T : Type 0} (held : S → Option (List ℕ)) (faults : S → ℕ) (h
   pub complained : (c : Complaint) (text : List ℕ) (old new : S) (old_err new_err : T) (r : Result ℕ Stop)
       → (new ≡ old) × Q (complaint_status c) text → Complains c text old_err new_err r → EndsAt held faults held_err faults_err V Q old new old_err new_err r
   complained (complaints.BadWords topic) text old new old_err new_err (Ok status) (same, due) (is, appended) = rw is (text, due, (same, appended))
-  complained (complaints.WrongNames given stages) text old new old_err new_err (Ok status) (same, due) (is, appended) = rw is (text, due, (same, appended))
-  complained (complaints.Refused refusal) text old new old_err new_err (Ok status) (same, due) (is, appended) = rw is (text, due, (same, appended))
   complained (complaints.BadWords topic) text old new old_err new_err (Err stop) (same, due) (is, rose, part) = rw is (inr rose, 1, text, due, (same, part))
   complained (complaints.WrongNames given stages) text old new old_err new_err (Err stop) (same, due) (is, rose, part) = rw is (inr rose, 1, text, due, (same, part))
   complained (complaints.Refused refusal) text old new old_err new_err (Err stop) (same, due) (is, rose, part) = rw is (inr rose, 2, text, due, (same, part))
+  complained _ text old new old_err new_err (Ok status) (same, due) (is, appended) = rw is (text, due, (same, appended))
 
   -- no complaint was to be written
   pub finished : (file : Option (List ℕ)) (old new : S) (err : T) (U : Type 0) (u : U) → Ends {U = U} held faults V Q file old new (Ok u) → EndsAt held faults held_err faults_err V Q old new err err (Ok 0)

@@ -31,11 +31,9 @@ low_names true order input job status text (zero_is, same, shows) = omega (arith
 low_names false order input job status text (one, rest) = omega (arith, one)
 
 low : (asked : Asked) (input : List ℕ) (status : ℕ) (text : List ℕ) → DueFor asked input status text → IsLow status
-low (bad_words topic) input status text (is, rest) = omega (arith, is)
-low (help topic) input status text (is, rest) = omega (arith, is)
-low version input status text (is, rest) = omega (arith, is)
 low (show task) input status text (Ok job, judged, due) = low_names (names_fit task.order job) task.order input job status text due
 low (show task) input status text (Err refusal, judged, (is, rest)) = omega (arith, is)
+low _ input status text (is, rest) = omega (arith, is)
 
 module _ {S : Type 0} (held : S → Option (List ℕ)) (faults : S → ℕ) (V : Type 0) where
   -- what reads nothing
@@ -90,9 +88,6 @@ ends_or_long taken rest (inr count) = inr count
 
 due_all : (asked : Asked) (taken rest : List ℕ) (status : ℕ) (text : List ℕ) → IsWhole (reads_input asked) taken (Some rest) → DueFor asked taken status text
     → DueFor asked (taken ++ rest) status text
-due_all (bad_words topic) taken rest status text whole due = due
-due_all (help topic) taken rest status text whole due = due
-due_all version taken rest status text whole due = due
 due_all (show task) taken rest status text whole (Ok job, judged, due) = go (ends_or_long taken rest whole)
   where
     go : ((rest ≡ []) ⊎ (length taken ≡ 16777217)) → DueFor (show task) (taken ++ rest) status text
@@ -101,6 +96,7 @@ due_all (show task) taken rest status text whole (Ok job, judged, due) = go (end
         subst (λ (bytes : List ℕ). DueFor (show task) bytes status text) (sym all) (Ok job, judged, due)
     go (inr count) = absurd (never_long taken job count judged)
 due_all (show task) taken rest status text whole (Err refusal, judged, due) = (Err refusal, judges_all taken rest (ends_or_long taken rest whole) judged, due)
+due_all _ taken rest status text whole due = due
 
 -- where the bytes of the source are known, the outcome is the one for all of them
 for_all_bytes : (asked : Asked) (left left_after : Option (List ℕ)) (status : ℕ) (text : List ℕ) → IsDue asked left left_after status text

@@ -1,11 +1,10 @@
-use Rattle.std.proofs.Common.{◌≡◌, ◌∙◌, ◌≤◌, ◌<◌, ◌+◌, ◌^◌, ◌++◌, ℕ, suc, List, [], length, false, ap, ap₂, sym, subst, refl, arith}
+use Rattle.std.proofs.Common.{◌≡◌, ◌∙◌, ◌≤◌, ◌<◌, ◌+◌, ◌^◌, ◌++◌, ℕ, suc, List, length, false, ap, ap₂, sym, subst, refl, arith}
 use Rattle.kp_base.specs.declared.row.Row.{Row}
 use Rattle.kp_bits.specs.Word.{Word}
-use Rattle.kp_image.specs.{Spans.word_in, Feeds.row_in}
-use Rattle.kp_net.specs.Netlist.{Input, State, last_of, row_of, state_after}
-use Rattle.kp_cycle.specs.Steps.{Running, SamplesFit, given}
-use Rattle.kp_run.{specs.Cycles.inputs_to, specs.Cycles.input_at, proofs.Steps.state_next, proofs.Given.rows_fed, proofs.Given.as_feeds, proofs.Given.feeds_few}
-use Rattle.kp_run.proofs.{Machines.stages_fit, Samples.fits_ports}
+use Rattle.kp_net.specs.Netlist.{last_of, row_of}
+use Rattle.kp_cycle.specs.Steps.{Running}
+use Rattle.kp_run.specs.Cycles.{after_cycles, inputs_to, input_at}
+use Rattle.kp_run.proofs.{Given.as_feeds, Machines.stages_fit}
 use Rattle.kp_vcd.specs.Recording.{Values, HasRecorded, moments_before}
 use Rattle.kp_vcd_run.specs.{Dumps.values_at, Dumps.own_run, Dumps.no_row, inner.Shown.shown_at, inner.Shown.mask_values}
 use Rattle.kp_vcd_run.proofs.Whole.{values_in_cycle, values_behind_all, values_few}
@@ -32,63 +31,39 @@ loop-cycle-init c =
       room = rw c.as_mut_slice-room.ensures.value (ap (λ (l : List Word). length l) c.in_ok-samples.ensures ∙ as_feeds c.args.job.now.sections.inputs 0);
     }
 
-pub step-row-requires-clause-few : goal.step-row-requires-clause-few
-step-row-requires-clause-few c =
-    let job = c.args.job.now in
-    let sound = c.job.ensures.sound in
-    let few = feeds_few job.design.job job.sections.inputs sound.names job.unbroken job.inputs job.few in
-    let room = c.loop-cycle.invariant.room in
-    omega (arith, few, room)
-
-pub step-row-requires-clause-fits : goal.step-row-requires-clause-fits
-step-row-requires-clause-fits c =
-    let job = c.args.job.now in
-    let sound = c.job.ensures.sound in
-    let row = row_in job.sections.inputs c.from.result in
-    subst (λ (s : Running). SamplesFit s.net row) (sym c.loop-cycle.invariant.sim)
-    (fits_ports job.design.job c.args.net.now row c.requires.shows.of_job.samples
-    (rows_fed job.design.job job.sections.inputs sound.names job.unbroken job.inputs c.from.result))
+pub next_cycle-row-requires-clause-samples : goal.next_cycle-row-requires-clause-samples
+next_cycle-row-requires-clause-samples c = rw c.loop-cycle.invariant.sim c.requires.shows.of_job.samples
 
 pub loop-cycle-preserved : goal.loop-cycle-preserved
 loop-cycle-preserved c =
-    let accepted = c.args.job.now in
-    let job = accepted.design.job in
+    let job = c.args.job.now.design.job in
     let net = c.args.net.now in
     let n = c.loop-cycle.cycle in
     let kept = c.loop-cycle.invariant in
     let begin = last_of net (inputs_to job n) in
-    let taken : Input = given (word_in accepted.sections.stalls c.from.result) false (row_in accepted.sections.inputs c.from.result) in
-    let is : taken ≡ input_at job n =
-    ap (λ (m : ℕ). given (word_in accepted.sections.stalls m) false (row_in accepted.sections.inputs m)) c.from.ensures
-    ∙ (λ i. given (accepted.stalls i n) false (accepted.inputs i n)) in
-    let row_is : c.step-row.result ≡ row_of net (input_at job n) begin =
-    c.step-row.ensures.row ∙ ap (λ (s : Running). row_of s.net taken s.state) kept.sim ∙ ap (λ (i : Input). row_of net i begin) is in
-    let registers_are : c.in_ok-registers.registers.items ≡ shown_at (record { net = net; state = begin; slots = [] }) c.args.places.now =
+    let registers_are : c.in_ok-registers.registers.items ≡ shown_at (after_cycles job net n) c.args.places.now =
     c.in_ok-registers.ensures ∙ ap (λ (s : Running). shown_at s c.args.places.now) kept.sim in
     let few = (stages_fit job c.job.ensures.sound.stages).1 in
     let stages : c.job.result.now.stages.value ≡ job.stages.value = rw c.job.ensures.job refl in
     let now_is : c.in_ok-now.now.items ≡ values_at job (own_run job c.args.count) n =
     c.in_ok-now.ensures
-    ∙ ap₂ (λ (k : ℕ) (r : Row). mask_values k r ++ c.as_slice.result.now) stages row_is
+    ∙ ap₂ (λ (k : ℕ) (r : Row). mask_values k r ++ c.as_slice.result.now) stages (c.next_cycle-row.ensures.row net kept.sim)
     ∙ ap (λ (vs : Values). mask_values job.stages.value (row_of net (input_at job n) begin) ++ vs) (c.as_slice.ensures.value ∙ registers_are)
     ∙ values_in_cycle job net c.args.count c.requires.shows (c.a_job_gives_its_own_inputs.ensures.seen c.args.count) (c.a_job_gives_its_own_inputs.ensures.quiet c.args.count) n c.args.places.now
     c.loop-cycle-test.true few c.requires.places in
     record {
-      sim =
-          c.step-row.ensures.state
-          ∙ ap (λ (s : Running). record s { state = state_after s.net taken s.state }) kept.sim
-          ∙ ap (λ (st : State). record { net = net; state = st; slots = [] }) (state_next job net n taken is begin refl);
+      sim = c.next_cycle-row.ensures.sim net kept.sim;
       recorded =
           (let vals = values_at job (own_run job c.args.count) in
           let last = kept.recorded.last in
           let old = subst (λ (m : ℕ). HasRecorded vals m n c.loop-cycle.recorder) (sym last) kept.recorded in
           subst (λ (m : ℕ). HasRecorded vals m (n + 1) c.record.new.self) last (c.in_ok-record.ensures vals n old now_is));
-      room = c.step-row.ensures.room ∙ kept.room;
+      room = c.next_cycle-row.ensures.room ∙ kept.room;
     }
 
 pub record-requires-clause-few : goal.record-requires-clause-few
 record-requires-clause-few c =
-    let outputs = mask_values c.job.result.now.stages.value c.step-row.result in
+    let outputs = mask_values c.job.result.now.stages.value c.next_cycle-row.result in
     let few : length c.in_ok-now.now.items < 2 ^ 32 =
     values_few c.args.job.now.design.job c.args.net.now c.args.places.now c.loop-cycle.sim outputs c.in_ok-now.now.items c.in_ok-registers.registers.items c.job.ensures.sound.stages c.requires.places
     refl c.in_ok-registers.ensures (c.in_ok-now.ensures ∙ ap (λ (vs : Values). outputs ++ vs) c.as_slice.ensures.value) in
@@ -114,9 +89,9 @@ returns c =
     let within = c.loop-cycle.auto.cycle-end in
     let end : c.loop-cycle.cycle ≡ n = omega (arith, over, within) in
     let recorded : HasRecorded vals n n c.loop-cycle.recorder = subst (λ (m : ℕ). HasRecorded vals n m c.loop-cycle.recorder) end kept.recorded in
-    let sim : c.loop-cycle.sim ≡ record { net = net; state = last_of net (inputs_to job n); slots = [] } =
-    kept.sim ∙ ap (λ (m : ℕ). record { net = net; state = last_of net (inputs_to job m); slots = [] }) end in
-    let registers_are : c.in_ok-registers-2.registers.items ≡ shown_at (record { net = net; state = last_of net (inputs_to job n); slots = [] }) c.args.places.now =
+    let sim : c.loop-cycle.sim ≡ after_cycles job net n =
+    kept.sim ∙ ap (after_cycles job net) end in
+    let registers_are : c.in_ok-registers-2.registers.items ≡ shown_at (after_cycles job net n) c.args.places.now =
     c.in_ok-registers-2.ensures ∙ ap (λ (s : Running). shown_at s c.args.places.now) sim in
     let now_is : c.in_ok-now-2.now.items ≡ vals n =
     c.in_ok-now-2.ensures
