@@ -193,7 +193,7 @@ fn number(nodes: &[Node], a: NodeId) -> Option<Bits>
 }
 
 // The width of a node.
-#[tactic(auto, unfolding(crate::specs::Widths::wide))]
+#[tactic(auto, unfolding(kp_net::specs::Widths::wide))]
 fn width_of(nodes: &[Node], a: NodeId) -> u8
     requires { a.0 < length nodes.now }
     ensures { result ≡ wide nodes.now a.0 }
