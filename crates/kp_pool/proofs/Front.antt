@@ -1,5 +1,5 @@
 -- The index of a pool has its first nodes.
-use Rattle.std.proofs.Common.{◌≡◌, ◌⊎◌, ◌<◌, ◌++◌, ◌∷◌, [], Bool, List, length, ap, ◌∙◌, if◌then◌else◌, IfOk, OnErr, Result, Ok, Err, inl, inr}
+use Rattle.std.proofs.Common.{◌≡◌, ◌⊎◌, ◌++◌, ◌∷◌, [], Bool, List, length, ap, ◌∙◌, if◌then◌else◌, IfOk, OnErr, Result, Ok, Err, inl, inr}
 use Rattle.std.specs.List.{list_any}
 use Rattle.kp_net.{specs.declared.node.Node.Node, specs.inner.Lookup.LacksBelow, proofs.Found.is, proofs.Found.not_any}
 use Rattle.kp_pool.specs.inner.Front.{IsFront}
