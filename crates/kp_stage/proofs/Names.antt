@@ -1,6 +1,6 @@
 -- Checks of the names in expressions that pass.
 use Rattle.std.proofs.Common.{◌≡◌, ◌∙◌, ℕ, zero, suc, ◌<◌, List, [], ◌∷◌, ◌++◌, map, length, get_or, Option, Some, None, Bool, true, false, refl, ap, sym, subst, arith}
-use Rattle.std.specs.{Prelude.◌||◌, Prelude.Contains, List.list_any, Cmp.Lexicographic.bytes_decides}
+use Rattle.std.{proofs.lemmas.Bool.or_left, proofs.lemmas.Bool.or_right, specs.Prelude.◌||◌, specs.Prelude.Contains, specs.List.list_any, specs.Cmp.Lexicographic.bytes_decides}
 use Rattle.kp_base.specs.{First.first, Check.Answer, declared.place.Place.Place}
 use Rattle.kp_bits.specs.{Word.Word, Word.not_of, Word.mux_of, Word.slice_of, Word.zext_of, Word.sext_of, Operators.binary_of, Operators.joined_of}
 use Rattle.kp_ast.specs.{Expressions.Env, Expressions.eval, Expressions.value_of_kind, Expressions.value_of_level, declared.tree.Expr.Expr}
@@ -17,6 +17,76 @@ use Rattle.kp_stage.proofs.Unbroken.{first_none}
 pub either : {G : Type 0} (a b : Bool) → (a || b) ≡ true → (a ≡ true → G) → (b ≡ true → G) → G
 either true b e left right = left refl
 either false b e left right = right e
+
+-- environments that agree on each name that an expression uses, and on each call
+module _ (a b : Env) (calls : (q : List ℕ) (args : List Word) → a.calls q args ≡ b.calls q args) where
+  -- on the names that pass a test
+  abbrev Agree : (List ℕ → Bool) → Type 0
+  Agree test = (q : List ℕ) → test q ≡ true → a.names q ≡ b.names q
+
+  on_left : (f g : List ℕ → Bool) → Agree (λ q. f q || g q) → Agree f
+  on_left f g h q u = h q (or_left (f q) (g q) u)
+
+  on_right : (f g : List ℕ → Bool) → Agree (λ q. f q || g q) → Agree g
+  on_right f g h q u = h q (or_right (f q) (g q) u)
+
+  abbrev used : Expr → List ℕ → Bool
+  used e q = uses q e
+
+  abbrev some_used : List Expr → List ℕ → Bool
+  some_used es q = list_any (λ x. x) (map (uses q) es)
+
+  abbrev Same : Expr → Type 0
+  Same e = Agree (used e) → eval a e ≡ eval b e
+
+  all_same : (es : List Expr) → Every Same es → Agree (some_used es) → map (eval a) es ≡ map (eval b) es
+  all_same [] hs n = refl
+  all_same (e ∷ es) hs n =
+      let here = hs.0 (on_left (used e) (some_used es) n) in
+      let more = all_same es hs.1 (on_right (used e) (some_used es) n) in
+      λ i. here i ∷ more i
+
+  pub same_value : (e : Expr) → Same e
+  same_value = induction Same (record {
+    literal = λ p l n. fold-Lit _ _ (value_of_kind a) value_of_level p l ∙ sym (fold-Lit _ _ (value_of_kind b) value_of_level p l);
+    name = λ p q n.
+        fold-Name _ _ (value_of_kind a) value_of_level p q ∙ n q (fold-Name _ _ (uses_in_kind q) uses_in_level p q ∙ (bytes_decides q q).1 refl)
+        ∙ sym (fold-Name _ _ (value_of_kind b) value_of_level p q);
+    not_ = λ p x h n.
+        fold-Not _ _ (value_of_kind a) value_of_level p x ∙ ap not_of (h (λ q u. n q (fold-Not _ _ (uses_in_kind q) uses_in_level p x ∙ u)))
+        ∙ sym (fold-Not _ _ (value_of_kind b) value_of_level p x);
+    binary = λ p op x y h g n.
+        let both : Agree (λ q. uses q x || uses q y) = λ q u. n q (fold-Binary _ _ (uses_in_kind q) uses_in_level p op x y ∙ u) in
+        fold-Binary _ _ (value_of_kind a) value_of_level p op x y ∙ (λ i. binary_of op (h (on_left (used x) (used y) both) i) (g (on_right (used x) (used y) both) i))
+        ∙ sym (fold-Binary _ _ (value_of_kind b) value_of_level p op x y);
+    mux = λ p t x y f h g n.
+        let rest : List ℕ → Bool = λ q. uses q x || uses q y in
+        let all : Agree (λ q. uses q t || rest q) = λ q u. n q (fold-Mux _ _ (uses_in_kind q) uses_in_level p t x y ∙ u) in
+        let both : Agree rest = on_right (used t) rest all in
+        fold-Mux _ _ (value_of_kind a) value_of_level p t x y
+        ∙ (λ i. mux_of (f (on_left (used t) rest all) i) (h (on_left (used x) (used y) both) i) (g (on_right (used x) (used y) both) i))
+        ∙ sym (fold-Mux _ _ (value_of_kind b) value_of_level p t x y);
+    concat = λ p es hs n.
+        fold-Concat _ _ (value_of_kind a) value_of_level p es ∙ ap joined_of (all_same es hs (λ q u. n q (fold-Concat _ _ (uses_in_kind q) uses_in_level p es ∙ u)))
+        ∙ sym (fold-Concat _ _ (value_of_kind b) value_of_level p es);
+    slice = λ p x hi lo h n.
+        fold-Slice _ _ (value_of_kind a) value_of_level p x hi lo
+        ∙ ap (λ (z : Word). slice_of z hi lo) (h (λ q u. n q (fold-Slice _ _ (uses_in_kind q) uses_in_level p x hi lo ∙ u)))
+        ∙ sym (fold-Slice _ _ (value_of_kind b) value_of_level p x hi lo);
+    zext = λ p x w h n.
+        fold-Zext _ _ (value_of_kind a) value_of_level p x w
+        ∙ ap (λ (z : Word). zext_of z w.value) (h (λ q u. n q (fold-Zext _ _ (uses_in_kind q) uses_in_level p x w ∙ u)))
+        ∙ sym (fold-Zext _ _ (value_of_kind b) value_of_level p x w);
+    sext = λ p x w h n.
+        fold-Sext _ _ (value_of_kind a) value_of_level p x w
+        ∙ ap (λ (z : Word). sext_of z w.value) (h (λ q u. n q (fold-Sext _ _ (uses_in_kind q) uses_in_level p x w ∙ u)))
+        ∙ sym (fold-Sext _ _ (value_of_kind b) value_of_level p x w);
+    call = λ p f es hs n.
+        fold-Call _ _ (value_of_kind a) value_of_level p f es
+        ∙ ap (a.calls f) (all_same es hs (λ q u. n q (fold-Call _ _ (uses_in_kind q) uses_in_level p f es ∙ u)))
+        ∙ calls f (map (eval b) es)
+        ∙ sym (fold-Call _ _ (value_of_kind b) value_of_level p f es);
+  })
 
 module _ (facts : Facts) (rule : Rule) (k : ℕ) where
   abbrev asked : Expr → Answer
@@ -57,59 +127,6 @@ module _ (facts : Facts) (rule : Rule) (k : ℕ) where
       zext = λ p a w h u n. h (sym (fold-Zext _ _ (uses_in_kind q) uses_in_level p a w) ∙ u) (sym (fold-Zext _ _ (ask_kind facts rule k) ask_level p a w) ∙ n);
       sext = λ p a w h u n. h (sym (fold-Sext _ _ (uses_in_kind q) uses_in_level p a w) ∙ u) (sym (fold-Sext _ _ (ask_kind facts rule k) ask_level p a w) ∙ n);
       call = λ p name es hs u n. some_asked es hs (sym (fold-Call _ _ (uses_in_kind q) uses_in_level p name es) ∙ u) (sym (fold-Call _ _ (ask_kind facts rule k) ask_level p name es) ∙ n);
-    })
-
-  -- environments that agree on each name that passes, and on each call
-  module _ (a b : Env) (names : (q : List ℕ) (at : Place) → ask_name facts rule k q at ≡ None → a.names q ≡ b.names q) (calls : (q : List ℕ) (args : List Word) → a.calls q args ≡ b.calls q args) where
-    abbrev Same : Expr → Type 0
-    Same e = asked e ≡ None → eval a e ≡ eval b e
-
-    all_same : (es : List Expr) → Every Same es → first (map asked es) ≡ None → map (eval a) es ≡ map (eval b) es
-    all_same [] hs n = refl
-    all_same (e ∷ es) hs n =
-        let both = first_none (asked e) (map asked es) n in
-        λ i. hs.0 both.0 i ∷ all_same es hs.1 both.1 i
-
-    pub same_value : (e : Expr) → Same e
-    same_value = induction Same (record {
-      literal = λ p l n. fold-Lit _ _ (value_of_kind a) value_of_level p l ∙ sym (fold-Lit _ _ (value_of_kind b) value_of_level p l);
-      name = λ p q n.
-          fold-Name _ _ (value_of_kind a) value_of_level p q
-          ∙ names q p (sym (fold-Name _ _ (ask_kind facts rule k) ask_level p q) ∙ n)
-          ∙ sym (fold-Name _ _ (value_of_kind b) value_of_level p q);
-      not_ = λ p x h n.
-          fold-Not _ _ (value_of_kind a) value_of_level p x ∙ ap not_of (h (sym (fold-Not _ _ (ask_kind facts rule k) ask_level p x) ∙ n))
-          ∙ sym (fold-Not _ _ (value_of_kind b) value_of_level p x);
-      binary = λ p op x y h g n.
-          let both = none_of_two (asked x) (asked y) (sym (fold-Binary _ _ (ask_kind facts rule k) ask_level p op x y) ∙ n) in
-          fold-Binary _ _ (value_of_kind a) value_of_level p op x y ∙ (λ i. binary_of op (h both.0 i) (g both.1 i))
-          ∙ sym (fold-Binary _ _ (value_of_kind b) value_of_level p op x y);
-      mux = λ p t x y f h g n.
-          let all = first_none (asked t) (asked x ∷ asked y ∷ []) (sym (fold-Mux _ _ (ask_kind facts rule k) ask_level p t x y) ∙ n) in
-          let both = none_of_two (asked x) (asked y) all.1 in
-          fold-Mux _ _ (value_of_kind a) value_of_level p t x y ∙ (λ i. mux_of (f all.0 i) (h both.0 i) (g both.1 i))
-          ∙ sym (fold-Mux _ _ (value_of_kind b) value_of_level p t x y);
-      concat = λ p es hs n.
-          fold-Concat _ _ (value_of_kind a) value_of_level p es
-          ∙ ap joined_of (all_same es hs (sym (fold-Concat _ _ (ask_kind facts rule k) ask_level p es) ∙ n))
-          ∙ sym (fold-Concat _ _ (value_of_kind b) value_of_level p es);
-      slice = λ p x hi lo h n.
-          fold-Slice _ _ (value_of_kind a) value_of_level p x hi lo
-          ∙ ap (λ (z : Word). slice_of z hi lo) (h (sym (fold-Slice _ _ (ask_kind facts rule k) ask_level p x hi lo) ∙ n))
-          ∙ sym (fold-Slice _ _ (value_of_kind b) value_of_level p x hi lo);
-      zext = λ p x w h n.
-          fold-Zext _ _ (value_of_kind a) value_of_level p x w
-          ∙ ap (λ (z : Word). zext_of z w.value) (h (sym (fold-Zext _ _ (ask_kind facts rule k) ask_level p x w) ∙ n))
-          ∙ sym (fold-Zext _ _ (value_of_kind b) value_of_level p x w);
-      sext = λ p x w h n.
-          fold-Sext _ _ (value_of_kind a) value_of_level p x w
-          ∙ ap (λ (z : Word). sext_of z w.value) (h (sym (fold-Sext _ _ (ask_kind facts rule k) ask_level p x w) ∙ n))
-          ∙ sym (fold-Sext _ _ (value_of_kind b) value_of_level p x w);
-      call = λ p q es hs n.
-          fold-Call _ _ (value_of_kind a) value_of_level p q es
-          ∙ ap (a.calls q) (all_same es hs (sym (fold-Call _ _ (ask_kind facts rule k) ask_level p q es) ∙ n))
-          ∙ calls q (map (eval b) es)
-          ∙ sym (fold-Call _ _ (value_of_kind b) value_of_level p q es);
     })
 
   -- the expressions of a statement

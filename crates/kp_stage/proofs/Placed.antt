@@ -176,4 +176,4 @@ module _ (job : Job) (kept : broken_of job ≡ None) (k j : ℕ) (s : Stmt) (the
 
   pub hints_count_for_nothing : (a b : Env) → ((q : List ℕ) → is_hint job q ≡ false → a.names q ≡ b.names q)
       → ((q : List ℕ) (args : List Word) → a.calls q args ≡ b.calls q args) → eval a e ≡ eval b e
-  hints_count_for_nothing a b names calls = same_value (facts_of job) Rule.E25 k a b (λ q at free. names q (no_hint job k q at free)) calls e asked_plain
+  hints_count_for_nothing a b names calls = same_value a b calls e (λ q used. names q (hints_apart q used))
