@@ -1,4 +1,5 @@
 pub mod Aims
+pub mod Alike
 pub mod Apart
 pub mod Cases
 pub mod LookUp

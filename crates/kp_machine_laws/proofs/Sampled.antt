@@ -1,28 +1,19 @@
 -- A stage uses only its own samples: if two input vectors agree on these, its tree is the same.
-use Rattle.std.proofs.Common.{◌≡◌, ◌∙◌, ℕ, zero, suc, ◌+◌, List, [], ◌∷◌, ◌++◌, map, Option, Some, None, Bool, true, false, not, cond, eqb, refl, ap, sym, subst, arith}
-use Rattle.std.{proofs.lemmas.Bool.eqb-true, specs.Prelude.slice_get, specs.Prelude.get_or, specs.Prelude.unwrap_or, specs.Option.option_map}
-use Rattle.kp_base.specs.{First.first, Refusal.e_rule, declared.place.Place.Place, Check.Answer}
-use Rattle.kp_bits.specs.Word.{Word, word, not_of, mux_of, slice_of, zext_of, sext_of}
-use Rattle.kp_bits.specs.Operators.{no_word, binary_of, joined_of}
-use Rattle.kp_ast.specs.Expressions.{Env, Values, is_same_name, look_up, eval, env_of, value_of_kind, value_of_level}
-use Rattle.kp_ast.specs.declared.tree.{Expr.Expr, Named.Named, Num.Num, ReadStmt.ReadStmt, ResultDecl.ResultDecl, Decl.Decl, Stmt.Stmt, StmtKind.StmtKind}
+use Rattle.std.proofs.Common.{◌≡◌, ◌∙◌, ℕ, zero, suc, ◌+◌, List, [], ◌∷◌, map, Option, Some, None, Bool, true, false, not, cond, eqb, refl, ap, sym, subst, arith}
+use Rattle.std.{proofs.lemmas.Bool.eqb-true, specs.Prelude.slice_get, specs.Prelude.get_or, specs.Prelude.unwrap_or, specs.Option.option_map, specs.List.list_any}
+use Rattle.kp_base.specs.{First.first, Refusal.e_rule, declared.place.Place.Place}
+use Rattle.kp_bits.specs.Word.{Word, word}
+use Rattle.kp_ast.specs.Expressions.{is_same_name, look_up}
+use Rattle.kp_ast.specs.declared.tree.{Expr.Expr, Named.Named, Num.Num, Decl.Decl, Stmt.Stmt}
 use Rattle.kp_ast.specs.declared.tree.Job.{Job}
-use Rattle.kp_ast.proofs.Levels.{fold-Lit, fold-Name, fold-Not, fold-Binary, fold-Mux, fold-Concat, fold-Slice, fold-Zext, fold-Sext, fold-Call}
-use Rattle.kp_ast.proofs.Induction.{Every, induction}
 use Rattle.kp_ast.specs.declared.tree.Decl.TheVariants as decls
-use Rattle.kp_ast.specs.declared.tree.StmtKind.TheVariants as stmts
-use Rattle.kp_width.proofs.Found.{none_of_two}
 use Rattle.kp_stage.specs.Facts.{Facts, facts_of, sample_at, stmts_in}
-use Rattle.kp_stage.specs.Rules.{holds_of, ask_name, ask_kind, ask_level, ask_expr, ask_option, ask_values, ask_guesses, ask_stmt, ask_stmts, all_rules}
-use Rattle.kp_stage.proofs.Unbroken.{first_none, answer_none}
-use Rattle.kp_pipeline.specs.{Machine.Tree, Machine.Done, Machine.Ask, Machine.Guess, Sequential.first_value}
-use Rattle.kp_machine.specs.Trees.{Progress, entered, holds, address_of, value_of, value_with_hints, with_value, with_name, with_put, with_set, with_aim, word_of, word_read, read_of, statement_of, tree_of}
-use Rattle.kp_machine.specs.Slots.{targets_of, pipes_of, hints_of, samples_of, sample_stages, number_of, words_from, words_of, result_named}
-use Rattle.kp_machine.{specs.Machine.stage_tree, proofs.Cases.by_test, proofs.LookUp.or_else, proofs.LookUp.look_up-append}
-
-none_of_three : (a b c : Answer) → first (a ∷ b ∷ c ∷ []) ≡ None → (a ≡ None) × (b ≡ None) × (c ≡ None)
-none_of_three None b c e = let h = none_of_two b c e in (refl, h.0, h.1)
-none_of_three (Some r) b c e = cc
+use Rattle.kp_stage.specs.Rules.{holds_of, ask_name, ask_expr, ask_values, ask_guesses, ask_stmt, ask_stmts, all_rules}
+use Rattle.kp_stage.specs.Uses.{exprs_in, uses}
+use Rattle.kp_stage.proofs.{Unbroken.first_none, Unbroken.answer_none, Names.either, Names.name_asked, Names.exprs_asked}
+use Rattle.kp_machine.specs.Trees.{entered}
+use Rattle.kp_machine.specs.Slots.{pipes_of, samples_of, sample_stages, words_from, words_of}
+use Rattle.kp_machine.{specs.Machine.stage_tree, proofs.Alike.alike_append, proofs.Alike.tree_same, proofs.Cases.by_test}
 
 not_twice : (b : Bool) → not (not b) ≡ true → b ≡ true
 not_twice true e = refl
@@ -49,183 +40,44 @@ same_words k (_ ∷ ds) i d q r n agree own = same_words k ds i d q r n agree ow
 
 module _ (facts : Facts) (k : ℕ) (rule : _) (is34 : slice_get all_rules 11 ≡ Some rule) where
   -- a name is no sample of another stage
-  abbrev Own : List ℕ → Type 0
-  Own n = not (holds_of (λ w. not (eqb w k)) (facts.sample n)) ≡ true
+  abbrev own : List ℕ → Bool
+  own n = not (holds_of (λ w. not (eqb w k)) (facts.sample n))
 
-  -- values that are alike for such names
-  abbrev Alike : Values → Values → Type 0
-  Alike v w = (n : List ℕ) → Own n → look_up v n ≡ look_up w n
+  own_name : (n : List ℕ) (at : Place) → ask_name facts rule k n at ≡ None → own n ≡ true
+  own_name n at e = answer_none (own n) (e_rule 34 at) (ap (λ o. unwrap_or (option_map (λ r. ask_name facts r k n at) o) None) is34 ∙ e)
 
-  own_name : (n : List ℕ) (at : Place) → ask_name facts rule k n at ≡ None → Own n
-  own_name n at e =
-      answer_none (not (holds_of (λ w. not (eqb w k)) (facts.sample n))) (e_rule 34 at) (ap (λ o. unwrap_or (option_map (λ r. ask_name facts r k n at) o) None) is34 ∙ e)
+  -- each name that is used
+  exprs_own : (es : List Expr) (n : List ℕ) → first (map (ask_expr facts rule k) es) ≡ None → list_any (uses n) es ≡ true → own n ≡ true
+  exprs_own [] n free u = cc
+  exprs_own (e ∷ es) n free u =
+      let both = first_none (ask_expr facts rule k e) (map (ask_expr facts rule k) es) free in
+      either (uses n e) (list_any (uses n) es) u (λ y. let a = name_asked facts rule k n e y both.0 in own_name n a.0 a.1) (λ y. exprs_own es n both.1 y)
 
-  alike_append : (v w x y : Values) → Alike v w → Alike x y → Alike (v ++ x) (w ++ y)
-  alike_append v w x y f g n own = look_up-append v x n ∙ (λ i. or_else (f n own i) (g n own i)) ∙ sym (look_up-append w y n)
-
-  module _ (ds : List Decl) where
-    module _ (v w : Values) (alike : Alike v w) where
-      abbrev a : Env
-      a = env_of ds v
-
-      abbrev b : Env
-      b = env_of ds w
-
-      abbrev Same : Expr → Type 0
-      Same e = ask_expr facts rule k e ≡ None → eval a e ≡ eval b e
-
-      all_same : (es : List Expr) → Every Same es → first (map (ask_expr facts rule k) es) ≡ None → map (eval a) es ≡ map (eval b) es
-      all_same [] hs free = refl
-      all_same (e ∷ es) hs free =
-          let n = first_none (ask_expr facts rule k e) (map (ask_expr facts rule k) es) free in
-          λ i. hs.0 n.0 i ∷ all_same es hs.1 n.1 i
-
-      -- an expression has one value
-      same_value : (e : Expr) → Same e
-      same_value = induction Same (record {
-        literal = λ p l free. fold-Lit _ _ (value_of_kind a) value_of_level p l ∙ sym (fold-Lit _ _ (value_of_kind b) value_of_level p l);
-        name = λ p q free.
-            let own = own_name q p (sym (fold-Name _ _ (ask_kind facts rule k) ask_level p q) ∙ free) in
-            fold-Name _ _ (value_of_kind a) value_of_level p q ∙ ap (λ o. unwrap_or o no_word) (alike q own) ∙ sym (fold-Name _ _ (value_of_kind b) value_of_level p q);
-        not_ = λ p x h free.
-            fold-Not _ _ (value_of_kind a) value_of_level p x ∙ ap not_of (h (sym (fold-Not _ _ (ask_kind facts rule k) ask_level p x) ∙ free))
-            ∙ sym (fold-Not _ _ (value_of_kind b) value_of_level p x);
-        binary = λ p op x y h g free.
-            let n = none_of_two (ask_expr facts rule k x) (ask_expr facts rule k y) (sym (fold-Binary _ _ (ask_kind facts rule k) ask_level p op x y) ∙ free) in
-            fold-Binary _ _ (value_of_kind a) value_of_level p op x y ∙ (λ i. binary_of op (h n.0 i) (g n.1 i))
-            ∙ sym (fold-Binary _ _ (value_of_kind b) value_of_level p op x y);
-        mux = λ p t x y f h g free.
-            let n = none_of_three (ask_expr facts rule k t) (ask_expr facts rule k x) (ask_expr facts rule k y) (sym (fold-Mux _ _ (ask_kind facts rule k) ask_level p t x y) ∙ free) in
-            fold-Mux _ _ (value_of_kind a) value_of_level p t x y ∙ (λ i. mux_of (f n.0 i) (h n.1 i) (g n.2 i))
-            ∙ sym (fold-Mux _ _ (value_of_kind b) value_of_level p t x y);
-        concat = λ p es hs free.
-            fold-Concat _ _ (value_of_kind a) value_of_level p es
-            ∙ ap joined_of (all_same es hs (sym (fold-Concat _ _ (ask_kind facts rule k) ask_level p es) ∙ free))
-            ∙ sym (fold-Concat _ _ (value_of_kind b) value_of_level p es);
-        slice = λ p x hi lo h free.
-            fold-Slice _ _ (value_of_kind a) value_of_level p x hi lo
-            ∙ ap (λ (z : Word). slice_of z hi lo) (h (sym (fold-Slice _ _ (ask_kind facts rule k) ask_level p x hi lo) ∙ free))
-            ∙ sym (fold-Slice _ _ (value_of_kind b) value_of_level p x hi lo);
-        zext = λ p x n h free.
-            fold-Zext _ _ (value_of_kind a) value_of_level p x n
-            ∙ ap (λ (z : Word). zext_of z n.value) (h (sym (fold-Zext _ _ (ask_kind facts rule k) ask_level p x n) ∙ free))
-            ∙ sym (fold-Zext _ _ (value_of_kind b) value_of_level p x n);
-        sext = λ p x n h free.
-            fold-Sext _ _ (value_of_kind a) value_of_level p x n
-            ∙ ap (λ (z : Word). sext_of z n.value) (h (sym (fold-Sext _ _ (ask_kind facts rule k) ask_level p x n) ∙ free))
-            ∙ sym (fold-Sext _ _ (value_of_kind b) value_of_level p x n);
-        call = λ p q es hs free.
-            fold-Call _ _ (value_of_kind a) value_of_level p q es
-            ∙ ap (a.calls q) (all_same es hs (sym (fold-Call _ _ (ask_kind facts rule k) ask_level p q es) ∙ free))
-            ∙ sym (fold-Call _ _ (value_of_kind b) value_of_level p q es);
-      })
-
-    -- what was done is one, but for the names of other stages' samples
-    record Matches (d e : Progress) : Type 0 where
-      names : Alike d.names e.names
-      puts : d.puts ≡ e.puts
-      sets : d.sets ≡ e.sets
-      aims : d.aims ≡ e.aims
-
-    with_name_matches : (d e : Progress) (n : List ℕ) (x y : Word) → Matches d e → x ≡ y → Matches (with_name d n x) (with_name e n y)
-    with_name_matches d e n x y h same = record {
-      names = alike_append d.names e.names ((n, x) ∷ []) ((n, y) ∷ []) h.names (λ m own i. look_up ((n, same i) ∷ []) m);
-      puts = h.puts;
-      sets = h.sets;
-      aims = h.aims;
-    }
-
-    with_put_matches : (d e : Progress) (p x y : ℕ) → Matches d e → x ≡ y → Matches (with_put d p x) (with_put e p y)
-    with_put_matches d e p x y h same = record { names = h.names; puts = λ i. with_value p (same i) (h.puts i); sets = h.sets; aims = h.aims }
-
-    with_set_matches : (d e : Progress) (o : Option ResultDecl) (x y : ℕ) → Matches d e → x ≡ y → Matches (with_set ds d o x) (with_set ds e o y)
-    with_set_matches d e None x y h same = h
-    with_set_matches d e (Some r) x y h same = record {
-      names = h.names;
-      puts = h.puts;
-      sets = λ i t. first_value (h.sets i t) (with_value (number_of (targets_of ds) r.target.name) (same i) (λ u. None) t);
-      aims = h.aims;
-    }
-
-    with_aim_matches : (d e : Progress) (n : ℕ) (x y : (ℕ → ℕ) → ℕ) → Matches d e → ((hints : ℕ → ℕ) → x hints ≡ y hints) → Matches (with_aim d n x) (with_aim e n y)
-    with_aim_matches d e n x y h same =
-        record { names = h.names; puts = h.puts; sets = h.sets; aims = λ i hints. with_value n (same hints i) (h.aims i hints) }
-
-    module _ (d e : Progress) (h : Matches d e) where
-      word_same : (x : Expr) → ask_expr facts rule k x ≡ None → word_of ds d x ≡ word_of ds e x
-      word_same x free = same_value d.names e.names h.names x free
-
-      value_same : (x : Expr) → ask_expr facts rule k x ≡ None → value_of ds d x ≡ value_of ds e x
-      value_same x free = ap (λ (z : Word). z.value) (word_same x free)
-
-      hinted_same : (x : Expr) → ask_expr facts rule k x ≡ None → (hints : ℕ → ℕ) → value_with_hints ds d x hints ≡ value_with_hints ds e x hints
-      hinted_same x free hints =
-          let own = words_of (hints_of ds) hints in
-          ap (λ (z : Word). z.value)
-          (same_value (d.names ++ own) (e.names ++ own) (alike_append d.names e.names own own h.names (λ n o. refl)) x free)
-
-      holds_same : (o : Option Expr) → ask_option facts rule k o ≡ None → holds ds d o ≡ holds ds e o
-      holds_same None free = refl
-      holds_same (Some x) free = ap (λ v. eqb v 1) (value_same x free)
-
-      address_same : (o : Option Expr) → ask_option facts rule k o ≡ None → address_of ds d o ≡ address_of ds e o
-      address_same None free = refl
-      address_same (Some x) free = value_same x free
-
-      read_same : (r : ReadStmt) (o : Option Expr) (f g : ℕ → Tree) → ask_option facts rule k r.address ≡ None → ask_option facts rule k o ≡ None
-          → ((v : ℕ) → f v ≡ g v) → read_of ds d r o f ≡ read_of ds e r o g
-      read_same r None f g address free same = λ i. Ask (number_of (targets_of ds) r.target.name) (address_same r.address address i) (λ v. same v i)
-      read_same r (Some x) f g address free same = λ i. Guess (number_of (targets_of ds) r.target.name) (λ hints. hinted_same x free hints i) (λ v. same v i)
-
-      -- a statement leaves one tree
-      statement_same : (s : StmtKind) (rest : Progress → Tree) → ask_values facts rule k s ≡ None → ask_guesses facts rule k s ≡ None
-          → ((x y : Progress) → Matches x y → rest x ≡ rest y) → statement_of ds d s rest ≡ statement_of ds e s rest
-      statement_same (stmts.Read r) rest free guess go =
-          let n = none_of_two (ask_option facts rule k r.address) (ask_option facts rule k r.when) free in
-          let next : (v : ℕ) → rest (with_name d r.name.name (word_read ds r v)) ≡ rest (with_name e r.name.name (word_read ds r v)) =
-          λ v. go _ _ (with_name_matches d e r.name.name (word_read ds r v) (word_read ds r v) h refl) in
-          let read = read_same r r.guess (λ v. rest (with_name d r.name.name (word_read ds r v))) (λ v. rest (with_name e r.name.name (word_read ds r v))) n.0 guess next in
-          λ i. cond (holds_same r.when n.1 i) (read i) (next 0 i)
-      statement_same (stmts.Let n x) rest free guess go = go _ _ (with_name_matches d e n.name (word_of ds d x) (word_of ds e x) h (word_same x free))
-      statement_same (stmts.Put n x) rest free guess go =
-          go _ _ (with_put_matches d e (number_of (pipes_of ds) n.name) (value_of ds d x) (value_of ds e x) h (value_same x free))
-      statement_same (stmts.Set n x when) rest free guess go =
-          let o = none_of_two (ask_expr facts rule k x) (ask_option facts rule k when) free in
-          let then_so = go _ _ (with_set_matches d e (result_named ds n.name) (value_of ds d x) (value_of ds e x) h (value_same x o.0)) in
-          λ i. cond (holds_same when o.1 i) (then_so i) (go d e h i)
-      statement_same (stmts.Aim n x) rest free guess go =
-          go _ _ (with_aim_matches d e (number_of (hints_of ds) n.name) (value_with_hints ds d x) (value_with_hints ds e x) h (hinted_same x guess))
-
-    -- the rule checks a statement's names in its values and in its guesses
-    both_free : (j : ℕ) (s : StmtKind) → ask_stmt facts rule k j s ≡ None → (ask_values facts rule k s ≡ None) × (ask_guesses facts rule k s ≡ None)
-    both_free j s free =
-        none_of_two (ask_values facts rule k s) (ask_guesses facts rule k s)
-        (sym (ap (λ o. unwrap_or (option_map (λ r. first (ask_values facts r k s ∷ ask_guesses facts r k s ∷ [])) o) None) is34)
-        ∙ ap (λ o. unwrap_or (option_map (λ r. ask_stmt facts r k j s) o) None) is34
-        ∙ free)
-
-    tree_same : (d e : Progress) (j : ℕ) (ss : List Stmt) → Matches d e → first (ask_stmts facts rule k j ss) ≡ None → tree_of ds d ss ≡ tree_of ds e ss
-    tree_same d e j [] h free = λ i. Done (h.puts i) (h.sets i) (h.aims i)
-    tree_same d e j (s ∷ ss) h free =
-        let n = first_none (ask_stmt facts rule k j s.kind) (ask_stmts facts rule k (j + 1) ss) free in
-        let both = both_free j s.kind n.0 in
-        statement_same d e h s.kind (λ next. tree_of ds next ss) both.0 both.1 (λ x y z. tree_same x y (j + 1) ss z n.1)
+  stmts_own : (j : ℕ) (ss : List Stmt) (n : List ℕ) → first (ask_stmts facts rule k j ss) ≡ None → list_any (λ (s : Stmt). list_any (uses n) (exprs_in s.kind)) ss ≡ true → own n ≡ true
+  stmts_own j [] n free u = cc
+  stmts_own j (s ∷ ss) n free u =
+      let both = first_none (ask_stmt facts rule k j s.kind) (ask_stmts facts rule k (j + 1) ss) free in
+      let here : first (ask_values facts rule k s.kind ∷ ask_guesses facts rule k s.kind ∷ []) ≡ None =
+      sym (ap (λ o. unwrap_or (option_map (λ r. first (ask_values facts r k s.kind ∷ ask_guesses facts r k s.kind ∷ [])) o) None) is34)
+      ∙ ap (λ o. unwrap_or (option_map (λ r. ask_stmt facts r k j s.kind) o) None) is34 ∙ both.0 in
+      either (list_any (uses n) (exprs_in s.kind)) _ u (λ y. exprs_own (exprs_in s.kind) n (exprs_asked facts rule k s.kind here) y) (λ y. stmts_own (j + 1) ss n both.1 y)
 
 -- the tree of a stage is one for rows that agree on its own samples
 pub own_samples : (job : Job) (k : ℕ) (rule : _) → slice_get all_rules 11 ≡ Some rule → first (ask_stmts (facts_of job) rule k 0 (stmts_in (slice_get job.blocks k))) ≡ None
     → (q r p : ℕ → ℕ) → ((x : ℕ) → get_or (sample_stages job.decls) x job.stages.value ≡ k → q x ≡ r x) → stage_tree job k q p ≡ stage_tree job k r p
 unfolding stage_tree
 own_samples job k rule is34 free q r p agree =
+    let test = own (facts_of job) k rule is34 in
     let pipes = words_of (pipes_of job.decls) p in
-    tree_same (facts_of job) k rule is34 job.decls (entered job.decls q p) (entered job.decls r p) 0 (stmts_in (slice_get job.blocks k))
+    tree_same test job.decls (entered job.decls q p) (entered job.decls r p) (stmts_in (slice_get job.blocks k))
     (record {
-      names = alike_append (facts_of job) k rule is34 pipes pipes (words_of (samples_of job.decls) q) (words_of (samples_of job.decls) r) (λ n own. refl)
-          (λ n own. same_words k job.decls 0 job.stages.value q r n (λ x e. let z : 0 + x ≡ x = omega arith in subst (λ j. q j ≡ r j) (sym z) (agree x e)) own);
+      names = alike_append test pipes pipes (words_of (samples_of job.decls) q) (words_of (samples_of job.decls) r) (λ n o. refl)
+          (λ n o. same_words k job.decls 0 job.stages.value q r n (λ x e. let z : 0 + x ≡ x = omega arith in subst (λ j. q j ≡ r j) (sym z) (agree x e)) o);
       puts = refl;
       sets = refl;
       aims = refl;
     })
-    free
+    (λ n u. stmts_own (facts_of job) k rule is34 0 (stmts_in (slice_get job.blocks k)) n free u)
 
 -- a sample has a declaration with its stage, or it is past them all
 pub sample_stands : {G : Type 0} (ds : List Decl) (x d : ℕ)
