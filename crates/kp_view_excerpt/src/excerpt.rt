@@ -1,7 +1,10 @@
 // A line of a text, with a mark under some of its bytes.
-ghost use Rattle.std.specs.Prelude.{◌≡◌, ◌≤◌, length};
+ghost use Rattle.std.specs.Prelude.{◌≡◌, ◌-◌, ◌≤◌, ◌++◌, OnOk, length, map};
+ghost use Rattle.kp_view_excerpt.specs.Excerpts.{Shows, bar, blanks, caret_text, carets, excerpt_text, help_text, is_first, printed, source_text, where_cut};
+ghost use Rattle.kp_view_excerpt.specs.Lines.{from_place, line_at};
+ghost use Rattle.kp_view_excerpt.specs.Tokens.{token_length};
 
-use crate::place::{line_length, start_of_line, token_length};
+use crate::place::{line_at, token_length};
 use kp_base::{NoMemory, Place};
 use std::alloc::Global;
 
@@ -36,15 +39,14 @@ impl<'t> Excerpt<'t> {
         ensures before { length result.before.now ≤ 400 }
         ensures marked { length result.marked.now ≤ 100 }
         ensures after { length result.after.now ≤ 200 }
+        ensures shows { Shows result place.line (line_at text.now place.line) (place.col - 1) (token_length (from_place text.now place)) }
     {
-        let start = start_of_line(text, place.line);
-        let rest = &text[start..];
-        let line = &rest[..line_length(rest)];
+        let line = line_at(text, place.line);
         let column = (place.col.saturating_sub(1) as usize).min(line.len());
         let (before, from) = line.split_at(column);
         let (_, before) = before.split_at(before.len().saturating_sub(BEFORE));
         let (marked, after) = from.split_at(token_length(from).min(MARKED));
-        let (after, rest) = after.split_at(after.len().min(AFTER));
+        let (after, rest) = after.split_at(AFTER.min(after.len()));
         Excerpt {
             line: place.line,
             begins_late: before.len() < column,
@@ -56,104 +58,133 @@ impl<'t> Excerpt<'t> {
     }
 
     /// Appends the excerpt: an empty line, the line, and a line with carets.
-    pub fn write(&self, alloc: Global, out: &mut Vec<u8>) -> Result<(), NoMemory> {
+    #[tactic(auto, unfolding(crate::specs::Excerpts::excerpt_text), using(std::proofs::Common::append_assoc))]
+    pub fn write(&self, alloc: Global, out: &mut Vec<u8>) -> Result<(), NoMemory>
+        ensures { OnOk result (out.new.items ≡ out.old.items ++ excerpt_text self.now) }
+    {
         let line = self.line;
         let number = format!(in alloc; "{line}")?;
-        margin(out, number.len())?;
-        out.extend_from_slice(b" |\n")?;
-        out.extend_from_slice(number.as_bytes())?;
+        let digits = number.as_bytes();
+        write_bar(out, digits, b" |\n")?;
+        out.extend_from_slice(digits)?;
         out.extend_from_slice(b" | ")?;
         self.write_line(out)?;
-        margin(out, number.len())?;
-        out.extend_from_slice(b" | ")?;
+        write_bar(out, digits, b" | ")?;
         self.write_carets(out)
     }
 
     // The line, or the part of it that is shown.
-    fn write_line(&self, out: &mut Vec<u8>) -> Result<(), NoMemory> {
-        if self.begins_late {
-            out.extend_from_slice(b"...")?;
-        }
+    #[tactic(auto, using(std::proofs::Common::append_assoc))]
+    fn write_line(&self, out: &mut Vec<u8>) -> Result<(), NoMemory>
+        ensures { OnOk result (out.new.items ≡ out.old.items ++ source_text self.now) }
+    {
+        write_cut(out, self.begins_late, b"...")?;
         write_source(out, self.before)?;
         write_source(out, self.marked)?;
         write_source(out, self.after)?;
-        if self.ends_early {
-            out.extend_from_slice(b"...")?;
-        }
-        out.extend_from_slice(b"\n")?;
+        write_cut(out, self.ends_early, b"...")?;
+        out.push(b'\n')?;
         Ok(())
     }
 
     // The line below it.
-    fn write_carets(&self, out: &mut Vec<u8>) -> Result<(), NoMemory> {
-        if self.begins_late {
-            margin(out, 3)?;
-        }
-        write_layout(out, self.before)?;
-        carets(out, self.marked)?;
-        out.extend_from_slice(b"\n")?;
+    #[tactic(auto, using(std::proofs::Common::append_assoc))]
+    fn write_carets(&self, out: &mut Vec<u8>) -> Result<(), NoMemory>
+        ensures { OnOk result (out.new.items ≡ out.old.items ++ caret_text self.now) }
+    {
+        write_cut(out, self.begins_late, b"   ")?;
+        write_blanks(out, self.before)?;
+        write_marks(out, self.marked)?;
+        out.push(b'\n')?;
         Ok(())
     }
 
     /// Appends a line of help.
-    pub fn write_help(&self, alloc: Global, out: &mut Vec<u8>, help: &str) -> Result<(), NoMemory> {
+    #[tactic(auto, unfolding(crate::specs::Excerpts::help_text), using(std::proofs::Common::append_assoc))]
+    pub fn write_help(&self, alloc: Global, out: &mut Vec<u8>, help: &str) -> Result<(), NoMemory>
+        ensures { OnOk result (out.new.items ≡ out.old.items ++ help_text self.now.line help.now) }
+    {
         let line = self.line;
         let number = format!(in alloc; "{line}")?;
-        margin(out, number.len())?;
-        out.extend_from_slice(b" = ")?;
+        write_bar(out, number.as_bytes(), b" = ")?;
         out.extend_from_slice(help.as_bytes())?;
-        out.extend_from_slice(b"\n")?;
+        out.push(b'\n')?;
         Ok(())
     }
 }
 
-// As wide as these bytes are shown: tabs and spaces.
-fn write_layout(out: &mut Vec<u8>, bytes: &[u8]) -> Result<(), NoMemory> {
+// A sign, after blanks as wide as a number.
+#[tactic(auto, using(std::proofs::Common::append_assoc))]
+fn write_bar(out: &mut Vec<u8>, digits: &[u8], sign: &[u8]) -> Result<(), NoMemory>
+    ensures { OnOk result (out.new.items ≡ out.old.items ++ bar digits.now sign.now) }
+{
+    write_blanks(out, digits)?;
+    out.extend_from_slice(sign)?;
+    Ok(())
+}
+
+// A text where the line is cut.
+fn write_cut(out: &mut Vec<u8>, cut: bool, text: &[u8]) -> Result<(), NoMemory>
+    ensures { OnOk result (out.new.items ≡ out.old.items ++ where_cut cut text.now) }
+{
+    if cut {
+        out.extend_from_slice(text)?;
+    }
+    Ok(())
+}
+
+// Below each character a space, and below a tab a tab.
+fn write_blanks(out: &mut Vec<u8>, bytes: &[u8]) -> Result<(), NoMemory>
+    ensures { OnOk result (out.new.items ≡ out.old.items ++ blanks bytes.now) }
+{
     for byte in bytes {
-        if *byte == b'\t' {
-            out.push(b'\t')?;
-        } else if !is_inner(*byte) {
-            out.push(b' ')?;
+        if is_first(*byte) {
+            out.push(if *byte == b'\t' { b'\t' } else { b' ' })?;
         }
     }
     Ok(())
 }
 
-// Spaces.
-fn margin(out: &mut Vec<u8>, width: usize) -> Result<(), NoMemory> {
-    for _ in 0..width {
-        out.push(b' ')?;
-    }
-    Ok(())
-}
-
-// A caret for each byte that is printed, one at least.
-fn carets(out: &mut Vec<u8>, marked: &[u8]) -> Result<(), NoMemory> {
+// Below each character a caret, and one where no byte is marked.
+fn write_marks(out: &mut Vec<u8>, marked: &[u8]) -> Result<(), NoMemory>
+    ensures { OnOk result (out.new.items ≡ out.old.items ++ carets marked.now) }
+{
     if marked.is_empty() {
         out.push(b'^')?;
+        return Ok(());
     }
     for byte in marked {
-        if !is_inner(*byte) {
+        if is_first(*byte) {
             out.push(b'^')?;
         }
     }
     Ok(())
 }
 
-// A byte of a UTF-8 character other than its first.
-fn is_inner(byte: u8) -> bool {
-    byte >= 0x80 && byte < 0xc0
+// Any byte of a character in UTF-8 except its first is 128 to 191.
+fn is_first(byte: u8) -> bool
+    ensures { result ≡ is_first byte }
+{
+    !(128..192).contains(&byte)
 }
 
-// The bytes of a source line, with `?` for those that control a terminal.
-fn write_source(out: &mut Vec<u8>, bytes: &[u8]) -> Result<(), NoMemory> {
+// The bytes of a source line.
+fn write_source(out: &mut Vec<u8>, bytes: &[u8]) -> Result<(), NoMemory>
+    ensures { OnOk result (out.new.items ≡ out.old.items ++ map printed bytes.now) }
+{
     for byte in bytes {
-        let shown = if (*byte < 0x20 && *byte != b'\t') || *byte == 0x7f {
-            b'?'
-        } else {
-            *byte
-        };
-        out.push(shown)?;
+        out.push(printed(*byte))?;
     }
     Ok(())
+}
+
+// A byte as it is printed: `?` for one that controls a terminal, except a tab.
+fn printed(byte: u8) -> u8
+    ensures { result ≡ printed byte }
+{
+    if (byte < 0x20 && byte != b'\t') || byte == 0x7f {
+        b'?'
+    } else {
+        byte
+    }
 }

@@ -7,4 +7,4 @@ mod excerpt;
 mod place;
 
 pub use excerpt::Excerpt;
-pub use place::offset_of;
+pub use place::{line_from, offset_of};

@@ -1,8 +1,10 @@
 // What is said of a violated rule after its head.
-ghost use Rattle.std.specs.Prelude.{◌≤◌, length};
+ghost use Rattle.std.specs.Prelude.{◌≡◌, ◌-◌, ◌≤◌, OnOk, length};
+ghost use Rattle.kp_view_excerpt.specs.{Excerpts.Shows, Lines.line_at};
+ghost use Rattle.kp_view_note.specs.Faults.{AppendsFault};
 
-use kp_base::{NoMemory, Place, run_length};
-use kp_view_excerpt::{Excerpt, offset_of};
+use kp_base::{NoMemory, Place};
+use kp_view_excerpt::{Excerpt, line_from};
 use std::alloc::Global;
 use std::fmt;
 
@@ -13,13 +15,13 @@ const AFTER: usize = 200;
 
 /// The excerpt at a place of a text, with a mark under this many bytes: as far as the line goes, and at most 100.
 pub fn excerpt_at<'t>(text: &'t [u8], place: Place, count: usize) -> Excerpt<'t>
-    ensures { length result.marked.now ≤ count }
+    ensures marked { length result.marked.now ≤ count }
+    ensures shows { Shows result place.line (line_at text.now place.line) (place.col - 1) count }
 {
     let excerpt = Excerpt::at(text, place);
-    let (_before, rest) = text.split_at(offset_of(text, place));
-    let (line, _rest) = rest.split_at(run_length(rest, |byte| !matches!(byte, b'\n' | b'\r')));
+    let line = line_from(text, place);
     let (marked, after) = line.split_at(line.len().min(count).min(MARKED));
-    let (after, rest) = after.split_at(after.len().min(AFTER));
+    let (after, rest) = after.split_at(AFTER.min(after.len()));
     Excerpt {
         line: excerpt.line,
         begins_late: excerpt.begins_late,
@@ -37,14 +39,17 @@ pub fn write_fault<M: fmt::Display, H: fmt::Display>(
     excerpt: &Excerpt<'_>,
     message: &M,
     help: &Option<H>,
-) -> Result<(), NoMemory> {
-    let message = format!(in alloc; "{message}\n")?;
-    out.extend_from_slice(message.as_bytes())?;
+) -> Result<(), NoMemory>
+    ensures { OnOk result (AppendsFault excerpt.now (M.output message.now) H.output help.now out.old.items out.new.items) }
+{
+    let sentence = message.to_string(alloc)?;
+    out.extend_from_slice(sentence.as_bytes())?;
+    out.push(b'\n')?;
     excerpt.write(alloc, out)?;
     match help {
         Some(help) => {
-            let help = format!(in alloc; "{help}")?;
-            excerpt.write_help(alloc, out, help.as_str())
+            let advice = help.to_string(alloc)?;
+            excerpt.write_help(alloc, out, advice.as_str())
         }
         None => Ok(()),
     }

@@ -1,0 +1,7 @@
+use Rattle.std.proofs.Common.{◌≡◌, ◌++◌, map, drop}
+use Rattle.std.specs.Prelude.{filter}
+use Rattle.kp_view_excerpt.specs.Excerpts.{is_first}
+use Rattle.kp_view_excerpt.proofs.excerpt.write_marks.Given as goal
+
+abbrev pub invariant-loop-byte : goal.invariant-loop-byte
+invariant-loop-byte l = l.out.items ++ map (λ b. 94) (filter is_first (drop l.byte-index l.marked)) ≡ l.initial.out.items ++ map (λ b. 94) (filter is_first l.marked)
