@@ -6,7 +6,7 @@ abbrev pub last : ℕ → List ℕ → List ℕ
 last n bytes = drop (length bytes - n) bytes
 
 -- THE EXCERPT of a line with a mark under `count` bytes from `column` on: at most 400 bytes before the mark, 100 under it and 200 after it.
-pub record Shows (e : Excerpt) (number : ℕ) (source : List ℕ) (column count : ℕ) : Type 0 where
+pub record IsExcerpt (e : Excerpt) (number : ℕ) (source : List ℕ) (column count : ℕ) : Type 0 where
   pub line : e.line ≡ number
   pub begins_late : e.begins_late ≡ ltb 400 (length (take column source))
   pub before : e.before.now ≡ last 400 (take column source)

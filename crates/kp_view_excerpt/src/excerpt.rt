@@ -1,6 +1,6 @@
 // A line of a text, with a mark under some of its bytes.
 ghost use Rattle.std.specs.Prelude.{◌≡◌, ◌-◌, ◌≤◌, ◌++◌, OnOk, length, map};
-ghost use Rattle.kp_view_excerpt.specs.Excerpts.{Shows, bar, blanks, caret_text, carets, excerpt_text, help_text, is_first, printed, source_text, where_cut};
+ghost use Rattle.kp_view_excerpt.specs.Excerpts.{IsExcerpt, bar, blanks, caret_text, carets, excerpt_text, help_text, is_first, printed, source_text, where_cut};
 ghost use Rattle.kp_view_excerpt.specs.Lines.{from_place, line_at};
 ghost use Rattle.kp_view_excerpt.specs.Tokens.{token_length};
 
@@ -39,7 +39,7 @@ impl<'t> Excerpt<'t> {
         ensures before { length result.before.now ≤ 400 }
         ensures marked { length result.marked.now ≤ 100 }
         ensures after { length result.after.now ≤ 200 }
-        ensures shows { Shows result place.line (line_at text.now place.line) (place.col - 1) (token_length (from_place text.now place)) }
+        ensures shows { IsExcerpt result place.line (line_at text.now place.line) (place.col - 1) (token_length (from_place text.now place)) }
     {
         let line = line_at(text, place.line);
         let column = (place.col.saturating_sub(1) as usize).min(line.len());

@@ -1,6 +1,6 @@
 // What is said of a violated rule after its head.
 ghost use Rattle.std.specs.Prelude.{◌≡◌, ◌-◌, ◌≤◌, OnOk, length};
-ghost use Rattle.kp_view_excerpt.specs.{Excerpts.Shows, Lines.line_at};
+ghost use Rattle.kp_view_excerpt.specs.{Excerpts.IsExcerpt, Lines.line_at};
 ghost use Rattle.kp_view_note.specs.Faults.{AppendsFault};
 
 use kp_base::{NoMemory, Place};
@@ -16,7 +16,7 @@ const AFTER: usize = 200;
 /// The excerpt at a place of a text, with a mark under this many bytes: as far as the line goes, and at most 100.
 pub fn excerpt_at<'t>(text: &'t [u8], place: Place, count: usize) -> Excerpt<'t>
     ensures marked { length result.marked.now ≤ count }
-    ensures shows { Shows result place.line (line_at text.now place.line) (place.col - 1) count }
+    ensures shows { IsExcerpt result place.line (line_at text.now place.line) (place.col - 1) count }
 {
     let excerpt = Excerpt::at(text, place);
     let line = line_from(text, place);
