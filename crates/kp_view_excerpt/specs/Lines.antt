@@ -1,5 +1,5 @@
 -- The lines of a text, counted from 1, and the offset of a place.
-use Rattle.std.specs.Prelude.{ℕ, zero, suc, ◌+◌, ◌-◌, ◌==◌, ◌||◌, not, min, Bool, List, [], ◌∷◌, length, take, drop, if◌then◌else◌}
+use Rattle.std.specs.Prelude.{◌≡◌, ◌⊎◌, ℕ, zero, suc, ◌+◌, ◌-◌, ◌==◌, ◌||◌, not, min, Bool, true, List, [], ◌∷◌, ◌++◌, length, take, drop, All, if◌then◌else◌}
 use Rattle.kp_base.specs.{Characters.run_length, declared.place.Place.Place}
 
 -- what follows the first n line feeds: nothing where there are fewer
@@ -27,3 +27,11 @@ from_place text place = drop (place.col - 1) (line_at text place.line)
 -- THE OFFSET of a place: of its line, and the bytes of the line before it.
 abbrev pub offset_at : List ℕ → Place → ℕ
 offset_at text place = (length text - length (after_lines (place.line - 1) text)) + min (place.col - 1) (length (line_at text place.line))
+
+-- complete lines, to a line feed
+abbrev pub AreLines : List ℕ → Type 0
+AreLines text = (text ≡ []) ⊎ ((front : List ℕ) × (text ≡ front ++ 10 ∷ []))
+
+-- a part of a line
+abbrev pub IsInLine : List ℕ → Type 0
+IsInLine text = All (λ byte. is_in_line byte ≡ true) text

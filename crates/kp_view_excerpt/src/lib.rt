@@ -4,6 +4,7 @@
 #![tactic(auto)]
 
 mod excerpt;
+pub mod laws;
 mod place;
 
 pub use excerpt::Excerpt;
