@@ -1,12 +1,13 @@
 -- The numbers in the stages of a run of a machine stay close together.
 use Rattle.std.proofs.Common.{◌≡◌, ℕ, zero, suc, ◌+◌, ◌-◌, ◌<◌, ◌≤◌, List, [], ◌∷◌, Option, take, length, get_or, refl, ap, arith, Bool, true, false, ⊎_elim}
-use Rattle.std.{specs.List.AllByRecursion, proofs.lemmas.Bool.cases_Bool, proofs.lemmas.Bool.cases_lt, proofs.lemmas.Bool.false≢true}
+use Rattle.std.{specs.List.AllByRecursion, proofs.lemmas.Bool.cases_lt, proofs.lemmas.Bool.false≢true}
 use Rattle.kp_pipeline.specs.{Accepted.Accepted, Claims.StandsBefore, Machine.Machine, Sequential.PendingGuess}
 use Rattle.kp_pipeline.specs.Pipeline.{Inputs, PipelineState, above, back, cycle, pipeline_start, some_differs, ue}
 use Rattle.kp_pipeline.specs.Rows.{Row, count_after, counts, counts_from, one_if, pipe, row, rows_from, state_after}
 use Rattle.kp_pipeline.proofs.{Counts.AgreeBelow, Counts.counts-chain, Counts.counts-row, Invariant.Shape}
 use Rattle.kp_pipeline.proofs.{Movement.count-one, Movement.count-stays, Movement.next_count, NextState.back-mismatch, Pending.shape-kept, Pending.shape-start}
 use Rattle.kp_stalls_run.specs.inner.Running.{StaysClose}
+use Rattle.kp_machine.proofs.Cases.{by_test}
 
 -- neighbours differ by at most one
 module _ (c : ℕ → ℕ) (n : ℕ) (chain : (k : ℕ) → suc k < n → (c (suc k) ≤ c k) × (c k ≤ c (suc k) + 1)) where
@@ -26,20 +27,18 @@ mismatch_below : (m : Machine) (acc : Accepted m) (view : ℕ → ℕ → Option
     → AllByRecursion (StandsBefore m r) xs → suc r < m.stages
 mismatch_below m acc view r [] e h = absurd (false≢true e)
 mismatch_below m acc view r (x ∷ xs) e h =
-    let has = h.0.0 in
     let before : r < m.write_stage x.register = h.0.1 in
-    let within : m.write_stage x.register < m.stages = acc.writes x.register has in
+    let within : m.write_stage x.register < m.stages = acc.writes x.register h.0.0 in
     omega (arith, before, within)
 
 last_kept : (m : Machine) (acc : Accepted m) (st : PipelineState) (i : Inputs) (count : ℕ → ℕ) → Shape m st count → (k : ℕ) → suc k ≡ m.stages
     → count k ≤ next_count m st i count k
-last_kept m acc st i count shape k e = ⊎_elim
-    (λ (u : ue m st i k ≡ true). let x : next_count m st i count k ≡ suc (count k) = count-one m st i count shape.chain k (omega (arith, e)) u in omega (arith, x))
-    (λ (u : ue m st i k ≡ false). ⊎_elim
+last_kept m acc st i count shape k e = by_test (ue m st i k)
+    (λ u. let x : next_count m st i count k ≡ suc (count k) = count-one m st i count shape.chain k (omega (arith, e)) u in omega (arith, x))
+    (λ u. ⊎_elim
     (λ (q : k < back m st i). swept (back m st i - 1) (omega (arith, q)) q)
     (λ (q : back m st i ≤ k). let x : next_count m st i count k ≡ count k = count-stays m st i count k q u in omega (arith, x))
     (cases_lt k (back m st i)))
-    (cases_Bool (ue m st i k))
   where
     swept : (r : ℕ) → back m st i ≡ suc r → k < back m st i → count k ≤ next_count m st i count k
     swept r f q =

@@ -1,8 +1,8 @@
 -- Names and entries by their indices.
-use Rattle.std.proofs.Common.{◌≡◌, ◌∙◌, ℕ, zero, suc, ◌<◌, ◌≤◌, Bool, true, false, cond, ◌||◌, List, [], ◌∷◌, take, length, get_or, map, refl, ap, sym, subst, arith, ⊎_elim}
-use Rattle.std.proofs.lemmas.{Bool.cases_Bool, Bool.eq-eqb, Bool.false≢true, List.length-take-le, List.Filters.length-filter_both}
+use Rattle.std.proofs.Common.{◌≡◌, ◌∙◌, ℕ, zero, suc, ◌<◌, ◌≤◌, Bool, true, false, cond, List, [], ◌∷◌, take, length, get_or, map, refl, ap, sym, subst, arith}
+use Rattle.std.proofs.lemmas.{Bool.eq-eqb, Bool.or_parts, List.length-take-le, List.Filters.length-filter_both}
 use Rattle.std.specs.{List.filter, Prelude.not}
-use Rattle.kp_machine.specs.{Slots.Slot, Slots.is_register, Machine.files_before}
+use Rattle.kp_machine.{specs.Slots.Slot, specs.Slots.is_register, specs.Machine.files_before, proofs.Cases.by_test}
 use Rattle.kp_net.specs.Names.{same, among, Differ}
 use Rattle.kp_synth_spec.specs.Naming.{place_among}
 
@@ -18,10 +18,9 @@ passes_first p x xs d e = record {
 }
 
 passes_behind : {X : Type 0} (p : X → Bool) (x : X) (xs : List X) (t : ℕ) (d : X) → PassesAt p xs t d → PassesAt p (x ∷ xs) (suc t) d
-passes_behind p x xs t d h = ⊎_elim
-    (λ (b : p x ≡ true). let f = h.few in record { few = rw b (omega (arith, f)); here = rw b h.here })
-    (λ (b : p x ≡ false). record { few = rw b h.few; here = rw b h.here })
-    (cases_Bool (p x))
+passes_behind p x xs t d h = by_test (p x)
+    (λ b. let f = h.few in record { few = rw b (omega (arith, f)); here = rw b h.here })
+    (λ b. record { few = rw b h.few; here = rw b h.here })
 
 pub passes_at : {X : Type 0} (p : X → Bool) (xs : List X) (t : ℕ) (d : X) → t < length xs → p (get_or xs t d) ≡ true → PassesAt p xs t d
 passes_at p [] t d l e = absurd (omega arith)
@@ -46,28 +45,19 @@ from_first p x xs (suc i) d b l more = later p x xs i (suc i) d (more i (omega (
 
 pub comes_from : {X : Type 0} (p : X → Bool) (xs : List X) (i : ℕ) (d : X) → i < length (filter p xs) → ComesFrom p xs i d
 comes_from p [] i d l = absurd (omega (arith, l))
-comes_from p (x ∷ xs) i d l = ⊎_elim
-    (λ (b : p x ≡ true). from_first p x xs i d b (subst (λ (y : Bool). i < length (cond y (x ∷ filter p xs) (filter p xs))) b l) (λ k h. comes_from p xs k d h))
-    (λ (b : p x ≡ false). later p x xs i i d (comes_from p xs i d (subst (λ (y : Bool). i < length (cond y (x ∷ filter p xs) (filter p xs))) b l)) (rw b refl))
-    (cases_Bool (p x))
+comes_from p (x ∷ xs) i d l = by_test (p x)
+    (λ b. from_first p x xs i d b (subst (λ (y : Bool). i < length (cond y (x ∷ filter p xs) (filter p xs))) b l) (λ k h. comes_from p xs k d h))
+    (λ b. later p x xs i i d (comes_from p xs i d (subst (λ (y : Bool). i < length (cond y (x ∷ filter p xs) (filter p xs))) b l)) (rw b refl))
 
 -- distinct names by their indices
-left_false : (a b : Bool) → (a || b) ≡ false → a ≡ false
-left_false false b h = refl
-left_false true b h = h
-
-right_false : (a b : Bool) → (a || b) ≡ false → b ≡ false
-right_false false b h = h
-right_false true b h = absurd (false≢true (sym h))
-
 same_refl : (n : List ℕ) → same n n ≡ true
 same_refl [] = refl
 same_refl (x ∷ xs) = rw (eq-eqb x x refl) (same_refl xs)
 
 apart_at : (ns : List (List ℕ)) (n : List ℕ) (i : ℕ) → among ns n ≡ false → i < length ns → same n (get_or ns i []) ≡ false
 apart_at [] n i h l = absurd (omega arith)
-apart_at (k ∷ ks) n zero h l = left_false (same n k) (among ks n) h
-apart_at (k ∷ ks) n (suc i) h l = apart_at ks n i (right_false (same n k) (among ks n) h) (omega arith)
+apart_at (k ∷ ks) n zero h l = (or_parts (same n k) (among ks n) h).0
+apart_at (k ∷ ks) n (suc i) h l = apart_at ks n i (or_parts (same n k) (among ks n) h).1 (omega arith)
 
 pub stands_at : (ns : List (List ℕ)) (i : ℕ) → Differ ns → i < length ns → place_among ns (get_or ns i []) ≡ i
 stands_at [] i h l = absurd (omega arith)

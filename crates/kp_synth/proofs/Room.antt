@@ -1,6 +1,6 @@
 -- The capacity for the nodes.
-use Rattle.std.proofs.Common.{ap, ◌≡◌, ℕ, zero, suc, ◌+◌, ◌*◌, ◌≤◌, [], length, None, arith}
-use Rattle.std.proofs.Math.Nat.{suc-mul}
+use Rattle.std.proofs.Common.{ap, ◌≡◌, ℕ, ◌+◌, ◌*◌, ◌≤◌, [], length, None, arith}
+use Rattle.std.proofs.Math.Nat.{mul-le-mul}
 use Rattle.kp_ast.specs.declared.tree.Job.{Job}
 use Rattle.kp_width.{specs.Widths.widths_of, proofs.Unbroken.Unbroken}
 use Rattle.kp_stage.specs.{Counts.summary_of, Stages.broken_of}
@@ -13,15 +13,7 @@ use Rattle.kp_synth.specs.inner.Rooms.{reading_room, inside_room, closing_room}
 
 -- a product of small numbers is small
 pub times_few : (a b : ℕ) → a ≤ 12 → b ≤ 4096 → a * b ≤ 49152
-times_few a b l h = go a 12 l
-  where
-    go : (a k : ℕ) → a ≤ k → a * b ≤ k * 4096
-    go zero k l = omega arith
-    go (suc a) zero l = absurd (omega (arith, l))
-    go (suc a) (suc k) l =
-        let r = go a k (omega (arith, l)) in
-        let x : suc a * b ≡ a * b + b = suc-mul a b in
-        omega (arith, r, x, h)
+times_few a b l h = let p : a * b ≤ 12 * 4096 = mul-le-mul l h in omega (arith, p)
 
 -- the bound is enough for all
 pub enough : (job : Job) → Unbroken (widths_of job) → broken_of job ≡ None → reading_room job + inside_room job + closing_room job ≤ node_bound (summary_of job)
