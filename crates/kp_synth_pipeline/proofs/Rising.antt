@@ -1,6 +1,6 @@
 -- The rows of all targets, of which the first are done.
 use Rattle.std.proofs.Common.{◌≡◌, ◌∙◌, ℕ, zero, suc, ◌+◌, ◌<◌, ◌≤◌, cond, List, [], ◌∷◌, length, get_or, slice_set, Option, Some, None, refl, sym, ap, subst, arith, ◌⊎◌, inl, inr, ⊎_elim}
-use Rattle.std.{proofs.lemmas.Bool.cases_eq, specs.Prelude.slice_get}
+use Rattle.std.{proofs.lemmas.Bool.cases_eq, proofs.lemmas.List.length-set, specs.Prelude.slice_get}
 use Rattle.kp_ast.specs.declared.tree.Job.{Job}
 use Rattle.kp_pipeline.specs.Pipeline.{candidate_hits, forwarded}
 use Rattle.kp_machine.specs.{Machine.machine_of, Slots.targets_of}
@@ -40,11 +40,6 @@ set_cases ss t u s' x e = ⊎_elim
     (λ z. inl (z, get_set_same ss t x s' (ap (slice_get (slice_set ss t s')) (sym z) ∙ e)))
     (λ d. inr (d, sym (get_set_other ss t u s' d) ∙ e)) (cases_eq u t)
 
-set_count : (ss : List Source) (t : ℕ) (s' : Source) → length (slice_set ss t s') ≡ length ss
-set_count [] t s' = refl
-set_count (x ∷ xs) zero s' = refl
-set_count (x ∷ xs) (suc t) s' = ap (λ (n : ℕ). suc n) (set_count xs t s')
-
 pub nearer_kept : (job : Job) (k t : ℕ) (p q r : Held) (m : ℕ) (s s' : Source) → Kept q r m → SourceOk job q t s' → Nearer job k t p s q s' → Nearer job k t p s r s'
 unfolding Nearer
 nearer_kept job k t p q r m s s' g ok near = λ c st i h a l. source_view_kept job c q r m t s' a g ok ∙ near c st i h a l
@@ -75,7 +70,7 @@ module _ (job : Job) (k t : ℕ) (p q r : Held) (m n : ℕ) (g : Kept p q m) (g'
     (was : SourcesOk job p os) (ok : SourcesOk job q ss) (same : SameFrom t os ss) (ok' : SourceOk job r t s') where
   pub ok_set : SourcesOk job r (slice_set ss t s')
   ok_set = record {
-    count = set_count ss t s' ∙ ok.count;
+    count = length-set ss t s' ∙ ok.count;
     each = λ u x e. ⊎_elim
         (λ z. subst (λ (w : Source). SourceOk job r u w) (sym z.1) (subst (λ (w : ℕ). SourceOk job r w s') (sym z.0) ok'))
         (λ z. source_kept job q r n u x g' (ok.each u x z.1))

@@ -1,7 +1,8 @@
 -- The bound on the nodes of the stages, below what the registers and the ends of the netlist leave of the bound on all nodes.
 use Rattle.std.proofs.Common.{◌≡◌, ◌∙◌, ℕ, zero, suc, ◌+◌, ◌*◌, ◌≤◌, List, [], ◌∷◌, length, Some, None, Bool, true, false, cond, ◌||◌, refl, sym, ap, subst, arith}
-use Rattle.std.proofs.{Math.Nat.suc-mul, Math.Nat.mul-add, Math.Nat.mul_comm, Math.Nat.mul_left_comm, lemmas.List.Sums.sum_by-cons}
-use Rattle.std.specs.{Prelude.slice_get, Prelude.sum_by, Cmp.Lexicographic.bytes_decides}
+use Rattle.std.proofs.Math.Nat.{suc-mul, mul-add, mul_comm, mul_left_comm}
+use Rattle.std.{proofs.lemmas.List.Sums.sum_by-cons, proofs.lemmas.List.Sums.sum_by-le-sum_by, specs.Prelude.slice_get, specs.Prelude.sum_by}
+use Rattle.std.specs.Cmp.Lexicographic.{bytes_decides}
 use Rattle.kp_ast.specs.{Expressions.is_same_name, declared.tree.ResultDecl.ResultDecl, declared.tree.Decl.Decl, declared.tree.Stmt.Stmt}
 use Rattle.kp_ast.specs.declared.tree.{StmtKind.StmtKind, Block.Block, Job.Job}
 use Rattle.kp_ast.specs.declared.tree.Decl.TheVariants as decls
@@ -58,18 +59,10 @@ hit_few ss (decls.Target r) = one_few (some_set r.name.name ss)
 hit_few ss _ = omega arith
 
 hits_more : (s : Stmt) (ss : List Stmt) (ds : List Decl) → hits ss ds ≤ hits (s ∷ ss) ds
-hits_more s ss [] = omega arith
-hits_more s ss (d ∷ ds) =
-    let here = hit_more s ss d in
-    let more = hits_more s ss ds in
-    omega (arith, here, more, sum_by-cons (is_hit ss) d ds, sum_by-cons (is_hit (s ∷ ss)) d ds)
+hits_more s ss ds = sum_by-le-sum_by (is_hit ss) (is_hit (s ∷ ss)) ds (hit_more s ss)
 
 hits_few : (ss : List Stmt) (ds : List Decl) → hits ss ds ≤ sum_by results_in ds
-hits_few ss [] = omega arith
-hits_few ss (d ∷ ds) =
-    let here = hit_few ss d in
-    let more = hits_few ss ds in
-    omega (arith, here, more, sum_by-cons (is_hit ss) d ds, sum_by-cons results_in d ds)
+hits_few ss ds = sum_by-le-sum_by (is_hit ss) results_in ds (hit_few ss)
 
 -- a result that wasn't set
 hit_new : (s : Stmt) (ss : List Stmt) (q n : List ℕ) → q ≡ n → sets q s.kind ≡ true → some_set q ss ≡ false → one (some_set n ss) + 1 ≤ one (some_set n (s ∷ ss))

@@ -1,5 +1,5 @@
 -- What the rules of the language guarantee: a block for each stage, and guesses of registers alone.
-use Rattle.std.proofs.Common.{◌≡◌, ◌∙◌, ℕ, zero, suc, ◌+◌, ◌<◌, List, [], ◌∷◌, length, get_or, Option, Some, None, refl, sym, ap, subst, arith}
+use Rattle.std.proofs.Common.{◌≡◌, ◌∙◌, ℕ, suc, ◌+◌, List, [], ◌∷◌, Option, Some, None, refl, sym, ap, subst, arith}
 use Rattle.std.specs.{Prelude.slice_get, List.AllByRecursion}
 use Rattle.kp_ast.specs.declared.tree.{ReadStmt.ReadStmt, Expr.Expr, Stmt.Stmt, StmtKind.StmtKind, Block.Block, Job.Job}
 use Rattle.kp_ast.specs.declared.tree.StmtKind.TheVariants as stmts
@@ -9,16 +9,10 @@ use Rattle.kp_pipeline.proofs.Lists.{all-append}
 use Rattle.kp_machine.{specs.Slots.targets_of, proofs.Stages.stages_inside}
 use Rattle.kp_synth_tables.specs.declared.key.GuessSlot.{GuessSlot}
 use Rattle.kp_synth_tables.specs.Keys.{target_at, no_guess, guess_slot, with_read, with_guess, guesses_in, guesses_from, guesses_of}
-use Rattle.kp_synth_tables.proofs.Fitting.{width_there}
+use Rattle.kp_synth_tables.proofs.Fitting.{width_there, all_at}
 use Rattle.kp_synth_stage.{specs.Work.stmts_at, specs.inner.Standing.StmtRight, proofs.Scoping.is_right}
 use Rattle.kp_synth_stage.proofs.Taking.{ReadRight, Asks, read_right}
 use Rattle.kp_synth_pipeline.specs.inner.Whole.{GuessOk, GuessesOk, RulesGive}
-
--- each entry of a list
-all_at : {X : Type 0} (P : X → Type 0) (xs : List X) (d : X) → AllByRecursion P xs → (i : ℕ) → i < length xs → P (get_or xs i d)
-all_at P [] d all i l = absurd (omega arith)
-all_at P (x ∷ xs) d all zero l = all.0
-all_at P (x ∷ xs) d all (suc i) l = all_at P xs d all.1 i (omega arith)
 
 -- these are the statements of stage k from j on
 abbrev pub StandFrom : Job → ℕ → ℕ → List Stmt → Type 0

@@ -1,5 +1,6 @@
 -- The guesses that are wrong in a stage.
 use Rattle.std.proofs.Common.{◌≡◌, ◌∙◌, ℕ, zero, suc, ◌+◌, ◌*◌, ◌<◌, ◌≤◌, ◌^◌, Bool, true, false, not, ◌&&◌, ◌||◌, ◌==◌, List, [], ◌∷◌, take, length, get_or, Option, Some, refl, sym, ap, subst, arith}
+use Rattle.std.proofs.Math.Bool.{or-false, or_assoc, and-false, and-or_distrib_left}
 use Rattle.std.proofs.{Math.Seq.take-length, Math.Nat.suc-mul, Math.Nat.mul-le-mul_right, lemmas.Bool.le-ltb}
 use Rattle.std.specs.{Prelude.slice_get, Prelude.nat_lt, List.list_any}
 use Rattle.kp_ast.specs.declared.tree.Job.{Job}
@@ -39,36 +40,20 @@ guess_wrong job k g slot p q r m ss s full pending ok value guess n w kept carri
     is c ∙ (λ j. a j && (b j && d j)) ∙ sym (ap (λ e. (st.stage k).full && (e && ((kept_in job c (Pending g k) == 1) && is_wrong job st i k (pending_guess slot (kept_in job c (Guess g k)))))) carried)
 
 -- one guess after another
-or_end : (b : Bool) → (b || false) ≡ b
-or_end true = refl
-or_end false = refl
-
 at_start : (test : ℕ → GuessSlot → Bool) (m : ℕ) (s : GuessSlot) → test (0 + m) s ≡ test m s
 at_start test m s = let z : 0 + m ≡ m = omega arith in ap (λ x. test x s) z
 
-or_more : (a b d : Bool) → (a || (b || d)) ≡ ((a || b) || d)
-or_more true b d = refl
-or_more false b d = refl
-
 some_more : (test : ℕ → GuessSlot → Bool) (n m : ℕ) (gs : List GuessSlot) → m < length gs → some_of test n (take (suc m) gs) ≡ (some_of test n (take m gs) || test (n + m) (get_or gs m no_guess))
 some_more test n m [] h = absurd (omega arith)
-some_more test n zero (s ∷ ss) h = let z : n ≡ n + 0 = omega arith in or_end (test n s) ∙ ap (λ x. test x s) z
+some_more test n zero (s ∷ ss) h = let z : n ≡ n + 0 = omega arith in or-false (test n s) ∙ ap (λ x. test x s) z
 some_more test n (suc m) (s ∷ ss) h =
     let z : suc n + m ≡ n + suc m = omega arith in
     ap (λ b. test n s || b) (some_more test (suc n) m ss (omega arith) ∙ ap (λ x. some_of test (suc n) (take m ss) || test x (get_or ss m no_guess)) z)
-    ∙ or_more (test n s) (some_of test (suc n) (take m ss)) (test (n + suc m) (get_or ss m no_guess))
-
-and_or : (f a b : Bool) → ((f && a) || (f && b)) ≡ (f && (a || b))
-and_or true a b = refl
-and_or false a b = refl
-
-and_no : (f : Bool) → false ≡ (f && false)
-and_no true = refl
-and_no false = refl
+    ∙ sym (or_assoc (test n s) (some_of test (suc n) (take m ss)) (test (n + suc m) (get_or ss m no_guess)))
 
 pub no_misses : (job : Job) (p : Held) (k : ℕ) (n : NodeId) → ((c : Cells) → on c p.nodes n.0 ≡ false) → Misses job p k 0 n
 unfolding Misses
-no_misses job p k n e = λ c st i h. e c ∙ and_no (st.stage k).full
+no_misses job p k n e = λ c st i h. e c ∙ sym (and-false (st.stage k).full)
 
 pub one_miss : (job : Job) (p q r : Held) (m k g : ℕ) (miss wrong n : NodeId) → Kept p q m → g < length (guesses_of job) → Wire p miss 1 → Misses job p k g miss
     → ((c : Cells) (st : PipelineState) (i : Inputs) → Holds job c st i → on c q.nodes wrong.0 ≡ ((st.stage k).full && guess_passes job c k (is_wrong job st i k) g (guess_at job g)))
@@ -79,7 +64,7 @@ one_miss job p q r m k g miss wrong n kept l mw before now is = λ c st i h.
     let b = now c st i h in
     let z : suc g ≡ g + 1 = omega arith in
     let test = guess_passes job c k (is_wrong job st i k) in
-    is c ∙ (λ t. a t || b t) ∙ and_or (st.stage k).full (some_of test 0 (take g (guesses_of job))) (test g (guess_at job g))
+    is c ∙ (λ t. a t || b t) ∙ sym (and-or_distrib_left (st.stage k).full (some_of test 0 (take g (guesses_of job))) (test g (guess_at job g)))
     ∙ ap (λ b. (st.stage k).full && b) (sym (ap (λ b. some_of test 0 (take g (guesses_of job)) || b) (at_start test g (guess_at job g))) ∙ sym (some_more test 0 g (guesses_of job) l) ∙ ap (λ x. some_of test 0 (take x (guesses_of job))) z)
 
 pub not_carried : (job : Job) (p : Held) (k g : ℕ) (n : NodeId) → g < length (guesses_of job) → is_carried (guess_at job g) k ≡ false → Misses job p k g n → Misses job p k (g + 1) n
@@ -89,7 +74,7 @@ not_carried job p k g n l none before = λ c st i h.
     let test = guess_passes job c k (is_wrong job st i k) in
     let e : test (0 + g) (guess_at job g) ≡ false = at_start test g (guess_at job g) ∙ ap (λ b. b && ((kept_in job c (Pending g k) == 1) && is_wrong job st i k (pending_guess (guess_at job g) (kept_in job c (Guess g k))))) none in
     before c st i h ∙ ap (λ b. (st.stage k).full && b)
-    (sym (or_end (some_of test 0 (take g (guesses_of job)))) ∙ sym (ap (λ b. some_of test 0 (take g (guesses_of job)) || b) e)
+    (sym (or-false (some_of test 0 (take g (guesses_of job)))) ∙ sym (ap (λ b. some_of test 0 (take g (guesses_of job)) || b) e)
     ∙ sym (some_more test 0 g (guesses_of job) l) ∙ ap (λ x. some_of test 0 (take x (guesses_of job))) z)
 
 -- all of them

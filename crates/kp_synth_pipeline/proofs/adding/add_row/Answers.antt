@@ -1,5 +1,5 @@
-use Rattle.std.proofs.{Common.◌≡◌, Common.◌∙◌, Common.le-leb, Common.refl, Common.sym, Common.subst, lemmas.Bool.lt-leb}
-use Rattle.kp_net.{specs.Widths.wide, specs.Growth.Kept, proofs.Growing.kept_none, proofs.Growing.kept_then}
+use Rattle.std.proofs.{Common.◌∙◌, Common.le-leb, Common.refl, Common.sym, Common.subst, lemmas.Bool.lt-leb}
+use Rattle.kp_net.{specs.Widths.wide, proofs.Growing.kept_none, proofs.Growing.kept_then}
 use Rattle.kp_synth_registers.proofs.Growth.{ready_kept}
 use Rattle.kp_synth_stage.specs.Rows.{RowOk}
 use Rattle.kp_synth_tables.specs.{Keys.target_at, Fits.ResultFits}
@@ -10,11 +10,7 @@ pub enable_in-enable-requires-clause-ready : goal.enable_in-enable-requires-clau
 enable_in-enable-requires-clause-ready c = ready_kept c.args.layout.now c.args.pool.now c.result_in-stored.new.pool 2 c.args.reads.now c.result_in-stored.ensures.grown.kept c.requires.ready
 
 pub address_in-address-requires-clause-ready : goal.address_in-address-requires-clause-ready
-address_in-address-requires-clause-ready c =
-    let p = c.args.pool.now in
-    let p1 = c.result_in-stored.new.pool in
-    let p2 = c.enable_in-enable.new.pool in
-    ready_kept c.args.layout.now p p2 3 c.args.reads.now (kept_then p p1 p2 2 1 c.result_in-stored.ensures.grown.kept c.enable_in-enable.ensures.grown.kept) c.requires.ready
+address_in-address-requires-clause-ready c = ready_kept _ _ _ _ _ (kept_then _ _ _ _ _ c.result_in-stored.ensures.grown.kept c.enable_in-enable.ensures.grown.kept) c.requires.ready
 
 pub returns-in-None-clause-nearer : goal.returns-in-None-clause-nearer
 returns-in-None-clause-nearer c =
@@ -41,14 +37,12 @@ returns-in_ok-put_first-in-Some-clause-nearer c =
 pub returns-in_ok-put_first-in-Some-clause-source : goal.returns-in_ok-put_first-in-Some-clause-source
 returns-in_ok-put_first-in-Some-clause-source c =
     let job = c.args.layout.now in
-    let p1 = c.result_in-stored.new.pool in
-    let p2 = c.enable_in-enable.new.pool in
-    let p3 = c.address_in-address.new.pool in
-    let q = c.row_of-row.new.pool in
-    let g3 : Kept p1 p3 2 = kept_then p1 p2 p3 1 1 c.enable_in-enable.ensures.grown.kept c.address_in-address.ensures.grown.kept in
-    let g4 : Kept c.args.pool.now p3 4 = kept_then c.args.pool.now p1 p3 2 2 c.result_in-stored.ensures.grown.kept g3 in
-    let g5 : Kept c.args.pool.now q 16 = kept_then c.args.pool.now p3 q 4 12 g4 c.row_of-row.ensures.grown.kept in
-    let w : wide p3.nodes c.result_in-stored.result.value.0 ≡ (target_at job c.args.t).width = g3.widths c.result_in-stored.result.value.0 c.result_in-stored.ensures.value.inside ∙ c.result_in-stored.ensures.value.wide in
-    source_more job c.args.t c.args.pool.now q 16 c.args.source.now c.put_first.new.source c.row_of-row.result g5 c.requires.source
-    (subst (λ n. RowOk q (target_at job c.args.t).address n c.row_of-row.result) w (c.row_of-row.ensures.ok (target_at job c.args.t).address c.address_in-address.ensures.address))
-    c.requires.few c.in_ok-put_first-in-Some.ensures.own c.in_ok-put_first-in-Some.ensures.width c.in_ok-put_first-in-Some.ensures.rows
+    let stored = c.result_in-stored.ensures in
+    let row = c.row_of-row.ensures in
+    let put = c.in_ok-put_first-in-Some.ensures in
+    let g3 = kept_then _ _ _ _ _ c.enable_in-enable.ensures.grown.kept c.address_in-address.ensures.grown.kept in
+    let g5 = kept_then _ _ _ _ _ (kept_then _ _ _ _ _ stored.grown.kept g3) row.grown.kept in
+    let w = g3.widths c.result_in-stored.result.value.0 stored.value.inside ∙ stored.value.wide in
+    source_more job c.args.t _ _ _ c.args.source.now c.put_first.new.source c.row_of-row.result g5 c.requires.source
+    (subst (λ n. RowOk c.row_of-row.new.pool (target_at job c.args.t).address n c.row_of-row.result) w (row.ok (target_at job c.args.t).address c.address_in-address.ensures.address))
+    c.requires.few put.own put.width put.rows

@@ -1,4 +1,4 @@
-use Rattle.std.proofs.Common.{ℕ, ◌+◌, ◌-◌, ◌*◌, arith}
+use Rattle.std.proofs.Common.{◌-◌, ◌*◌, arith}
 use Rattle.kp_synth_registers.proofs.Growth.{grown_added, added_then, added_more}
 use Rattle.kp_synth_pipeline.proofs.Wrong.{guess_wrong}
 use Rattle.kp_synth_pipeline.proofs.missing.guess_miss.Goals as goal
@@ -11,8 +11,4 @@ returns-clause-value c =
 
 pub returns-clause-added : goal.returns-clause-added
 returns-clause-added c =
-    let job = c.args.layout.now in
-    let m : ℕ = 20 * job.stages.value - 11 in
-    let few = c.requires.stage in
-    added_more job c.args.pool.now c.mismatch.new.pool (m + 5) (20 * job.stages.value - 1)
-    (added_then job c.args.pool.now c.truth_of.new.pool c.mismatch.new.pool m 5 c.in_ok-truth.ensures.added (grown_added job c.truth_of.new.pool c.mismatch.new.pool 5 c.mismatch.ensures.grown)) (omega (arith, few))
+    added_more _ _ _ _ _ (added_then _ _ _ _ _ _ c.in_ok-truth.ensures.added (grown_added _ _ _ _ c.mismatch.ensures.grown)) (omega (arith, c.requires.stage))

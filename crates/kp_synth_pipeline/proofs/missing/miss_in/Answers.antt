@@ -1,4 +1,4 @@
-use Rattle.std.proofs.Common.{◌≡◌, ℕ, ◌+◌, ◌*◌, ◌≤◌, length, ap, subst, arith}
+use Rattle.std.proofs.Common.{◌≡◌, ℕ, ◌+◌, ◌*◌, length, ap, subst, arith}
 use Rattle.kp_synth_registers.{specs.Meaning.Added, proofs.Growth.test_kept, proofs.Growth.grown_added, proofs.Growth.added_then, proofs.Growth.ready_kept}
 use Rattle.kp_synth_stage.proofs.Nearest.{sources_kept}
 use Rattle.kp_synth_pipeline.proofs.{Stalling.sees_above_kept, Wrong.no_misses, Wrong.all_misses, Wrong.guess_step, Wrong.guess_left}
@@ -20,7 +20,7 @@ with_guess-requires-clause-sources c = sources_kept c.args.layout.now c.args.poo
 
 pub with_guess-requires-clause-sees : goal.with_guess-requires-clause-sees
 with_guess-requires-clause-sees c =
-    sees_above_kept c.args.layout.now c.args.pool.now c.loop-g.pool (guess_room c.args.layout.now c.loop-g.g + 1) c.args.sources.now c.args.k c.loop-g.invariant.added.kept c.requires.sources c.requires.sees
+    sees_above_kept _ _ _ _ c.args.sources.now c.args.k c.loop-g.invariant.added.kept c.requires.sources c.requires.sees
 
 pub with_guess-requires-clause-is_test : goal.with_guess-requires-clause-is_test
 with_guess-requires-clause-is_test c = test_kept c.args.layout.now c.args.pool.now c.loop-g.pool (guess_room c.args.layout.now c.loop-g.g + 1) 1 c.args.full _ c.loop-g.invariant.added.kept c.requires.full c.requires.is_test
@@ -30,14 +30,8 @@ returns-clause-is_test c = all_misses c.args.layout.now c.loop-g.pool c.args.k c
 
 pub with_guess-requires-clause-room : goal.with_guess-requires-clause-room
 with_guess-requires-clause-room c =
-    let job = c.args.layout.now in
-    let g : ℕ = c.loop-g.g in
-    let e = ap length c.guesses-g-end.ensures in
-    let t = c.loop-g-test.true in
-    let left : guess_room job g + 20 * job.stages.value ≤ guess_room job (length (guesses_of job)) = guess_left job g (length (guesses_of job)) (omega (arith, e, t)) in
-    let kept = c.loop-g.invariant.added.kept.room in
-    let room = c.requires.room in
-    omega (arith, left, kept, room)
+    let left = guess_left c.args.layout.now c.loop-g.g (length (guesses_of c.args.layout.now)) (omega (arith, ap length c.guesses-g-end.ensures, c.loop-g-test.true)) in
+    omega (arith, left, c.loop-g.invariant.added.kept.room, c.requires.room)
 
 pub loop-g-preserved : goal.loop-g-preserved
 loop-g-preserved c =

@@ -1,4 +1,4 @@
-use Rattle.std.proofs.Common.{◌≡◌, ◌∙◌, ℕ, ◌+◌, ◌-◌, ◌*◌, sym, ap, subst, false, ◌&&◌, arith}
+use Rattle.std.proofs.Common.{◌≡◌, ◌∙◌, ◌-◌, ◌*◌, sym, ap, subst, false, ◌&&◌, arith}
 use Rattle.kp_synth_tables.specs.{declared.key.GuessSlot.GuessSlot, Keys.guess_at, Keys.is_carried}
 use Rattle.kp_synth_pipeline.specs.inner.Whole.{is_wrong, GuessesOk, GuessOk}
 use Rattle.kp_synth_pipeline.proofs.Wrong.{one_miss, not_carried}
@@ -24,8 +24,4 @@ returns-clause-misses c =
 
 pub returns-clause-added : goal.returns-clause-added
 returns-clause-added c =
-    let job = c.args.layout.now in
-    let m : ℕ = 20 * job.stages.value - 1 in
-    let few = c.requires.stage in
-    added_more job c.args.pool.now c.either.new.pool (m + 1) (20 * job.stages.value)
-    (added_then job c.args.pool.now c.guess_miss.new.pool c.either.new.pool m 1 c.in_ok-wrong.ensures.added (grown_added job c.guess_miss.new.pool c.either.new.pool 1 c.either.ensures.grown)) (omega (arith, few))
+    added_more _ _ _ _ _ (added_then _ _ _ _ _ _ c.in_ok-wrong.ensures.added (grown_added _ _ _ _ c.either.ensures.grown)) (omega (arith, c.requires.stage))

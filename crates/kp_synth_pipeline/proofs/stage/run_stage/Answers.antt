@@ -1,11 +1,11 @@
 use Rattle.std.proofs.Common.{◌+◌, ℕ, arith}
-use Rattle.kp_synth_registers.{specs.Meaning.guesses_at, proofs.Growth.test_kept, proofs.Growth.grown_added, proofs.Growth.added_then, proofs.Growth.added_more}
+use Rattle.kp_synth_registers.{proofs.Growth.test_kept, proofs.Growth.grown_added, proofs.Growth.added_then, proofs.Growth.added_more}
 use Rattle.kp_synth_stage.{specs.Work.stmts_at, specs.Work.costs_of, proofs.Binding.fits_kept}
 use Rattle.kp_synth_pipeline.proofs.Stalling.{computes, stalls}
 use Rattle.kp_synth_pipeline.proofs.stage.run_stage.Goals as goal
 
 pub returns-clause-fits : goal.returns-clause-fits
-returns-clause-fits c = fits_kept c.args.d.now.job c.run_block.new.pool c.stall_of-stall.new.pool 3 (guesses_at c.args.d.now.job c.args.k) c.in_ok-work.work c.stall_of-stall.ensures.grown.kept c.in_ok-work.ensures.fits
+returns-clause-fits c = fits_kept _ _ _ _ _ _ c.stall_of-stall.ensures.grown.kept c.in_ok-work.ensures.fits
 
 pub returns-clause-computes : goal.returns-clause-computes
 returns-clause-computes c =
@@ -26,7 +26,4 @@ returns-clause-stall c =
 
 pub returns-clause-added : goal.returns-clause-added
 returns-clause-added c =
-    let job = c.args.d.now.job in
-    let n : ℕ = costs_of job (stmts_at job c.args.k) + 1 in
-    added_more job c.args.pool.now c.stall_of-stall.new.pool (n + 3) (costs_of job (stmts_at job c.args.k) + 65)
-    (added_then job c.args.pool.now c.run_block.new.pool c.stall_of-stall.new.pool n 3 c.in_ok-work.ensures.added (grown_added job c.run_block.new.pool c.stall_of-stall.new.pool 3 c.stall_of-stall.ensures.grown)) (omega arith)
+    added_more c.args.d.now.job _ _ _ _ (added_then _ _ _ _ _ _ c.in_ok-work.ensures.added (grown_added _ _ _ _ c.stall_of-stall.ensures.grown)) (omega arith)
