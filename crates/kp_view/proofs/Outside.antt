@@ -33,7 +33,9 @@ low_names false order input job status text (one, rest) = omega (arith, one)
 low : (asked : Asked) (input : List ℕ) (status : ℕ) (text : List ℕ) → DueFor asked input status text → IsLow status
 low (show task) input status text (Ok job, judged, due) = low_names (names_fit task.order job) task.order input job status text due
 low (show task) input status text (Err refusal, judged, (is, rest)) = omega (arith, is)
-low _ input status text (is, rest) = omega (arith, is)
+low (bad_words topic) input status text (is, rest) = omega (arith, is)
+low (help topic) input status text (is, rest) = omega (arith, is)
+low version input status text (is, rest) = omega (arith, is)
 
 module _ {S : Type 0} (held : S → Option (List ℕ)) (faults : S → ℕ) (V : Type 0) where
   -- what reads nothing
