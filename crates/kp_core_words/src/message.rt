@@ -1,6 +1,6 @@
 // Why a line is refused.
-ghost use Rattle.std.specs.Prelude.{◌≡◌, ◌++◌, OnOk, IfOk};
-ghost use Rattle.kp_core_words.specs.Messages.{port_head, BeginsWith};
+ghost use Rattle.std.specs.Prelude.{◌≡◌, ◌++◌, OnOk, IfOk, option_map};
+ghost use Rattle.kp_core_words.specs.Messages.{port_head, sentence, help, AreFacts, IsMessage, BeginsWith};
 
 use itoa::Buffer;
 use kp_base::NoMemory;
@@ -16,7 +16,8 @@ pub fn message_of(
     text: &[u8],
     refusal: PortRefusal,
 ) -> Result<Vec<u8>, NoMemory>
-    ensures { IfOk result (λ said. BeginsWith (port_head file.now refusal) said.items) }
+    ensures begins { IfOk result (λ said. BeginsWith (port_head file.now refusal) said.items) }
+    ensures message { IfOk result (λ said. IsMessage file.now text.now refusal said.items) }
 {
     let facts = facts(alloc, text, refusal)?;
     let mut said = Vec::new(alloc);
@@ -43,7 +44,9 @@ fn write_head(out: &mut Vec<u8>, file: &[u8], refusal: PortRefusal) -> Result<()
 }
 
 // What follows the head.
-fn facts(alloc: Global, text: &[u8], refusal: PortRefusal) -> Result<Vec<u8>, NoMemory> {
+fn facts(alloc: Global, text: &[u8], refusal: PortRefusal) -> Result<Vec<u8>, NoMemory>
+    ensures { IfOk result (λ facts. AreFacts text.now refusal facts.items) }
+{
     let excerpt = Excerpt::at(text, refusal.place);
     let mut out = Vec::from_slice(alloc, sentence(refusal.rule).as_bytes())?;
     out.extend_from_slice(b"\n")?;
@@ -54,7 +57,9 @@ fn facts(alloc: Global, text: &[u8], refusal: PortRefusal) -> Result<Vec<u8>, No
     Ok(out)
 }
 
-fn sentence(rule: PortRule) -> &'static str {
+fn sentence(rule: PortRule) -> &'static str
+    ensures { result.now ≡ sentence rule }
+{
     match rule {
         PortRule::Form => "no line that asks for ports has this form",
         PortRule::Taken => "an earlier line asks for a port of the same name",
@@ -65,7 +70,9 @@ fn sentence(rule: PortRule) -> &'static str {
     }
 }
 
-fn help(rule: PortRule) -> Option<&'static str> {
+fn help(rule: PortRule) -> Option<&'static str>
+    ensures { option_map (λ text. text.now) result ≡ help rule }
+{
     match rule {
         PortRule::Form => Some(
             "a line is `show R`, `peek F`, `load F`, `probe P at k`, `next P at k` or `commit`",
