@@ -73,7 +73,7 @@ module _ (p : Held) (env : Scope) (e : Expr) where
       pub one_gives : (r : Held) (u : NodeId) → Shows r u (λ c. f (word_at c q.nodes n.0)) → Gives p env e r u
       one_gives = gives_by (λ c. f (word_at c q.nodes n.0)) one_same
 
-  -- of several parts, whose nodes stand in two lists that are equal
+  -- of several parts, whose nodes occur in two lists that are equal
   module _ (F : List Word → Option Word) (xs : List Expr) (value : (c : Cells) → value_in p env e c ≡ option_and_then F (values_in p env xs c)) where
     pub all_sound : IsSound p env e → IsThere (values_in p env xs)
     unfolding IsSound IsThere

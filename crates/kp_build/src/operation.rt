@@ -13,7 +13,6 @@ use kp_bits::{BinOp, Literal};
 use kp_net::{NodeId, Operands};
 use kp_net_gates::{binary, choose, complement, constant, join, part};
 use kp_pool::Pool;
-use std::alloc::Global;
 
 /// The value of a literal.
 pub(crate) fn number(pool: &mut Pool, literal: Literal) -> NodeId
@@ -94,7 +93,7 @@ pub(crate) fn sliced(pool: &mut Pool, a: NodeId, hi: u64, lo: u64) -> NodeId
 }
 
 /// `zext(a, width)`: zeros in the high bits.
-pub(crate) fn zero_extended(alloc: Global, pool: &mut Pool, a: NodeId, width: u64) -> NodeId
+pub(crate) fn zero_extended(pool: &mut Pool, a: NodeId, width: u64) -> NodeId
     requires room { 2 ≤ pool.old.spare }
     requires inside { a.0 < length pool.old.nodes }
     requires fit { IsThere (λ c. checked_zext width (word_at c pool.old.nodes a.0)) }
@@ -107,11 +106,11 @@ pub(crate) fn zero_extended(alloc: Global, pool: &mut Pool, a: NodeId, width: u6
         return a;
     }
     let zeros = constant(pool, more, 0);
-    pair(alloc, pool, zeros, a)
+    pair(pool, zeros, a)
 }
 
 /// `sext(a, width)`: copies of the top bit in the high bits, which are all ones or all zeros.
-pub(crate) fn sign_extended(alloc: Global, pool: &mut Pool, a: NodeId, width: u64) -> NodeId
+pub(crate) fn sign_extended(pool: &mut Pool, a: NodeId, width: u64) -> NodeId
     requires room { 5 ≤ pool.old.spare }
     requires inside { a.0 < length pool.old.nodes }
     requires fit { IsThere (λ c. checked_sext width (word_at c pool.old.nodes a.0)) }
@@ -124,7 +123,7 @@ pub(crate) fn sign_extended(alloc: Global, pool: &mut Pool, a: NodeId, width: u6
         return a;
     }
     let front = copies(pool, a, more);
-    pair(alloc, pool, front, a)
+    pair(pool, front, a)
 }
 
 // n copies of the top bit.
@@ -145,7 +144,7 @@ fn copies(pool: &mut Pool, a: NodeId, count: u8) -> NodeId
 }
 
 // `{high, low}`
-fn pair(alloc: Global, pool: &mut Pool, high: NodeId, low: NodeId) -> NodeId
+fn pair(pool: &mut Pool, high: NodeId, low: NodeId) -> NodeId
     requires room { 1 ≤ pool.old.spare }
     requires high { high.0 < length pool.old.nodes }
     requires low { low.0 < length pool.old.nodes }
@@ -155,5 +154,5 @@ fn pair(alloc: Global, pool: &mut Pool, high: NodeId, low: NodeId) -> NodeId
     ensures grown { Grown pool.old pool.new 1 }
 {
     let width = pool.width(high) + pool.width(low);
-    join(pool, Operands::new(alloc, &[high, low]), width)
+    join(pool, Operands::new(&[high, low]), width)
 }

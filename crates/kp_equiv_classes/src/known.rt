@@ -125,7 +125,7 @@ fn joined(alloc: Global, classes: &[NodeId], nodes: &Operands) -> Result<Operand
     ensures { IfOk result (λ r. r ≡ map (class_in classes.now) nodes.now) }
 {
     let there = classes_in(alloc, classes, nodes.nodes())?;
-    Ok(Operands::new(alloc, there.as_slice()))
+    Ok(Operands::new(there.as_slice()))
 }
 
 fn classes_in(alloc: Global, classes: &[NodeId], nodes: &[NodeId]) -> Result<Vec<NodeId>, NoMemory>

@@ -3,7 +3,6 @@ ghost use Rattle.std.specs.Prelude.{◌≡◌};
 
 use crate::operands::Operands;
 use kp_bits::BinOp;
-use std::alloc::Global;
 
 /// A node, by its index in the list of nodes, counted from 0.
 #[derive(Clone, Copy, Debug, Default, PartialEq, Eq, Hash)]
@@ -43,18 +42,18 @@ pub struct Node {
 
 impl Node {
     /// A copy of the node. Allocates nothing.
-    pub fn copied(&self, alloc: Global) -> Node
+    pub fn copied(&self) -> Node
         ensures { result ≡ self.now }
     {
         Node {
             width: self.width,
-            kind: self.kind.copied(alloc),
+            kind: self.kind.copied(),
         }
     }
 }
 
 impl Kind {
-    fn copied(&self, alloc: Global) -> Kind
+    fn copied(&self) -> Kind
         ensures { result ≡ self.now }
     {
         match self {
@@ -66,7 +65,7 @@ impl Kind {
             Kind::Not(a) => Kind::Not(*a),
             Kind::Binary(op, a, b) => Kind::Binary(*op, *a, *b),
             Kind::Mux(test, yes, no) => Kind::Mux(*test, *yes, *no),
-            Kind::Concat(parts) => Kind::Concat(Operands::new(alloc, parts.nodes())),
+            Kind::Concat(parts) => Kind::Concat(Operands::new(parts.nodes())),
             Kind::Slice(a, hi, lo) => Kind::Slice(*a, *hi, *lo),
         }
     }

@@ -52,7 +52,7 @@ impl Index {
         requires { LacksBelow self.old n.now (length self.old) }
         ensures { (self.new ≡ self.old) ⊎ (self.new ≡ self.old ++ n.now ∷ []) }
     {
-        let copy = n.copied(*self.nodes.allocator());
+        let copy = n.copied();
         let _ = self.nodes.insert_full(copy);
     }
 }

@@ -35,8 +35,8 @@ impl<'a> Resolved<'a> {
         ensures tables { IfOk result (λ r. AreTables d.now.job r.tables) }
         ensures program { IfOk result (λ r. Resolves r.tables d.now.job.blocks r.program) }
     {
-        let tables = Tables::lay_out(alloc, d)?;
-        let program = Program::of(alloc, &tables, d)?;
+        let (tables, keys) = Tables::lay_out(alloc, d)?;
+        let program = Program::of(alloc, &tables, &keys, d)?;
         Ok(Resolved { tables, program })
     }
 

@@ -57,14 +57,15 @@ impl Model for Program {
 
 impl Program {
     /// The program of a design. Error: out of memory.
-    pub fn of(alloc: Global, tables: &Tables, d: &Design) -> Result<Program, NoMemory>
+    pub fn of(alloc: Global, tables: &Tables, keys: &Keys, d: &Design) -> Result<Program, NoMemory>
+        requires { keys.now ≡ tables.now.names }
         ensures { IfOk result (λ p. Resolves tables.now d.now.job.blocks p) }
     {
         let blocks = d.job().blocks.as_slice();
-        let samples = places_of(alloc, &tables.names, tables.samples.as_slice())?;
-        let pipes = places_of(alloc, &tables.names, tables.pipes.as_slice())?;
-        let widths = widths_at_entry(alloc, tables)?;
-        let stages = stages_of(alloc, tables, widths.as_slice(), blocks)?;
+        let samples = places_of(alloc, keys, tables.samples.as_slice())?;
+        let pipes = places_of(alloc, keys, tables.pipes.as_slice())?;
+        let widths = widths_at_entry(alloc, tables, keys)?;
+        let stages = stages_of(alloc, tables, keys, widths.as_slice(), blocks)?;
         Ok(Program {
             samples,
             pipes: Places::new(pipes),
@@ -84,12 +85,17 @@ fn places_of(alloc: Global, keys: &Keys, slots: &[Slot]) -> Result<Vec<Option<us
 }
 
 // The widths of the names that have values at the start of a stage, by index.
-fn widths_at_entry(alloc: Global, tables: &Tables) -> Result<Vec<Option<u64>>, NoMemory>
+fn widths_at_entry(
+    alloc: Global,
+    tables: &Tables,
+    keys: &Keys,
+) -> Result<Vec<Option<u64>>, NoMemory>
+    requires { keys.now ≡ tables.now.names }
     ensures { IfOk result (λ widths. widths.items ≡ entry_widths tables.now) }
 {
-    let mut widths = vec![in alloc; None; tables.names.len()]?;
-    know_all(&tables.names, tables.samples.as_slice(), &mut widths);
-    know_all(&tables.names, tables.pipes.as_slice(), &mut widths);
+    let mut widths = vec![in alloc; None; keys.len()]?;
+    know_all(keys, tables.samples.as_slice(), &mut widths);
+    know_all(keys, tables.pipes.as_slice(), &mut widths);
     Ok(widths)
 }
 
@@ -116,14 +122,16 @@ fn know(place: Option<usize>, width: u64, widths: &mut Vec<Option<u64>>)
 fn stages_of(
     alloc: Global,
     tables: &Tables,
+    keys: &Keys,
     widths: &[Option<u64>],
     blocks: &[Block],
 ) -> Result<Vec<List<Step>>, NoMemory>
+    requires { keys.now ≡ tables.now.names }
     ensures { IfOk result (λ stages. AllDo tables.now widths.now blocks.now stages.items) }
 {
     let mut stages = Vec::new(alloc);
     for block in blocks {
-        let steps = steps_of(alloc, tables, widths, block.stmts.as_slice())?;
+        let steps = steps_of(alloc, tables, keys, widths, block.stmts.as_slice())?;
         stages.push(List::new(steps))?;
     }
     Ok(stages)
@@ -133,15 +141,17 @@ fn stages_of(
 fn steps_of(
     alloc: Global,
     tables: &Tables,
+    keys: &Keys,
     entry: &[Option<u64>],
     stmts: &[Stmt],
 ) -> Result<Vec<Step>, NoMemory>
+    requires { keys.now ≡ tables.now.names }
     ensures { IfOk result (λ steps. DoesStage tables.now entry.now stmts.now steps.items) }
 {
     let mut widths = Vec::from_slice(alloc, entry)?;
     let mut steps = Vec::new(alloc);
     for stmt in stmts {
-        let made = step_of(alloc, tables, widths.as_slice(), &stmt.kind)?;
+        let made = step_of(alloc, tables, keys, widths.as_slice(), &stmt.kind)?;
         know(made.place, made.width, &mut widths);
         steps.push(made.step)?;
     }
@@ -174,16 +184,18 @@ impl Made {
 fn step_of(
     alloc: Global,
     tables: &Tables,
+    keys: &Keys,
     widths: &[Option<u64>],
     stmt: &StmtKind,
 ) -> Result<Made, NoMemory>
+    requires { keys.now ≡ tables.now.names }
     ensures { IfOk result (λ made. Does tables.now widths.now stmt.now made) }
 {
     match stmt {
-        StmtKind::Read(read) => read_of(alloc, tables, widths, read),
+        StmtKind::Read(read) => read_of(alloc, tables, keys, widths, read),
         StmtKind::Let(named, e) => {
-            let value = code_for(alloc, tables, widths, e)?;
-            let place = tables.names.place(&named.name);
+            let value = code_for(alloc, tables, keys, widths, e)?;
+            let place = keys.place(&named.name);
             Ok(Made {
                 step: Step::Let(place, value.code),
                 place,
@@ -191,13 +203,13 @@ fn step_of(
             })
         }
         StmtKind::Put(named, e) => {
-            let value = code_for(alloc, tables, widths, e)?;
+            let value = code_for(alloc, tables, keys, widths, e)?;
             let pipe = number_of(tables.pipes.as_slice(), &named.name);
             Ok(Made::unnamed(Step::Put(pipe, value.code)))
         }
         StmtKind::Set(named, e, when) => {
-            let value = code_for(alloc, tables, widths, e)?;
-            match option_code_for(alloc, tables, widths, when) {
+            let value = code_for(alloc, tables, keys, widths, e)?;
+            match option_code_for(alloc, tables, keys, widths, when) {
                 Ok(when) => {
                     let target = target_of(tables, &named.name);
                     Ok(Made::unnamed(Step::Set(target, value.code, when)))
@@ -217,12 +229,14 @@ fn step_of(
 fn read_of(
     alloc: Global,
     tables: &Tables,
+    keys: &Keys,
     widths: &[Option<u64>],
     read: &ReadStmt,
 ) -> Result<Made, NoMemory>
+    requires { keys.now ≡ tables.now.names }
     ensures { IfOk result (λ made. DoesRead tables.now widths.now read.now made) }
 {
-    let place = tables.names.place(&read.name.name);
+    let place = keys.place(&read.name.name);
     let width = width_of(tables.targets.as_slice(), &read.target.name);
     if !is_width(width) {
         return Ok(Made {
@@ -231,7 +245,7 @@ fn read_of(
             width: 1,
         });
     }
-    let reading = reading_of(alloc, tables, widths, read)?;
+    let reading = reading_of(alloc, tables, keys, widths, read)?;
     Ok(Made {
         step: Step::Read(reading),
         place,
@@ -250,15 +264,17 @@ fn is_width(width: u64) -> bool
 fn reading_of(
     alloc: Global,
     tables: &Tables,
+    keys: &Keys,
     widths: &[Option<u64>],
     read: &ReadStmt,
 ) -> Result<Reading, NoMemory>
+    requires { keys.now ≡ tables.now.names }
     ensures { IfOk result (λ reading. IsReading tables.now widths.now read.now reading) }
 {
-    let address = option_code_for(alloc, tables, widths, &read.address)?;
-    match option_code_for(alloc, tables, widths, &read.when) {
+    let address = option_code_for(alloc, tables, keys, widths, &read.address)?;
+    match option_code_for(alloc, tables, keys, widths, &read.when) {
         Ok(when) => Ok(Reading {
-            place: tables.names.place(&read.name.name),
+            place: keys.place(&read.name.name),
             target: number_of(tables.targets.as_slice(), &read.target.name),
             address,
             when,
@@ -274,14 +290,16 @@ fn reading_of(
 fn option_code_for(
     alloc: Global,
     tables: &Tables,
+    keys: &Keys,
     widths: &[Option<u64>],
     e: &Option<Expr>,
 ) -> Result<Option<Code>, NoMemory>
+    requires { keys.now ≡ tables.now.names }
     ensures { IfOk result (λ code. IsOptionCode tables.now widths.now e.now code) }
 {
     match e {
         Some(e) => {
-            let value = code_for(alloc, tables, widths, e)?;
+            let value = code_for(alloc, tables, keys, widths, e)?;
             Ok(Some(value.code))
         }
         None => Ok(None),
@@ -292,12 +310,14 @@ fn option_code_for(
 fn code_for(
     alloc: Global,
     tables: &Tables,
+    keys: &Keys,
     widths: &[Option<u64>],
     e: &Expr,
 ) -> Result<Typed, NoMemory>
+    requires { keys.now ≡ tables.now.names }
     ensures { IfOk result (λ value. IsCode tables.now widths.now e.now value) }
 {
-    let plan = plan_of(alloc, tables.decls, Scope::Stage(&tables.names), e)?;
+    let plan = plan_of(alloc, tables.decls, Scope::Stage(keys), e)?;
     let value = code_of(alloc, &plan, widths)?;
     drop(plan);
     match value {

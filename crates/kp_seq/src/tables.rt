@@ -169,7 +169,7 @@ pub(crate) struct Tables<'a> {
     pub pipes: Vec<Slot>,
     pub samples: Vec<Slot>,
     pub ports: Vec<Option<Port>>,
-    pub names: Keys,
+    pub names: Vec<Name>,
 }
 
 impl<'a> Model for Tables<'a> {
@@ -181,7 +181,7 @@ impl<'a> Model for Tables<'a> {
 
     ghost coded = { Prim.hlevel (codes, e.the_row.coded) };
 
-    ghost view = { λ t. record { decls = t.decls.now; targets = t.targets.items; pipes = t.pipes.items; samples = t.samples.items; ports = t.ports.items; names = t.names } };
+    ghost view = { λ t. record { decls = t.decls.now; targets = t.targets.items; pipes = t.pipes.items; samples = t.samples.items; ports = t.ports.items; names = t.names.items } };
 }
 
 impl<'a> Tables<'a> {
@@ -194,25 +194,28 @@ impl<'a> Tables<'a> {
         self.targets[target].width
     }
 
-    /// The tables of a design. Error: out of memory.
-    pub fn lay_out(alloc: Global, d: &'a Design) -> Result<Tables<'a>, NoMemory>
-        ensures { IfOk result (λ t. AreTables d.now.job t) }
+    /// The tables of a design, and the indices of its names. Error: out of memory.
+    pub fn lay_out(alloc: Global, d: &'a Design) -> Result<(Tables<'a>, Keys), NoMemory>
+        ensures tables { IfOk result (λ t. AreTables d.now.job t.0) }
+        ensures keys { IfOk result (λ t. t.1 ≡ t.0.names) }
     {
         let decls = d.job().decls.as_slice();
         let targets = targets(alloc, decls)?;
         let pipes = pipes(alloc, decls)?;
         let samples = samples(alloc, decls)?;
         let ports = ports(alloc, decls, targets.as_slice(), pipes.as_slice())?;
-        let names = Keys::of(alloc, d.widths())?;
+        let keys = Keys::of(alloc, d.widths())?;
+        let names = keys.names(alloc)?;
         one_entry_for_each_name();
-        Ok(Tables {
+        let tables = Tables {
             decls,
             targets,
             pipes,
             samples,
             ports,
             names,
-        })
+        };
+        Ok((tables, keys))
     }
 }
 

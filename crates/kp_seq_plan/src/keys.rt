@@ -49,6 +49,17 @@ impl Keys {
         self.names.len()
     }
 
+    /// The names, by their indices. Error: out of memory.
+    pub fn names(&self, alloc: Global) -> Result<Vec<Name>, NoMemory>
+        ensures { IfOk result (λ names. names.items ≡ self.now) }
+    {
+        let mut names = Vec::new(alloc);
+        for i in 0..self.names.len() {
+            names.push(self.names[i].clone()?)?;
+        }
+        Ok(names)
+    }
+
     /// The index of a name, if it has one.
     pub fn place(&self, name: &Name) -> Option<usize>
         ensures place { result ≡ position (is_same_name name.now) self.now }

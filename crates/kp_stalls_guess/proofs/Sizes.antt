@@ -1,19 +1,19 @@
 -- A guess has the width of its register.
-use Rattle.std.proofs.Common.{◌≡◌, ℕ, zero, suc, ◌<◌, List, [], ◌∷◌, ◌++◌, Option, Some, None, true, false, length, get_or, refl, arith, ⊎_elim}
-use Rattle.std.{proofs.lemmas.Bool.cases_Bool, specs.List.AllByRecursion}
+use Rattle.std.proofs.Common.{◌≡◌, ℕ, suc, ◌<◌, List, [], ◌∷◌, Option, Some, None, length, get_or, refl}
+use Rattle.std.specs.List.{AllByRecursion}
 use Rattle.kp_ast.specs.{Expressions.is_same_name, declared.tree.Block.Block, declared.tree.Expr.Expr, declared.tree.Job.Job, declared.tree.ReadStmt.ReadStmt}
 use Rattle.kp_ast.specs.declared.tree.{Stmt.Stmt, StmtKind.StmtKind}
 use Rattle.kp_ast.specs.declared.tree.StmtKind.TheVariants as stmts
-use Rattle.kp_machine.specs.Slots.{Slot, number_of, targets_of, width_of}
-use Rattle.kp_synth_tables.specs.declared.key.GuessSlot.{GuessSlot}
+use Rattle.kp_machine.{specs.Slots.Slot, specs.Slots.number_of, specs.Slots.targets_of, specs.Slots.width_of, proofs.Cases.by_test}
+use Rattle.kp_pipeline.proofs.Lists.{all-append}
+use Rattle.kp_synth_tables.{proofs.Fitting.all_at, specs.declared.key.GuessSlot.GuessSlot}
 use Rattle.kp_synth_tables.specs.Keys.{guess_at, guesses_from, guesses_in, guesses_of, no_guess, no_slot, target_at, with_guess, with_read}
 
 named_width : (ss : List Slot) (name : List ℕ) → width_of ss name ≡ (get_or ss (number_of ss name) no_slot).width
 named_width [] name = refl
-named_width (s ∷ ss) name = ⊎_elim
-    (λ (e : is_same_name name s.name ≡ true). rw e refl)
-    (λ (e : is_same_name name s.name ≡ false). rw e (named_width ss name))
-    (cases_Bool (is_same_name name s.name))
+named_width (s ∷ ss) name = by_test (is_same_name name s.name)
+    (λ e. rw e refl)
+    (λ e. rw e (named_width ss name))
 
 module _ (job : Job) where
   abbrev IsSized : GuessSlot → Type 0
@@ -32,19 +32,10 @@ module _ (job : Job) where
     block_sized i [] = tt
     block_sized i (s ∷ ss) = kind_sized i s.kind (λ j. guesses_in job k j ss) (λ j. block_sized j ss)
 
-  all_append : (xs ys : List GuessSlot) → AllByRecursion IsSized xs → AllByRecursion IsSized ys → AllByRecursion IsSized (xs ++ ys)
-  all_append [] ys a b = b
-  all_append (x ∷ xs) ys a b = (a.0, all_append xs ys a.1 b)
-
   blocks_sized : (k : ℕ) (bs : List Block) → AllByRecursion IsSized (guesses_from job k bs)
   blocks_sized k [] = tt
-  blocks_sized k (b ∷ bs) = all_append (guesses_in job k 0 b.stmts) (guesses_from job (suc k) bs) (block_sized k 0 b.stmts) (blocks_sized (suc k) bs)
-
-  sized_at : (gs : List GuessSlot) (g : ℕ) → AllByRecursion IsSized gs → g < length gs → IsSized (get_or gs g no_guess)
-  sized_at [] g all b = absurd (omega (arith, b))
-  sized_at (x ∷ gs) zero all b = all.0
-  sized_at (x ∷ gs) (suc g) all b = sized_at gs g all.1 (omega (arith, b))
+  blocks_sized k (b ∷ bs) = all-append IsSized (guesses_in job k 0 b.stmts) (guesses_from job (suc k) bs) (block_sized k 0 b.stmts) (blocks_sized (suc k) bs)
 
   pub guess_sized : (g : ℕ) → g < length (guesses_of job) → (guess_at job g).width ≡ (target_at job (guess_at job g).register).width
   unfolding guesses_of
-  guess_sized g b = sized_at (guesses_from job 0 job.blocks) g (blocks_sized 0 job.blocks) b
+  guess_sized g b = all_at IsSized (guesses_from job 0 job.blocks) no_guess (blocks_sized 0 job.blocks) g b

@@ -1,6 +1,6 @@
 -- The steps of the loops over guesses, and the guesses that cells hold.
-use Rattle.std.proofs.Common.{◌≡◌, ◌∙◌, ℕ, zero, suc, ◌+◌, ◌<◌, ◌≤◌, List, [], ◌∷◌, Option, Some, None, Bool, true, false, not, ◌&&◌, ◌||◌, cond, drop, eq-eqb, length, get_or, refl, ap, sym, arith, ⊎_elim}
-use Rattle.std.proofs.lemmas.{Bool.cases_Bool, Bool.ltb-true, List.drop_all, List.drop_more, Option.same_Some}
+use Rattle.std.proofs.Common.{◌≡◌, ◌∙◌, ℕ, zero, suc, ◌+◌, ◌<◌, ◌≤◌, List, [], ◌∷◌, Option, Some, None, Bool, true, false, not, ◌&&◌, ◌||◌, cond, drop, eq-eqb, length, get_or, refl, ap, sym, arith}
+use Rattle.std.proofs.lemmas.{Bool.ltb-true, List.drop_all, List.drop_more, Option.same_Some}
 use Rattle.std.specs.{Prelude.◌==◌, Prelude.is_some, Prelude.nat_lt, List.list_any}
 use Rattle.kp_bits.specs.Word.{Word, word}
 use Rattle.kp_ast.specs.declared.tree.Job.{Job}
@@ -12,6 +12,7 @@ use Rattle.kp_synth_registers.specs.Holding.{Holds, guess_passes, kept_in, pendi
 use Rattle.kp_stalls_guess.specs.Guessed.{agreed, as_word, first_guess, guessed_value, guessed_word, is_other_guess}
 use Rattle.kp_stalls_guess.specs.inner.Held.{first_word, held_from, is_disputed, is_other_value, value_of, word_of}
 use Rattle.kp_stalls_guess.proofs.Agreeing.{same_value}
+use Rattle.kp_machine.proofs.Cases.{by_test}
 
 abbrev or_else : {X : Type 0} → Option X → Option X → Option X
 or_else None next = next
@@ -129,14 +130,13 @@ module _ (job : Job) (c : Cells) where
 
   none_held : (g : ℕ) (gs : List GuessSlot) → held_from job c 0 g gs ≡ []
   none_held g [] = refl
-  none_held g (s ∷ gs) = ⊎_elim
-      (λ (e : nat_lt s.stage 0 ≡ true). (let b : s.stage < 0 = ltb-true s.stage 0 e in absurd (omega (arith, b))))
-      (λ (e : nat_lt s.stage 0 ≡ false).
+  none_held g (s ∷ gs) = by_test (nat_lt s.stage 0)
+      (λ e. (let b : s.stage < 0 = ltb-true s.stage 0 e in absurd (omega (arith, b))))
+      (λ e.
       ap
       (λ x. cond ((x && nat_lt 0 s.write) && (kept_in job c (Pending g 0) == 1)) (pending_guess s (kept_in job c (Guess g 0)) ∷ held_from job c 0 (suc g) gs) (held_from job c 0 (suc g) gs))
       e
       ∙ none_held (suc g) gs)
-      (cases_Bool (nat_lt s.stage 0))
 
   all_tested : (k : ℕ) (test : PendingGuess → Bool) → list_any test (held_from job c k 0 (guesses_of job)) ≡ some_guess job c k test
   unfolding some_guess

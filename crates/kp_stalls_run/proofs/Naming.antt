@@ -1,8 +1,8 @@
 -- The guesses that lines name.
-use Rattle.std.proofs.Common.{◌≡◌, ◌∙◌, ℕ, suc, ◌+◌, ◌-◌, ◌<◌, List, [], ◌∷◌, length, get_or, Option, Some, None, Bool, true, false, cond, refl, ap, sym, arith, ◌⊎◌, inl, inr, ⊎_elim}
-use Rattle.std.{proofs.lemmas.Bool.cases_Bool, proofs.lemmas.List.get_or-map, proofs.lemmas.Option.same_Some, specs.Prelude.is_some}
+use Rattle.std.proofs.Common.{◌≡◌, ◌∙◌, ℕ, suc, ◌+◌, ◌-◌, ◌<◌, List, [], ◌∷◌, length, get_or, Option, Some, None, Bool, true, false, cond, refl, ap, sym, arith, ◌⊎◌, inl, inr}
+use Rattle.std.{proofs.lemmas.List.get_or-map, proofs.lemmas.Option.same_Some, specs.Prelude.is_some}
 use Rattle.kp_ast.specs.declared.tree.Job.{Job}
-use Rattle.kp_machine.specs.Machine.{sequential}
+use Rattle.kp_machine.{specs.Machine.sequential, proofs.Cases.by_test}
 use Rattle.kp_stalls.specs.declared.cause.Cause.{Cause, TheVariants.Unsure, TheVariants.Ahead, TheVariants.Held, TheVariants.Later, TheVariants.Squashed}
 use Rattle.kp_stalls.specs.declared.{cause.Guess.Guess, cause.Wait.Wait, cause.Wrong.Wrong, occupants.Stage.Stage}
 use Rattle.kp_stalls.specs.Occupants.{Seen, at, no_occupant, no_stage, no_value, occupants_of, report, value_before}
@@ -31,14 +31,13 @@ from_squash _ _ _ _ c v w never e = cc
 module _ (s : Sited) (occupants : List Seen) (k : ℕ) where
   only_in : (found : Option ℕ) (i : ℕ) (sites : List Site) (r : ℕ) → only_open s occupants k found i sites ≡ Some r → (found ≡ Some r) ⊎ (r < i + length sites)
   only_in found i [] r e = inl e
-  only_in found i (site ∷ sites) r e = ⊎_elim
-      (λ (h : is_open s occupants k site (get_or (at occupants k).report.recorded.reads i None) ≡ true).
+  only_in found i (site ∷ sites) r e = by_test (is_open s occupants k site (get_or (at occupants k).report.recorded.reads i None))
+      (λ h.
       let open_now = sym (ap (λ c. cond c (cond (is_some found) None (only_open s occupants k (Some i) (i + 1) sites)) (only_open s occupants k found (i + 1) sites)) h) ∙ e in
       second found i sites r (only_in (Some i) (i + 1) sites r) open_now)
-      (λ (h : is_open s occupants k site (get_or (at occupants k).report.recorded.reads i None) ≡ false).
+      (λ h.
       let later = sym (ap (λ c. cond c (cond (is_some found) None (only_open s occupants k (Some i) (i + 1) sites)) (only_open s occupants k found (i + 1) sites)) h) ∙ e in
       shift found i sites r (only_in found (i + 1) sites r later))
-      (cases_Bool (is_open s occupants k site (get_or (at occupants k).report.recorded.reads i None)))
     where
       shift : (found : Option ℕ) (i : ℕ) (sites : List Site) (r : ℕ) → (found ≡ Some r) ⊎ (r < i + 1 + length sites) → (found ≡ Some r) ⊎ (r < i + suc (length sites))
       shift found i sites r (inl f) = inl f

@@ -1,6 +1,6 @@
 -- The values that were guessed, in the lines of a run.
-use Rattle.std.proofs.Common.{◌≡◌, ◌∙◌, ℕ, zero, suc, ◌+◌, ◌<◌, ◌≤◌, List, [], ◌∷◌, map, set, length, length-append, get_or, Option, Some, None, Bool, true, false, ◌||◌, cond, refl, ap, sym, subst, arith, ⊎_elim}
-use Rattle.std.proofs.lemmas.Bool.{cases_Bool, cases_lt, or_parts}
+use Rattle.std.proofs.Common.{◌≡◌, ◌∙◌, ℕ, zero, suc, ◌+◌, ◌<◌, ◌≤◌, List, [], ◌∷◌, map, set, length, length-append, get_or, Option, Some, None, Bool, true, false, cond, refl, ap, sym, subst, arith, ⊎_elim}
+use Rattle.std.proofs.lemmas.Bool.{cases_lt, or_parts}
 use Rattle.std.proofs.lemmas.List.{ext_get_or, get_or_default, get_or-map, get_or-set_other, get_or-set_same, length-map}
 use Rattle.std.{proofs.lemmas.Option.same_Some, specs.Prelude.◌==◌, specs.Prelude.IsSome, specs.Prelude.is_some, specs.Prelude.replicate}
 use Rattle.std.specs.List.{All, list_any}
@@ -10,6 +10,7 @@ use Rattle.kp_pipeline.specs.{Machine.Machine, Pipeline.Inputs, Pipeline.Pipelin
 use Rattle.kp_pipeline.specs.{RightPath.Moment, RightPath.first_moment, RightPath.next_moment, Rows.state_after, Trimming.trimmed}
 use Rattle.kp_stage.specs.Start.{start_of}
 use Rattle.kp_machine.specs.Machine.{inputs_at, inputs_from, machine_of, start_hints, state_of}
+use Rattle.kp_machine.proofs.Cases.{by_test}
 use Rattle.kp_net.specs.Netlist.{Net, Input, State, cells_of, last_of, stalled, start_of as net_start, state_after as state_after_net}
 use Rattle.kp_cycle.specs.Steps.{Running, saved_in}
 use Rattle.kp_run.{specs.Cycles.input_at, specs.Cycles.inputs_to, proofs.Steps.state_next, proofs.Prefixes.state_is}
@@ -18,7 +19,7 @@ use Rattle.kp_synth_registers.specs.Holding.{Holds, inputs_of}
 use Rattle.kp_synth_spec.specs.Traces.{AreQuiet, inputs_seen}
 use Rattle.kp_synth_tables.specs.Keys.{is_alive, keys_of}
 use Rattle.kp_stalls.specs.declared.cause.Cause.{Cause}
-use Rattle.kp_stalls.specs.declared.cause.Cause.TheVariants.{Value, Unsure, Ahead, Held, Later, Squashed}
+use Rattle.kp_stalls.specs.declared.cause.Cause.TheVariants.{Value, Squashed}
 use Rattle.kp_stalls.specs.{declared.cause.Guess.Guess, declared.cause.Line.Line, declared.cause.Wait.Wait, declared.cause.Wrong.Wrong, Claims.moment_at}
 use Rattle.kp_stalls.specs.Occupants.{report}
 use Rattle.kp_sites.specs.Sites.{sited}
@@ -130,10 +131,10 @@ filled_guess n u = record { read = n.read; guessed = Some u; value = n.value; pr
 module _ (job : Job) (T k : ℕ) (v : Wrong) (g : Guess) where
   with_word : (n : Guess) (o : Option Word) → v.guess ≡ Some n → guessed_in job T k n.read ≡ o → guess_with n o ≡ Some g → IsFilled job T k (Squashed v) g
   with_word n None names held e = cc
-  with_word n (Some u) names held e = ⊎_elim
-      (λ (h : (u.value == n.value.value) ≡ true).
+  with_word n (Some u) names held e = by_test (u.value == n.value.value)
+      (λ h.
       (let never : None ≡ Some g = sym (ap (λ b. cond b None (Some (filled_guess n u))) h) ∙ e in cc))
-      (λ (h : (u.value == n.value.value) ≡ false).
+      (λ h.
       let same : filled_guess n u ≡ g = same_Some (filled_guess n u) g (sym (ap (λ b. cond b None (Some (filled_guess n u))) h) ∙ e) in
       record {
         wrong = v;
@@ -147,7 +148,6 @@ module _ (job : Job) (T k : ℕ) (v : Wrong) (g : Guess) where
         value = ap (λ (x : Guess). x.value) (sym same);
         differs = h;
       })
-      (cases_Bool (u.value == n.value.value))
 
   with_named : (o : Option Guess) → v.guess ≡ o → wrong_with job T k o ≡ Some g → IsFilled job T k (Squashed v) g
   with_named None names e = cc

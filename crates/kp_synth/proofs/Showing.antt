@@ -1,10 +1,11 @@
 -- From the statement that identifies parts by their indices to the one that identifies them by their names.
-use Rattle.std.proofs.Common.{◌≡◌, ◌∙◌, ℕ, zero, suc, ◌+◌, ◌-◌, ◌^◌, ◌<◌, ◌≤◌, Bool, true, false, not, List, [], ◌∷◌, ◌++◌, take, drop, length, get_or, map, refl, ap, sym, subst, arith, ⊎_elim}
+use Rattle.std.proofs.Common.{◌≡◌, ◌∙◌, ℕ, zero, suc, ◌+◌, ◌-◌, ◌^◌, ◌<◌, ◌≤◌, true, false, not, List, [], ◌∷◌, ◌++◌, take, drop, length, get_or, map, refl, ap, sym, subst, arith, ⊎_elim}
 use Rattle.std.proofs.lemmas.List.{length-map, get_or-map, get_or-drop, length-drop, take-append-drop, map-append}
-use Rattle.std.{proofs.Math.Seq.take-length, proofs.lemmas.Bool.cases_lt, proofs.lemmas.Bool.cases_Bool, specs.Prelude.codes, specs.Prelude.decimal}
+use Rattle.std.{proofs.Math.Seq.take-length, proofs.lemmas.Bool.cases_lt, proofs.lemmas.Bool.not-true, specs.Prelude.codes, specs.Prelude.decimal}
 use Rattle.kp_ast.specs.declared.tree.Job.{Job}
 use Rattle.kp_machine.specs.Slots.{Slot, targets_of, samples_of, is_register}
 use Rattle.kp_machine.specs.Machine.{machine_of, start_hints, pipe_of, registers_before, files_before}
+use Rattle.kp_machine.proofs.Cases.{by_test}
 use Rattle.kp_pipeline.specs.Rows.{pipe}
 use Rattle.kp_net.specs.declared.netlist.{NetReg.NetReg, NetFile.NetFile, Port.Port}
 use Rattle.kp_net.specs.Netlist.{Net, Input, State, state_after, states_from, rows_from, run, last_of}
@@ -154,25 +155,20 @@ module _ (net : Net) (job : Job) (h : place.Shows net job) (n : IsNamed net) whe
       (λ (a : shown ≤ r). absurd (q_not_r (sym (hidden_is r a l) ∙ e)))
       (cases_lt r shown)
 
-  not_false : (b : Bool) → not b ≡ true → b ≡ false
-  not_false false e = refl
-  not_false true e = sym e
-
   is_own_file : (f : ℕ) → f < length net.parts.files
       → (t : ℕ) × (t < length targets) × (is_register (target job t) ≡ false) × (get_or (file_names net) f [] ≡ file_name (target job t))
   is_own_file f l =
       let m : length net.parts.files ≡ length (files_of job) = sym (length-map net.parts.files file_slot) ∙ ap length h.names.files ∙ length-map (files_of job) (named_with (codes "f_")) in
       let a : f < length (files_of job) = omega (arith, m, l) in
       let c = comes_from (λ (s : Slot). not (is_register s)) targets f no_slot a in
-      (c.at, c.there, not_false _ c.passes, file_name_is f a ∙ ap file_name c.is)
+      (c.at, c.there, not-true _ c.passes, file_name_is f a ∙ ap file_name c.is)
 
   -- the values
   value_is : (st : State) (t a : ℕ) → t < length targets → value_shown job net st t a ≡ shown_word job st t a
   unfolding value_shown
-  value_is st t a l = ⊎_elim
-      (λ (e : is_register (target job t) ≡ true). rw (e, register_number t l e) refl)
-      (λ (e : is_register (target job t) ≡ false). rw (e, file_number_is t l e) refl)
-      (cases_Bool (is_register (target job t)))
+  value_is st t a l = by_test (is_register (target job t))
+      (λ e. rw (e, register_number t l e) refl)
+      (λ e. rw (e, file_number_is t l e) refl)
 
   alike : (ins : List Input) → AreQuiet ins → ShowsAlike job (trace_of job net ins) (pipe_of job (inputs_seen job ins))
   unfolding trace_of

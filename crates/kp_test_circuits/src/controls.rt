@@ -12,14 +12,12 @@ use kp_engine::{Sweep, mismatch, sweep};
 use kp_fwd::{Candidate, Carried, Picked, carried, hit_of, select};
 use kp_net::NodeId;
 use kp_pool::Pool;
-use std::alloc::Global;
 
 /// The names of stages after a dot.
 const STAGES: [&str; 12] = ["0", "1", "2", "3", "4", "5", "6", "7", "8", "9", "10", "11"];
 
 /// Names the nodes that a line requests. Returns the node of an operation, and `Some(None)` for a call that names several nodes.
 pub fn name<'t>(
-    alloc: Global,
     pool: &mut Pool,
     names: &mut Names<'t>,
     words: &[&'t str],
@@ -30,7 +28,6 @@ pub fn name<'t>(
         "sweep" => name_swept(pool, names, words)?,
         _ => {
             let node = made(
-                alloc,
                 pool,
                 &Asked {
                     names: &*names,
@@ -44,11 +41,11 @@ pub fn name<'t>(
     Some(None)
 }
 
-fn made(alloc: Global, pool: &mut Pool, asked: &Asked<'_>) -> Option<NodeId> {
+fn made(pool: &mut Pool, asked: &Asked<'_>) -> Option<NodeId> {
     match asked.head() {
         "inverse" | "both" | "either" | "pick" => of_bits(pool, asked),
         "stall" | "update" | "full-next" => of_bits(pool, asked),
-        "join" => row(alloc, pool, asked),
+        "join" => row(pool, asked),
         "hit" => hit(pool, asked),
         "mismatch" => wrong(pool, asked),
         _ => source(pool, asked),

@@ -13,7 +13,6 @@ use kp_net_gates::{
     binary, bit, both, choose, complement, constant, either, inverse, join, part, pick, same,
 };
 use kp_pool::Pool;
-use std::alloc::Global;
 
 /// A line `NAME = ..`, and the names that were given before it.
 #[derive(Clone, Copy)]
@@ -221,13 +220,13 @@ fn of_three(pool: &mut Pool, a: NodeId, b: NodeId, asked: &Asked<'_>) -> Option<
 }
 
 /// `{a, b}`
-pub fn row(alloc: Global, pool: &mut Pool, asked: &Asked<'_>) -> Option<NodeId> {
+pub fn row(pool: &mut Pool, asked: &Asked<'_>) -> Option<NodeId> {
     let mut parts = [NodeId(0); 12];
     let count = read_nodes(asked, 3, &mut parts)?;
-    row_of(alloc, pool, parts.as_slice().get(..count)?)
+    row_of(pool, parts.as_slice().get(..count)?)
 }
 
-fn row_of(alloc: Global, pool: &mut Pool, parts: &[NodeId]) -> Option<NodeId> {
+fn row_of(pool: &mut Pool, parts: &[NodeId]) -> Option<NodeId> {
     has_room(pool, 1)?;
     if parts.len() < 2 || 12 < parts.len() {
         return None;
@@ -236,7 +235,7 @@ fn row_of(alloc: Global, pool: &mut Pool, parts: &[NodeId]) -> Option<NodeId> {
     if width == 0 {
         return None;
     }
-    Some(join(pool, Operands::new(alloc, parts), width))
+    Some(join(pool, Operands::new(parts), width))
 }
 
 // The width of a concatenation of nodes.

@@ -112,7 +112,7 @@ fn taken<'t>(
     words: &[&'t str],
 ) -> Option<Option<NodeId>> {
     match words.get(1).copied().unwrap_or("") {
-        "=" => controls::name(alloc, pool, &mut circuit.names, words),
+        "=" => controls::name(pool, &mut circuit.names, words),
         _ => {
             circuit.take(alloc, words)?;
             Some(None)

@@ -286,11 +286,10 @@ pub kept_opened : (job : Job) (start : Start) (m0 m : Running) (sited : Sited) (
     → IsKept job start 0 m sited (record { hold = first_hold; recorded = set recorded 0 m.last })
 kept_opened job start m0 m sited recorded plain sites reads results count room is0 st0 is st e =
     let few = few_stages job sites.rules in
-    let low = few.0 in
     let blocks = stages_inside job sites.rules in
     let run : state m ≡ after_one job (state_of job start) [] = st ∙ ap (λ (x : Job). after_one x (state m0) []) is0 ∙ ap (λ x. after_one job x []) st0 in
     let record_is : m.last ≡ record_of job (state_of job start) (λ x. 0) = e ∙ ap (λ (x : Job). record_of x (state m0) (λ y. 0)) is0 ∙ ap (λ x. record_of job x (λ y. 0)) st0 in
-    let first : get_or (set recorded 0 m.last) 0 nothing_recorded ≡ m.last = get_or-set_same recorded 0 m.last nothing_recorded (omega (arith, count, low)) in
+    let first : get_or (set recorded 0 m.last) 0 nothing_recorded ≡ m.last = get_or-set_same recorded 0 m.last nothing_recorded (omega (arith, count, few.0)) in
     kept_first job start m sited (set recorded 0 m.last) plain sites reads results (length-set recorded 0 m.last ∙ count)
     (λ k l. rooms k l first (subst (HasRoom job) (sym record_is) (record_room job (state_of job start) (λ x. 0) blocks))) (is ∙ is0) run (first ∙ record_is)
   where

@@ -1,13 +1,9 @@
 -- How the instructions move on: the instructions in the stages, and what is reported about them.
-use Rattle.std.proofs.Common.{◌≡◌, ◌≢◌, ◌∙◌, ℕ, zero, suc, ◌+◌, ◌<◌, ◌≤◌, List, [], ◌∷◌, None, Bool, true, false, cond, not, ◌&&◌, length, get_or, set, refl, ap, sym, subst, arith, ⊎_elim, ◌⊎◌, inl, inr}
-use Rattle.std.proofs.lemmas.{Bool.cases_eq, Bool.cases_lt, List.length-set, List.get_or-set_same, List.get_or-set_other, List.Edits.swap_is}
+use Rattle.std.proofs.Common.{◌≡◌, ◌≢◌, ◌∙◌, ℕ, zero, suc, ◌+◌, ◌<◌, ◌≤◌, List, None, Bool, true, false, cond, not, ◌&&◌, length, get_or, set, refl, ap, sym, subst, arith, ⊎_elim, ◌⊎◌, inl, inr}
+use Rattle.std.proofs.lemmas.{Bool.cases_eq, Bool.cases_lt, List.length-set, List.get_or-set_same, List.get_or-set_other, List.Edits.swap_is, List.Edits.length-swap}
 use Rattle.std.specs.{Prelude.is_some, List.swap}
 use Rattle.kp_sites.specs.Reports.{nothing_recorded}
 use Rattle.kp_timing.specs.inner.Deciding.{Held, record_in, moves_by, taken_by, taken_down}
-
-swap_count : {X : Type 0} (xs : List X) (i j : ℕ) → length (swap xs i j) ≡ length xs
-swap_count [] i j = refl
-swap_count (x ∷ xs) i j = length-set (set (x ∷ xs) i (get_or (x ∷ xs) j x)) j (get_or (x ∷ xs) i x) ∙ length-set (x ∷ xs) i (get_or (x ∷ xs) j x)
 
 swap_to : {X : Type 0} (xs : List X) (i j : ℕ) (d : X) → i < length xs → j < length xs → get_or (swap xs i j) j d ≡ get_or xs i d
 swap_to xs i j d l m =
@@ -30,7 +26,7 @@ hold_count false true h d = refl
 hold_count false false h d = length-set h.hold (d + 1) None
 
 record_count : (c e : Bool) (h : Held) (d : ℕ) → length (step c e h d).recorded ≡ length h.recorded
-record_count true e h d = swap_count h.recorded d (d + 1)
+record_count true e h d = length-swap h.recorded d (d + 1)
 record_count false true h d = refl
 record_count false false h d = refl
 
@@ -182,7 +178,6 @@ all_came_from b zero h j l n = (j, n, refl)
 all_came_from b (suc d) h j l n =
     let t = record_count (moves_by h b d) (get_or b (d + 1) false) h d in
     let later = all_came_from b d (taken_by b h d) j (omega (arith, t)) (omega (arith, t)) in
-    let there = later.1 in
-    let inside : later.0 < length h.recorded = omega (arith, t, there) in
+    let inside : later.0 < length h.recorded = omega (arith, t, later.1) in
     let first = came_from b h d later.0 (omega arith) inside in
     (first.0, first.1, later.2 ∙ first.2)

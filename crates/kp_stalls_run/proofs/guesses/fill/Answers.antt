@@ -45,6 +45,5 @@ loop-i-preserved c =
 pub returns : goal.returns
 returns c =
     let kept = c.loop-i.invariant in
-    let past = c.loop-i-test.false in
     let count = kept.count in
-    fill_end (line_with c.args.job.now.design.job) c.args.lines.now c.loop-i.lines c.loop-i.i count (omega (arith, past, count)) kept.done
+    fill_end (line_with c.args.job.now.design.job) c.args.lines.now c.loop-i.lines c.loop-i.i count (omega (arith, c.loop-i-test.false, count)) kept.done

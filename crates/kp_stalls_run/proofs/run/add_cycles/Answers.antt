@@ -24,11 +24,9 @@ reach-requires-clause-small c =
     let job = known.job.now.design.job in
     let kept = c.loop-cycle.invariant in
     let low = c.loop-cycle-test.true in
-    let few = c.requires.few in
     let fit = (stages_fit job c.job-tree.ensures.sound.stages).0 in
     let small = numbers_small job.stages.value known.rows.now c.loop-cycle.cycle c.loop-cycle.monitor kept.stages kept.seen (omega (arith, low)) 0 (omega (arith, fit)) in
-    let is = c.count.ensures.kept in
-    omega (arith, low, few, small, is)
+    omega (arith, low, c.requires.few, small, c.count.ensures.kept)
 
 pub loop-cycle-preserved : goal.loop-cycle-preserved
 loop-cycle-preserved c =
@@ -36,22 +34,19 @@ loop-cycle-preserved c =
     let job = known.job.now.design.job in
     let n = job.stages.value in
     let rows = known.rows.now in
-    let columns = known.samples.now.columns.items in
-    let given : ℕ → ℕ → ℕ = λ i. values_in (row_taken columns i) in
+    let given : ℕ → ℕ → ℕ = λ i. values_in (row_taken known.samples.now.columns.items i) in
     let kept = c.loop-cycle.invariant in
     let T = c.loop-cycle.cycle in
     let low : T < length rows = c.loop-cycle-test.true in
     let fit = stages_fit job c.job-tree.ensures.sound.stages in
-    let some = fit.0 in
     let monitor = c.loop-cycle.monitor in
     let window = c.reach.new.window in
     let numbers = numbers_are n rows T monitor kept.stages kept.seen (omega (arith, low)) in
-    let first : c.count.result ≡ counts n (rows_seen n rows) T 0 = c.count.ensures.kept ∙ numbers 0 (omega (arith, some)) in
+    let first : c.count.result ≡ counts n (rows_seen n rows) T 0 = c.count.ensures.kept ∙ numbers 0 (omega (arith, fit.0)) in
     let next = c.reach.ensures.next in
-    let before = kept.next in
     let few = c.requires.close.few T in
     let least : counts n (rows_seen n rows) T 0 < window.next = omega (arith, first, next) in
-    let most : window.next ≤ counts n (rows_seen n rows) T (n - 1) + n = omega (arith, first, next, before, few) in
+    let most : window.next ≤ counts n (rows_seen n rows) T (n - 1) + n = omega (arith, first, next, kept.next, few) in
     let follows : Follows job given window =
     subst (λ j. Follows j given c.loop-cycle.window → Follows j given window) kept.job_is (rw c.as_slice.ensures.value at c.reach.ensures.follows) kept.follows in
     record {

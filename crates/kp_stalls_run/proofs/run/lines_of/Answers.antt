@@ -31,7 +31,6 @@ add_cycles-requires-clause-samples c i =
 pub returns : goal.returns
 returns c =
     let accepted = c.args.job.now in
-    let none = c.new-lines.ensures.items in
-    (rw none at c.in_ok-add_cycles.ensures)
+    (rw c.new-lines.ensures.items at c.in_ok-add_cycles.ensures)
     ∙ lines_taken accepted.design.job accepted.sections.inputs c.job-tree.ensures.sound.names accepted.unbroken accepted.inputs c.args.rows.now c.in_ok-columns.columns.items c.in_ok-columns.ensures
     (λ T. bit_of (get_or c.args.words.now T 0))

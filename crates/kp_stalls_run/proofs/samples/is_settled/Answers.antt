@@ -7,9 +7,6 @@ use Rattle.kp_stalls_run.proofs.samples.is_settled.Goals as goal
 pub returns-then-not-settles : goal.returns-then-not-settles
 returns-then-not-settles c =
     let job = c.args.job.now.design.job in
-    let low = c.loop-x-test.true in
-    let last = c.len-x-end.ensures in
-    let count = c.requires.columns in
-    let within : c.loop-x.x < length (sample_stages job.decls) = omega (arith, low, last, count) in
+    let within : c.loop-x.x < length (sample_stages job.decls) = omega (arith, c.loop-x-test.true, c.len-x-end.ensures, c.requires.columns) in
     unsettled job (λ j. values_in (row_taken c.args.samples.now.columns.items j)) c.args.cycle c.args.k c.args.i c.loop-x.x within
     (sym c.settles.ensures ∙ c.if-not-settles.true)

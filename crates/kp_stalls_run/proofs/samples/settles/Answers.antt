@@ -13,17 +13,13 @@ overflow_cast-x c =
     let names = c.job-kept.ensures.sound.names in
     let few = feeds_few job accepted.sections.inputs names accepted.unbroken accepted.inputs accepted.few in
     let many = feeds_many job accepted.sections.inputs names accepted.unbroken accepted.inputs in
-    let there = c.requires.sample in
-    let count = c.requires.columns in
-    omega (arith, few, many, there, count)
+    omega (arith, few, many, c.requires.sample, c.requires.columns)
 
 pub value-now-requires : goal.value-now-requires
 value-now-requires c =
     let accepted = c.args.job.now in
     let many = feeds_many accepted.design.job accepted.sections.inputs c.job-kept.ensures.sound.names accepted.unbroken accepted.inputs in
-    let there = c.requires.sample in
-    let count = c.requires.columns in
-    omega (arith, many, there, count)
+    omega (arith, many, c.requires.sample, c.requires.columns)
 
 pub returns : goal.returns
 returns c =

@@ -7,15 +7,13 @@ use Rattle.kp_timing.proofs.writing.write_cycles.Goals as goal
 
 pub loop-cycle-init : goal.loop-cycle-init
 loop-cycle-init g c =
-    let t = c.args.timeline.now in
-    let n = c.stages-n.ensures.stages in
     let some = c.stages-n.ensures.some in
     record {
       job = refl;
       ran = c.requires.opened.cycles;
       retired = omega arith;
       waited = omega arith;
-      text = left_is _ _ _ _ _ (all_left t c.args.count (omega (arith, n, some)) c.requires.opened) (written_none _ _);
+      text = left_is _ _ _ _ _ (all_left c.args.timeline.now c.args.count (omega (arith, c.stages-n.ensures.stages, some)) c.requires.opened) (written_none _ _);
       later = omega arith;
     }
 
@@ -42,17 +40,13 @@ loop-cycle-preserved g c =
     next_left c.args.timeline.now.job c.loop-cycle.timeline c.cycle-row.new.self c.cycle-row.result c.held-hold.result c.word.result c.args.count c.loop-cycle.cycle c.stages-n.result c.waits.result
     c.loop-cycle.totals.retired c.loop-cycle.totals.waited _ _ kept.job (omega (arith, top)) (c.stages-n.ensures.stages ∙ sym (ap (λ (j : Job). j.stages.value) kept.job)) c.stages-n.ensures.some
     (c.word.ensures ∙ ap (λ (f : ℕ → ℕ). f c.loop-cycle.cycle) c.requires.stalls) c.cycle-row.ensures c.held-hold.ensures c.waits.ensures more.retired more.waited in
-    let r = kept.retired in
-    let w = kept.waited in
-    let a = more.retired in
-    let b = more.waited in
     let one = at_most_one (bit_of c.cycle-row.result.ue (c.stages-n.result - 1)) in
     let other = at_most_one_more (bit_of c.cycle-row.result.ue 0) in
     record {
       job = c.cycle-row.ensures.job ∙ kept.job;
       ran = c.cycle-row.ensures.cycles ∙ ap (λ (n : ℕ). n + 1) kept.ran;
-      retired = omega (arith, r, a, one);
-      waited = omega (arith, w, b, other);
+      retired = omega (arith, kept.retired, more.retired, one);
+      waited = omega (arith, kept.waited, more.waited, other);
       text = written_piece _ _ _ _ _ _ (left_is _ _ _ _ _ next kept.text) c.in_ok-write_line.ensures.text;
       later = omega arith;
     }

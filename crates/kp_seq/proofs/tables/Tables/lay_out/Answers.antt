@@ -5,8 +5,8 @@ use Rattle.kp_seq.specs.inner.Tables.{ports_of}
 use Rattle.kp_machine.specs.Slots.{targets_of, pipes_of, samples_of}
 use Rattle.kp_seq.proofs.tables.Tables.lay_out.Goals as goal
 
-pub returns : goal.returns
-returns c =
+pub returns-clause-tables : goal.returns-clause-tables
+returns-clause-tables c =
     let e = c.as_slice-decls.ensures ∙ ap (λ (j : Job). j.decls) c.job.ensures.job in
     record {
       decls = e;
@@ -14,6 +14,6 @@ returns c =
       pipes = c.in_ok-pipes.ensures ∙ ap pipes_of e;
       samples = c.in_ok-samples.ensures ∙ ap samples_of e;
       ports = c.in_ok-ports.ensures ∙ ap ports_of e;
-      names = c.in_ok-names.ensures ∙ ap (keys_of []) (c.widths.ensures ∙ c.job.ensures.sound.widths);
+      names = c.in_ok-names.ensures ∙ c.in_ok-keys.ensures ∙ ap (keys_of []) (c.widths.ensures ∙ c.job.ensures.sound.widths);
       declared = c.one_entry_for_each_name.ensures c.args.d.now.job;
     }

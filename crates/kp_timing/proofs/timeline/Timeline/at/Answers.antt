@@ -6,7 +6,4 @@ pub number-requires : goal.number-requires
 number-requires c =
     let k = c.self.invariant in
     let same = ap (λ (x : Timed). x.job.stages.value) c.self.view_is in
-    let few = k.few in
-    let below = c.requires in
-    let is = c.from.ensures in
-    record { in_range = omega (arith, few, same, below, is); hold = k.holds }
+    record { in_range = omega (arith, k.few, same, c.requires, c.from.ensures); hold = k.holds }

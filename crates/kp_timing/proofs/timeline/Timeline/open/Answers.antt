@@ -32,10 +32,9 @@ invariant_of-result c =
     let few = c.flights.ensures in
     let sum = c.summary-summary.ensures in
     let stages = c.stages.ensures ∙ stages_are sites in
-    let machine = c.in_ok-machine.machine in
     let run = c.run_next.ensures in
     let kept =
-    kept_opened job c.args.start.now machine c.run_next.new.machine c.in_ok-sites.sites c.in_ok-flights.flights.items c.requires.plain sites
+    kept_opened job c.args.start.now c.in_ok-machine.machine c.run_next.new.machine c.in_ok-sites.sites c.in_ok-flights.flights.items c.requires.plain sites
     (subst (λ (x : Summary). x.reads < 2 ^ 32) sum few.few_reads) (subst (λ (x : Summary). x.results < 2 ^ 32) sum few.few_results) (fs.count ∙ stages)
     (λ k l. record {
       reads = fs.reads k (omega (arith, l, stages)) ∙ ap (λ (x : Summary). x.reads) sum;

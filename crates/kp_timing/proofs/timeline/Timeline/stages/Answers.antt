@@ -7,5 +7,4 @@ returns-clause-some c =
     let k = c.self.invariant in
     let low = (few_stages c.self.inside.design.now.job k.sites.rules).0 in
     let is = stages_are k.sites in
-    let same = c.stages.ensures in
-    omega (arith, low, is, same)
+    omega (arith, low, is, c.stages.ensures)
