@@ -68,9 +68,15 @@ impl Hash for Name {
 }
 
 /// The first declaration of each label, by its name.
-#[derive(Drop)]
 pub struct Labels {
     declared: IndexMap<Name, Label>,
+}
+
+impl Drop for Labels {
+    fn drop(self) {
+        let Labels { declared } = self;
+        drop(declared);
+    }
 }
 
 impl Model for Labels {

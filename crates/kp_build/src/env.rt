@@ -12,10 +12,16 @@ use std::alloc::Global;
 use std::marker::Model;
 
 /// Names with their nodes, and the functions that expressions may call.
-#[derive(Drop)]
 pub struct Env<'a> {
     decls: &'a [Decl],
     names: IndexMap<Name, NodeId>,
+}
+
+impl Drop for Env<'_> {
+    fn drop(self) {
+        let Env { decls: _, names } = self;
+        drop(names);
+    }
 }
 
 impl<'a> Model for Env<'a> {

@@ -21,7 +21,7 @@ use std::alloc::Global;
 use std::marker::Model;
 
 /// A netlist that runs; contracts see it as the netlist, its present state, and the contents of its slots.
-#[derive(Debug, Drop)]
+#[derive(Debug)]
 pub struct Sim<'n> {
     net: &'n Netlist,
     heads: u32,
@@ -29,6 +29,22 @@ pub struct Sim<'n> {
     fixed: usize,
     latches: Latches,
     memory: Memory,
+}
+
+impl Drop for Sim<'_> {
+    fn drop(self) {
+        let Sim {
+            net: _,
+            heads: _,
+            steps,
+            fixed: _,
+            latches,
+            memory,
+        } = self;
+        drop(steps);
+        drop(latches);
+        drop(memory);
+    }
 }
 
 impl<'n> Model for Sim<'n> {

@@ -17,7 +17,7 @@ use std::marker::Model;
 /// span, so that the index of a register is that of its word. All these are adjacent, so that the complete state is a
 /// span as well, and each slot is another span of its size. The values of the nodes are no part of the state: each cycle
 /// computes those that are needed.
-#[derive(Debug, Drop)]
+#[derive(Debug)]
 pub struct Memory {
     nodes: Vec<u64>,
     region: Region,
@@ -25,6 +25,24 @@ pub struct Memory {
     files: Vec<Span>,
     whole: Span,
     slots: Vec<Slot>,
+}
+
+impl Drop for Memory {
+    fn drop(self) {
+        let Memory {
+            nodes,
+            region,
+            reg_count: _,
+            files,
+            whole,
+            slots,
+        } = self;
+        drop(nodes);
+        drop(region);
+        drop(files);
+        drop(whole);
+        drop(slots);
+    }
 }
 
 impl Model for Memory {

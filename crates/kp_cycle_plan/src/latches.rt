@@ -32,10 +32,18 @@ pub struct Held {
 }
 
 /// The latches of all registers, by their kind.
-#[derive(Debug, Drop)]
+#[derive(Debug)]
 pub struct Latches {
     pub moved: Vec<Moved>,
     pub held: Vec<Held>,
+}
+
+impl Drop for Latches {
+    fn drop(self) {
+        let Latches { moved, held } = self;
+        drop(moved);
+        drop(held);
+    }
 }
 
 /// The latches of all registers.

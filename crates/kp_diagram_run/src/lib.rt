@@ -23,10 +23,17 @@ use kp_synth::synth;
 use std::alloc::Global;
 
 /// The rows and the stall words of a run of a job.
-#[derive(Drop)]
 pub struct JobRun {
     pub rows: Vec<Row>,
     pub words: Vec<u16>,
+}
+
+impl Drop for JobRun {
+    fn drop(self) {
+        let JobRun { rows, words } = self;
+        drop(rows);
+        drop(words);
+    }
 }
 
 /// Runs the pipelined machine of a job for `count` cycles, under the job's own stall words and samples. The only error is out of memory.

@@ -16,11 +16,23 @@ use std::alloc::Global;
 use std::marker::Model;
 
 /// The names of a netlist's registers, files and sample ports.
-#[derive(Drop)]
 pub(crate) struct Known<'m> {
     pub regs: Names<'m>,
     pub files: Names<'m>,
     pub samples: Names<'m>,
+}
+
+impl Drop for Known<'_> {
+    fn drop(self) {
+        let Known {
+            regs,
+            files,
+            samples,
+        } = self;
+        drop(regs);
+        drop(files);
+        drop(samples);
+    }
 }
 
 impl<'m> Model for Known<'m> {

@@ -10,9 +10,15 @@ use std::alloc::Global;
 use std::marker::Model;
 
 /// Names with their indices, looked up in about constant time. Contracts see the list of them.
-#[derive(Drop)]
 pub struct Names<'m> {
     names: IndexSet<Key<'m>>,
+}
+
+impl Drop for Names<'_> {
+    fn drop(self) {
+        let Names { names } = self;
+        drop(names);
+    }
 }
 
 impl<'m> Model for Names<'m> {

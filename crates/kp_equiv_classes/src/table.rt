@@ -10,9 +10,15 @@ use std::alloc::Global;
 use std::marker::Model;
 
 /// Shapes by their numbers, from 0 on, and the number of each, which is looked up in about constant time. No two are equal.
-#[derive(Drop)]
 pub(crate) struct Table {
     shapes: IndexSet<Node>,
+}
+
+impl Drop for Table {
+    fn drop(self) {
+        let Table { shapes } = self;
+        drop(shapes);
+    }
 }
 
 impl Model for Table {

@@ -8,12 +8,19 @@ use kp_net::{Netlist, NodeId};
 
 /// The classes of the nodes of two netlists, by the numbers of the nodes. In the classes of a netlist comparison (`Determines`), two nodes have the same
 /// class exactly if their trees are equivalent.
-#[derive(Drop)]
 pub struct Classes {
     /// The class of each node of the first netlist.
     pub first: Vec<NodeId>,
     /// The class of each node of the second netlist.
     pub second: Vec<NodeId>,
+}
+
+impl Drop for Classes {
+    fn drop(self) {
+        let Classes { first, second } = self;
+        drop(first);
+        drop(second);
+    }
 }
 
 impl Classes {

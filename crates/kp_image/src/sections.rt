@@ -19,11 +19,24 @@ use kp_stage::{Design, Start};
 use std::alloc::Global;
 
 /// The contents of a job's sections.
-#[derive(Debug, Drop)]
+#[derive(Debug)]
 pub struct Sections {
     pub start: Start,
     pub stalls: StallPattern,
     pub inputs: InputPattern,
+}
+
+impl Drop for Sections {
+    fn drop(self) {
+        let Sections {
+            start,
+            stalls,
+            inputs,
+        } = self;
+        drop(start);
+        drop(stalls);
+        drop(inputs);
+    }
 }
 
 /// The start state of a design, its stall words and the values of its samples. Errors: the first of the rules E30 to

@@ -43,7 +43,7 @@ pub struct NetFile {
 }
 
 /// All parts of a netlist other than its nodes.
-#[derive(Debug, Drop)]
+#[derive(Debug)]
 pub struct Parts {
     pub name: Label,
     /// The width of the stall word.
@@ -59,6 +59,26 @@ pub struct Parts {
     pub ue: NodeId,
     /// The output `back`: the stage of a wrong guess.
     pub back: NodeId,
+}
+
+impl Drop for Parts {
+    fn drop(self) {
+        let Parts {
+            name,
+            ext: _,
+            reset: _,
+            samples,
+            regs,
+            files,
+            full: _,
+            ue: _,
+            back: _,
+        } = self;
+        drop(name);
+        drop(samples);
+        drop(regs);
+        drop(files);
+    }
 }
 
 /// A netlist: operands precede the nodes that use them, widths fit, and each reference is to an existing part.

@@ -9,9 +9,16 @@ use std::alloc::Global;
 use std::marker::Model;
 
 /// Nodes by their numbers, from 0 on, and the number of each node, looked up in about constant time.
-#[derive(Debug, Drop)]
+#[derive(Debug)]
 pub(crate) struct Index {
     nodes: IndexSet<Node>,
+}
+
+impl Drop for Index {
+    fn drop(self) {
+        let Index { nodes } = self;
+        drop(nodes);
+    }
 }
 
 impl Model for Index {

@@ -17,12 +17,24 @@ use std::alloc::Global;
 use std::marker::Model;
 
 /// Nodes, no two of them equal and none foldable, and capacity for more.
-#[derive(Debug, Drop)]
+#[derive(Debug)]
 pub struct Pool {
     nodes: Vec<Node>,
     spare: u32,
     // An index of the first nodes: of all of them, unless an allocation failed.
     index: Index,
+}
+
+impl Drop for Pool {
+    fn drop(self) {
+        let Pool {
+            nodes,
+            spare: _,
+            index,
+        } = self;
+        drop(nodes);
+        drop(index);
+    }
 }
 
 impl Model for Pool {
@@ -94,7 +106,12 @@ impl Pool {
         ensures net { result ≡ record { nodes = self.nodes; parts = parts } }
         ensures distinct { Distinct result.nodes }
     {
-        let Pool { nodes, .. } = self;
+        let Pool {
+            nodes,
+            spare: _,
+            index,
+        } = self;
+        drop(index);
         Netlist::from_nodes(nodes, parts)
     }
 

@@ -59,10 +59,17 @@ impl Drop for Board<'_> {
 }
 
 // The machines after a run, and for each target the number of the machine that has its value.
-#[derive(Drop)]
 struct Lanes<'a> {
     machines: Vec<SeqMachine<'a>>,
     homes: Vec<u8>,
+}
+
+impl Drop for Lanes<'_> {
+    fn drop(self) {
+        let Lanes { machines, homes } = self;
+        drop(machines);
+        drop(homes);
+    }
 }
 
 impl<'a> Board<'a> {

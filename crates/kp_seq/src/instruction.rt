@@ -18,11 +18,23 @@ use std::marker::Model;
 
 /// An instruction in flight: the values of the names of its stage, indexed by the names' numbers, those of its pipes,
 /// and its results, indexed by their targets.
-#[derive(Drop)]
 pub(crate) struct Instruction {
     pub names: Vec<u64>,
     pub pipes: Vec<u64>,
     pub results: Vec<Option<u64>>,
+}
+
+impl Drop for Instruction {
+    fn drop(self) {
+        let Instruction {
+            names,
+            pipes,
+            results,
+        } = self;
+        drop(names);
+        drop(pipes);
+        drop(results);
+    }
 }
 
 impl Model for Instruction {

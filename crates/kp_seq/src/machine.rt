@@ -24,10 +24,17 @@ use std::rc::Rc;
 
 /// A resolved design: the tables that are looked up while instructions run, and the program. It is made once, and no step
 /// changes it, so that the copies of a machine share it.
-#[derive(Drop)]
 struct Resolved<'a> {
     tables: Tables<'a>,
     program: Program,
+}
+
+impl Drop for Resolved<'_> {
+    fn drop(self) {
+        let Resolved { tables, program } = self;
+        drop(tables);
+        drop(program);
+    }
 }
 
 impl<'a> Resolved<'a> {

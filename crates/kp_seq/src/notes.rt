@@ -23,7 +23,6 @@ pub(crate) struct Outlet {
 
 /// The results of a machine, the record of an instruction's reads and results, and, while it runs, the number of
 /// reads so far and the stage in which each result was set.
-#[derive(Drop)]
 pub(crate) struct Notes {
     outlets: Vec<Outlet>,
     reads: Vec<Option<u32>>,
@@ -31,6 +30,24 @@ pub(crate) struct Notes {
     set_in: Vec<Option<u64>>,
     writes: Vec<Option<u32>>,
     settings: Vec<u8>,
+}
+
+impl Drop for Notes {
+    fn drop(self) {
+        let Notes {
+            outlets,
+            reads,
+            next: _,
+            set_in,
+            writes,
+            settings,
+        } = self;
+        drop(outlets);
+        drop(reads);
+        drop(set_in);
+        drop(writes);
+        drop(settings);
+    }
 }
 
 impl Model for Notes {

@@ -6,10 +6,16 @@ use std::marker::Model;
 
 /// The indices of the names of the pipes, in the order of the pipes, and the first one if they are in sequence, as where the
 /// pipes are declared together.
-#[derive(Drop)]
 pub(crate) struct Places {
     items: Vec<Option<usize>>,
     first: Option<usize>,
+}
+
+impl Drop for Places {
+    fn drop(self) {
+        let Places { items, first: _ } = self;
+        drop(items);
+    }
 }
 
 impl Model for Places {

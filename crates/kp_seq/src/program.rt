@@ -36,11 +36,23 @@ pub(crate) enum Step {
 }
 
 /// The indices of the names of the samples and of the pipes, and the steps of each stage.
-#[derive(Drop)]
 pub(crate) struct Program {
     pub samples: Vec<Option<usize>>,
     pub pipes: Places,
     pub stages: Vec<List<Step>>,
+}
+
+impl Drop for Program {
+    fn drop(self) {
+        let Program {
+            samples,
+            pipes,
+            stages,
+        } = self;
+        drop(samples);
+        drop(pipes);
+        drop(stages);
+    }
 }
 
 impl Model for Program {

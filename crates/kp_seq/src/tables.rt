@@ -162,7 +162,6 @@ pub(crate) fn pipe_number(pipes: &[Slot], name: &Option<Named>) -> Option<usize>
 }
 
 /// The tables of a machine, with the declarations, which are borrowed.
-#[derive(Drop)]
 pub(crate) struct Tables<'a> {
     pub decls: &'a [Decl],
     pub targets: Vec<Slot>,
@@ -170,6 +169,24 @@ pub(crate) struct Tables<'a> {
     pub samples: Vec<Slot>,
     pub ports: Vec<Option<Port>>,
     pub names: Vec<Name>,
+}
+
+impl Drop for Tables<'_> {
+    fn drop(self) {
+        let Tables {
+            decls: _,
+            targets,
+            pipes,
+            samples,
+            ports,
+            names,
+        } = self;
+        drop(targets);
+        drop(pipes);
+        drop(samples);
+        drop(ports);
+        drop(names);
+    }
 }
 
 impl<'a> Model for Tables<'a> {

@@ -12,9 +12,15 @@ use std::alloc::Global;
 use std::marker::Model;
 
 /// The words of each target, in the order of declaration: one for a register, and one for each address of a file.
-#[derive(Drop)]
 pub(crate) struct Words {
     targets: Vec<Vec<u64>>,
+}
+
+impl Drop for Words {
+    fn drop(self) {
+        let Words { targets } = self;
+        drop(targets);
+    }
 }
 
 impl Model for Words {

@@ -9,11 +9,23 @@ use std::alloc::Global;
 use std::marker::Model;
 
 /// The addresses of its reads and of its results, and the stages in which the results were set, each by number.
-#[derive(Drop)]
 pub struct Reported {
     reads: Vec<Option<u32>>,
     writes: Vec<Option<u32>>,
     settings: Vec<u8>,
+}
+
+impl Drop for Reported {
+    fn drop(self) {
+        let Reported {
+            reads,
+            writes,
+            settings,
+        } = self;
+        drop(reads);
+        drop(writes);
+        drop(settings);
+    }
 }
 
 impl Model for Reported {

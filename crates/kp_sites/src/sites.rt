@@ -29,11 +29,22 @@ pub struct Writer {
 }
 
 /// The number of stages, the reads in text order, and how each target is written.
-#[derive(Drop)]
 pub struct Sites {
     stages: usize,
     reads: Vec<Site>,
     writers: Vec<Option<Writer>>,
+}
+
+impl Drop for Sites {
+    fn drop(self) {
+        let Sites {
+            stages: _,
+            reads,
+            writers,
+        } = self;
+        drop(reads);
+        drop(writers);
+    }
 }
 
 impl Model for Sites {

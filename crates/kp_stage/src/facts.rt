@@ -27,9 +27,15 @@ impl Model for Spot {
 }
 
 // A map from names to values.
-#[derive(Drop)]
 pub(crate) struct Table<V> {
     values: IndexMap<Name, V>,
+}
+
+impl<V: Drop> Drop for Table<V> {
+    fn drop(self) {
+        let Table { values } = self;
+        drop(values);
+    }
 }
 
 impl<V> Model for Table<V> {
@@ -94,7 +100,6 @@ impl Table<u64> {
 }
 
 // The facts from the declarations.
-#[derive(Drop)]
 pub(crate) struct OfDecls {
     /// The number of the declaration of a hint.
     pub hints: Table<usize>,
@@ -106,6 +111,23 @@ pub(crate) struct OfDecls {
     pub write_stages: Table<u64>,
     /// The lowest write stage of a target.
     pub writes: Table<u64>,
+}
+
+impl Drop for OfDecls {
+    fn drop(self) {
+        let OfDecls {
+            hints,
+            results,
+            samples,
+            write_stages,
+            writes,
+        } = self;
+        drop(hints);
+        drop(results);
+        drop(samples);
+        drop(write_stages);
+        drop(writes);
+    }
 }
 
 impl OfDecls {
@@ -153,7 +175,6 @@ impl OfDecls {
 }
 
 // The facts from the statements.
-#[derive(Drop)]
 pub(crate) struct OfStmts {
     /// The first put of a pipe.
     pub puts: Table<Spot>,
@@ -161,6 +182,15 @@ pub(crate) struct OfStmts {
     pub aims: Table<Spot>,
     /// For each stage the first statement that sets a result.
     pub sets: Vec<Table<usize>>,
+}
+
+impl Drop for OfStmts {
+    fn drop(self) {
+        let OfStmts { puts, aims, sets } = self;
+        drop(puts);
+        drop(aims);
+        drop(sets);
+    }
 }
 
 impl OfStmts {
@@ -176,7 +206,6 @@ impl OfStmts {
     }
 }
 
-#[derive(Drop)]
 pub(crate) struct Facts {
     /// The number of stages.
     pub stages: u64,
@@ -184,6 +213,19 @@ pub(crate) struct Facts {
     pub given: OfStmts,
     /// The largest write stage of a guessed register, or 0.
     pub top: u64,
+}
+
+impl Drop for Facts {
+    fn drop(self) {
+        let Facts {
+            stages: _,
+            named,
+            given,
+            top: _,
+        } = self;
+        drop(named);
+        drop(given);
+    }
 }
 
 impl Model for Facts {

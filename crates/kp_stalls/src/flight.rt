@@ -18,10 +18,17 @@ use std::alloc::Global;
 use std::marker::Model;
 
 /// Its report, and the values that the targets of its reads had before it, each by number.
-#[derive(Drop)]
 pub(crate) struct Flight {
     reported: Reported,
     values: Vec<Bits>,
+}
+
+impl Drop for Flight {
+    fn drop(self) {
+        let Flight { reported, values } = self;
+        drop(reported);
+        drop(values);
+    }
 }
 
 impl Model for Flight {

@@ -18,12 +18,25 @@ use std::alloc::Global;
 use std::marker::Model;
 
 /// A sequential machine that runs, the tables of its job, and what it reported of the last sixteen instructions.
-#[derive(Drop)]
 pub struct Window<'a> {
     machine: SeqMachine<'a>,
     sites: Sites,
     next: u64,
     ring: Vec<Flight>,
+}
+
+impl Drop for Window<'_> {
+    fn drop(self) {
+        let Window {
+            machine,
+            sites,
+            next: _,
+            ring,
+        } = self;
+        drop(machine);
+        drop(sites);
+        drop(ring);
+    }
 }
 
 impl<'a> Model for Window<'a> {

@@ -54,10 +54,17 @@ fn names_guess(cause: Cause) -> bool
 }
 
 // The tables that say which registers hold a guess of a read.
-#[derive(Drop)]
 struct Tables<'a> {
     layout: Layout<'a>,
     sites: Sites,
+}
+
+impl Drop for Tables<'_> {
+    fn drop(self) {
+        let Tables { layout, sites } = self;
+        drop(layout);
+        drop(sites);
+    }
 }
 
 // The same, by a netlist of the job.

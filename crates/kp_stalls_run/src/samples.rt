@@ -12,10 +12,17 @@ use kp_run::Column;
 use std::alloc::Global;
 
 /// The samples of a run: the stage of each, and the values that the instructions take.
-#[derive(Drop)]
 pub(crate) struct Samples {
     pub stages: Vec<u64>,
     pub columns: Vec<Column>,
+}
+
+impl Drop for Samples {
+    fn drop(self) {
+        let Samples { stages, columns } = self;
+        drop(stages);
+        drop(columns);
+    }
 }
 
 /// The stages of the samples. The only error is out of memory.

@@ -12,11 +12,23 @@ use std::alloc::Global;
 use std::marker::Model;
 
 /// The lines of a run, with the labels of the reads and the number of waits for each of them.
-#[derive(Drop)]
 pub struct Report {
     labels: Vec<Label>,
     lines: Vec<Line>,
     waits: Vec<u64>,
+}
+
+impl Drop for Report {
+    fn drop(self) {
+        let Report {
+            labels,
+            lines,
+            waits,
+        } = self;
+        drop(labels);
+        drop(lines);
+        drop(waits);
+    }
 }
 
 impl Model for Report {

@@ -20,7 +20,6 @@ use kp_synth_tables::Layout;
 use std::alloc::Global;
 
 /// The nodes that close a netlist.
-#[derive(Drop)]
 pub struct Ends {
     /// For each register, in the order of the keys, its next node: the one whose value it latches at the end of a cycle.
     pub nexts: Vec<NodeId>,
@@ -28,6 +27,18 @@ pub struct Ends {
     pub ports: Vec<Option<WritePort>>,
     /// The outputs.
     pub row: RowNodes,
+}
+
+impl Drop for Ends {
+    fn drop(self) {
+        let Ends {
+            nexts,
+            ports,
+            row: _,
+        } = self;
+        drop(nexts);
+        drop(ports);
+    }
 }
 
 /// The nodes that close the netlist, from the outcomes of the stages, the first stage first.

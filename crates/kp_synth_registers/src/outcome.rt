@@ -17,7 +17,7 @@ pub struct Made {
 }
 
 /// The nodes of a stage: what it does in a cycle.
-#[derive(Debug, Drop)]
+#[derive(Debug)]
 pub struct Outcome {
     /// Whether the stage stalls.
     pub stall: NodeId,
@@ -31,4 +31,21 @@ pub struct Outcome {
     pub made: List<Made>,
     /// For each hint, the value that is aimed at it.
     pub aims: List<Option<NodeId>>,
+}
+
+impl Drop for Outcome {
+    fn drop(self) {
+        let Outcome {
+            stall: _,
+            miss: _,
+            puts,
+            sets,
+            made,
+            aims,
+        } = self;
+        drop(puts);
+        drop(sets);
+        drop(made);
+        drop(aims);
+    }
 }

@@ -18,7 +18,7 @@ use kp_synth_tables::{Key, Layout};
 use std::alloc::Global;
 
 /// The nodes that are built before those of the stages. Their meaning in contracts is `Ready`.
-#[derive(Debug, Drop)]
+#[derive(Debug)]
 pub struct Reads {
     /// One for each register, in the order of the keys: it has the value of the register.
     pub registers: List<NodeId>,
@@ -26,6 +26,18 @@ pub struct Reads {
     pub samples: List<NodeId>,
     /// The node with the value of the stall word.
     pub ext: NodeId,
+}
+
+impl Drop for Reads {
+    fn drop(self) {
+        let Reads {
+            registers,
+            samples,
+            ext: _,
+        } = self;
+        drop(registers);
+        drop(samples);
+    }
 }
 
 // The width of a register.

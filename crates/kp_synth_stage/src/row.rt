@@ -22,11 +22,22 @@ pub enum Own {
 }
 
 /// A target as reads see it: its own value, and the stages above that may write it, nearest first.
-#[derive(Drop)]
 pub struct Source {
     pub own: Own,
     pub width: u8,
     pub rows: Vec<Row>,
+}
+
+impl Drop for Source {
+    fn drop(self) {
+        let Source {
+            own,
+            width: _,
+            rows,
+        } = self;
+        drop(own);
+        drop(rows);
+    }
 }
 
 /// The truth of a read: whether it is available, and the value.

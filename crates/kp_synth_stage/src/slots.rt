@@ -48,12 +48,26 @@ impl Slot {
 }
 
 /// The slots of a job, by number.
-#[derive(Drop)]
 pub struct Slots {
     pub targets: Vec<Slot>,
     pub pipes: Vec<Slot>,
     pub samples: Vec<Slot>,
     pub hints: Vec<Slot>,
+}
+
+impl Drop for Slots {
+    fn drop(self) {
+        let Slots {
+            targets,
+            pipes,
+            samples,
+            hints,
+        } = self;
+        drop(targets);
+        drop(pipes);
+        drop(samples);
+        drop(hints);
+    }
 }
 
 impl Slots {

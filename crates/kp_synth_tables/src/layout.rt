@@ -54,7 +54,6 @@ pub struct Aimed {
 }
 
 /// The tables of a design, seen as its job.
-#[derive(Drop)]
 pub struct Layout<'a> {
     design: &'a Design,
     targets: Vec<Sized>,
@@ -64,6 +63,28 @@ pub struct Layout<'a> {
     samples: Vec<u8>,
     guesses: Vec<GuessSlot>,
     keys: Vec<Key>,
+}
+
+impl Drop for Layout<'_> {
+    fn drop(self) {
+        let Layout {
+            design: _,
+            targets,
+            ports,
+            pipes,
+            hints,
+            samples,
+            guesses,
+            keys,
+        } = self;
+        drop(targets);
+        drop(ports);
+        drop(pipes);
+        drop(hints);
+        drop(samples);
+        drop(guesses);
+        drop(keys);
+    }
 }
 
 impl<'a> Model for Layout<'a> {

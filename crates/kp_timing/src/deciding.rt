@@ -8,10 +8,16 @@ use kp_sites::{Reported, Site, Sites, Writer};
 use std::marker::Model;
 
 /// The instructions in the stages: their numbers, and what the sequential machine reported about each.
-#[derive(Drop)]
 pub(crate) struct Pipeline {
     pub hold: [Option<u64>; 12],
     pub flights: Vec<Reported>,
+}
+
+impl Drop for Pipeline {
+    fn drop(self) {
+        let Pipeline { hold: _, flights } = self;
+        drop(flights);
+    }
 }
 
 impl Model for Pipeline {

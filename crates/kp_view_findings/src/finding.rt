@@ -27,11 +27,18 @@ pub struct Caution<'t> {
 }
 
 /// The first findings of a pass, in its order.
-#[derive(Drop)]
 pub struct Findings<'t> {
     all: Vec<Finding<'t>>,
     /// The names whose declarations are missing or doubtful. Of these no more is said, since it may follow from that.
     doubtful: Table<bool>,
+}
+
+impl Drop for Findings<'_> {
+    fn drop(self) {
+        let Findings { all, doubtful } = self;
+        drop(all);
+        drop(doubtful);
+    }
 }
 
 impl<'t> Findings<'t> {

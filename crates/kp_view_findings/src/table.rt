@@ -9,9 +9,15 @@ use std::alloc::Global;
 use std::marker::Model;
 
 /// Names with what is known of each, which contracts see as the list of them, in the order in which they were noted.
-#[derive(Drop)]
 pub struct Table<V> {
     values: IndexMap<Name, V>,
+}
+
+impl<V: Drop> Drop for Table<V> {
+    fn drop(self) {
+        let Table { values } = self;
+        drop(values);
+    }
 }
 
 impl<V> Model for Table<V> {

@@ -9,9 +9,15 @@ use std::alloc::Global;
 use std::marker::Model;
 
 // Names with their widths, in the order in which they were added.
-#[derive(Drop)]
 pub(crate) struct Table {
     widths: IndexMap<Name, u8>,
+}
+
+impl Drop for Table {
+    fn drop(self) {
+        let Table { widths } = self;
+        drop(widths);
+    }
 }
 
 impl Model for Table {
@@ -49,10 +55,17 @@ impl Table {
 }
 
 // The names in scope at a place in the text: those of the text, and those of the open function or block.
-#[derive(Drop)]
 pub(crate) struct Names {
     text: Table,
     local: Table,
+}
+
+impl Drop for Names {
+    fn drop(self) {
+        let Names { text, local } = self;
+        drop(text);
+        drop(local);
+    }
 }
 
 impl Model for Names {

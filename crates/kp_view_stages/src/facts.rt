@@ -21,7 +21,6 @@ pub(crate) struct Declared {
 }
 
 /// What the rules look up.
-#[derive(Drop)]
 pub(crate) struct Facts {
     /// Where a pipe is put first, and a hint aimed first.
     pub puts: Table<Spot>,
@@ -33,6 +32,26 @@ pub(crate) struct Facts {
     pub outputs: Table<Declared>,
     /// The largest write stage of a guessed register, or 0.
     pub top: u64,
+}
+
+impl Drop for Facts {
+    fn drop(self) {
+        let Facts {
+            puts,
+            aims,
+            hints,
+            samples,
+            first,
+            outputs,
+            top: _,
+        } = self;
+        drop(puts);
+        drop(aims);
+        drop(hints);
+        drop(samples);
+        drop(first);
+        drop(outputs);
+    }
 }
 
 pub(crate) fn facts_of(alloc: Global, job: &Job) -> Result<Facts, NoMemory> {

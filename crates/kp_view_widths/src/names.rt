@@ -39,13 +39,27 @@ pub(crate) enum Position {
 }
 
 /// The names in scope at a place in the text.
-#[derive(Drop)]
 pub(crate) struct Names {
     pub text: Table<Known>,
     pub local: Table<Known>,
     /// The names of the stages before this one, of each the first.
     pub past: Table<(usize, Known)>,
     pub position: Position,
+}
+
+impl Drop for Names {
+    fn drop(self) {
+        let Names {
+            text,
+            local,
+            past,
+            position,
+        } = self;
+        drop(text);
+        drop(local);
+        drop(past);
+        drop(position);
+    }
 }
 
 impl Names {

@@ -123,7 +123,7 @@ pub enum Update {
 }
 
 /// A module.
-#[derive(Debug, Drop)]
+#[derive(Debug)]
 pub struct VModule {
     pub name: Named,
     pub clk: Named,
@@ -139,4 +139,37 @@ pub struct VModule {
     pub clock: Named,
     pub reset: Option<ResetList>,
     pub updates: List<Update>,
+}
+
+impl Drop for VModule {
+    fn drop(self) {
+        let VModule {
+            name,
+            clk,
+            rst,
+            ext,
+            samples,
+            full,
+            ue,
+            back,
+            items,
+            inits,
+            clock,
+            reset,
+            updates,
+        } = self;
+        drop(name);
+        drop(clk);
+        drop(rst);
+        drop(ext);
+        drop(samples);
+        drop(full);
+        drop(ue);
+        drop(back);
+        drop(items);
+        drop(inits);
+        drop(clock);
+        drop(reset);
+        drop(updates);
+    }
 }

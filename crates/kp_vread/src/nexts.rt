@@ -15,9 +15,15 @@ use std::marker::Model;
 /// The nodes with the next values of registers, looked up in about constant time.
 ///
 /// Contracts see the names with their nodes.
-#[derive(Drop)]
 pub(crate) struct Nexts<'m> {
     table: IndexMap<Key<'m>, NodeId>,
+}
+
+impl Drop for Nexts<'_> {
+    fn drop(self) {
+        let Nexts { table } = self;
+        drop(table);
+    }
 }
 
 impl<'m> Model for Nexts<'m> {

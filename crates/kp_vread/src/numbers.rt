@@ -14,12 +14,26 @@ use std::marker::Model;
 
 /// The objects that the names of a module denote: the sizes of all, and the numbers of the samples, registers and files, each in the order of
 /// declaration.
-#[derive(Drop)]
 pub(crate) struct Numbers<'m> {
     pub sizes: Sizes<'m>,
     pub samples: Places<'m>,
     pub regs: Places<'m>,
     pub files: Places<'m>,
+}
+
+impl Drop for Numbers<'_> {
+    fn drop(self) {
+        let Numbers {
+            sizes,
+            samples,
+            regs,
+            files,
+        } = self;
+        drop(sizes);
+        drop(samples);
+        drop(regs);
+        drop(files);
+    }
 }
 
 impl<'m> Model for Numbers<'m> {

@@ -11,10 +11,16 @@ use std::marker::Model;
 /// Names by their numbers, looked up in about constant time.
 ///
 /// Contracts see the names with their numbers, and how many were added.
-#[derive(Drop)]
 pub(crate) struct Places<'m> {
     table: IndexMap<Key<'m>, u32>,
     count: u32,
+}
+
+impl Drop for Places<'_> {
+    fn drop(self) {
+        let Places { table, count: _ } = self;
+        drop(table);
+    }
 }
 
 impl<'m> Model for Places<'m> {

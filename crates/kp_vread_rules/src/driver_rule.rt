@@ -19,7 +19,6 @@ use std::alloc::Global;
 use std::marker::Model;
 
 /// The names that are assigned, started, filled and reset, the registers that are updated, and the files that are written.
-#[derive(Drop)]
 pub(crate) struct Driven<'m> {
     pub given: NameSet<'m>,
     pub started: NameSet<'m>,
@@ -27,6 +26,25 @@ pub(crate) struct Driven<'m> {
     pub reset: NameSet<'m>,
     pub updated: NameSet<'m>,
     pub written: NameSet<'m>,
+}
+
+impl Drop for Driven<'_> {
+    fn drop(self) {
+        let Driven {
+            given,
+            started,
+            filled,
+            reset,
+            updated,
+            written,
+        } = self;
+        drop(given);
+        drop(started);
+        drop(filled);
+        drop(reset);
+        drop(updated);
+        drop(written);
+    }
 }
 
 impl<'m> Model for Driven<'m> {

@@ -10,9 +10,15 @@ use std::alloc::Global;
 use std::marker::Model;
 
 /// Names that are looked up in about constant time. Contracts see the list of them.
-#[derive(Drop)]
 pub(crate) struct NameSet<'m> {
     names: IndexSet<Key<'m>>,
+}
+
+impl Drop for NameSet<'_> {
+    fn drop(self) {
+        let NameSet { names } = self;
+        drop(names);
+    }
 }
 
 impl<'m> Model for NameSet<'m> {

@@ -25,9 +25,15 @@ pub(crate) struct Occurrence<'m> {
 }
 
 /// The names of a module, in the order of the text. Contracts see the list of them that the rules step through.
-#[derive(Drop)]
 pub(crate) struct Names<'m> {
     list: Vec<Occurrence<'m>>,
+}
+
+impl Drop for Names<'_> {
+    fn drop(self) {
+        let Names { list } = self;
+        drop(list);
+    }
 }
 
 impl<'m> Model for Names<'m> {

@@ -21,9 +21,15 @@ pub struct Size {
 /// The sizes of the names of a module, looked up in about constant time.
 ///
 /// Contracts see the names with their sizes.
-#[derive(Drop)]
 pub struct Sizes<'m> {
     table: IndexMap<Key<'m>, Size>,
+}
+
+impl Drop for Sizes<'_> {
+    fn drop(self) {
+        let Sizes { table } = self;
+        drop(table);
+    }
 }
 
 impl<'m> Model for Sizes<'m> {

@@ -15,9 +15,15 @@ use std::marker::Model;
 /// The literals that the registers of a module start with, looked up in about constant time.
 ///
 /// Contracts see the names with their literals.
-#[derive(Drop)]
 pub struct Starts<'m> {
     table: IndexMap<Key<'m>, Literal>,
+}
+
+impl Drop for Starts<'_> {
+    fn drop(self) {
+        let Starts { table } = self;
+        drop(table);
+    }
 }
 
 impl<'m> Model for Starts<'m> {

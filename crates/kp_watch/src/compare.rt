@@ -34,13 +34,29 @@ pub struct Difference {
 
 /// What is known of a run before it starts: for each target its register or file in the netlist, the machine that has its value, and its result; for
 /// each machine whether it has the value of a target; and for each sample the values that instructions read.
-#[derive(Drop)]
 pub(crate) struct Tables {
     pub places: Vec<Place>,
     pub homes: Vec<u8>,
     pub columns: Vec<Column>,
     pub results: Vec<u32>,
     pub needed: Vec<bool>,
+}
+
+impl Drop for Tables {
+    fn drop(self) {
+        let Tables {
+            places,
+            homes,
+            columns,
+            results,
+            needed,
+        } = self;
+        drop(places);
+        drop(homes);
+        drop(columns);
+        drop(results);
+        drop(needed);
+    }
 }
 
 /// The first word, by target and address, in which a netlist and the machines of its job differ after `cycle` cycles.

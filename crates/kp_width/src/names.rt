@@ -40,9 +40,15 @@ pub(crate) enum Position {
 }
 
 // Names with their meanings, in the order in which they were added.
-#[derive(Drop)]
 pub(crate) struct Table {
     meanings: IndexMap<Name, Meaning>,
+}
+
+impl Drop for Table {
+    fn drop(self) {
+        let Table { meanings } = self;
+        drop(meanings);
+    }
 }
 
 impl Model for Table {
@@ -80,12 +86,25 @@ impl Table {
 }
 
 // The names in scope at a position in the text, and the entries of all that were declared before it.
-#[derive(Drop)]
 pub(crate) struct Names {
     text: Table,
     local: Table,
     here: Scope,
     entries: Vec<Entry>,
+}
+
+impl Drop for Names {
+    fn drop(self) {
+        let Names {
+            text,
+            local,
+            here: _,
+            entries,
+        } = self;
+        drop(text);
+        drop(local);
+        drop(entries);
+    }
 }
 
 impl Model for Names {
