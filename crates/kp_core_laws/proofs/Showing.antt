@@ -1,16 +1,16 @@
 -- What the ports show, by the statements on the netlist.
 use Rattle.std.proofs.Common.{◌≡◌, ◌∙◌, ℕ, zero, suc, ◌^◌, ◌+◌, ◌-◌, ◌<◌, ◌≤◌, zero-add, Bool, true, false, cond, ◌&&◌, List, [], ◌∷◌, length, get_or, refl, sym, ap, subst, arith}
-use Rattle.std.{proofs.lemmas.Bool.and_parts, proofs.lemmas.Bool.cond-false, proofs.lemmas.Nat.pow_pos, proofs.Math.Bool.and-false, proofs.lemmas.List.get_or-map, proofs.lemmas.List.length-map, specs.Prelude.nat_le}
+use Rattle.std.proofs.{lemmas.Bool.and_parts, lemmas.Bool.cond-false, lemmas.Nat.pow_pos, Math.Bool.and-false, lemmas.List.get_or-map, lemmas.List.length-map}
+use Rattle.std.specs.Prelude.{nat_le}
 use Rattle.kp_ast.specs.declared.tree.Job.{Job}
 use Rattle.kp_pipeline.specs.{Accepted.Accepted, Pipeline.PipelineState, RightPath.HasRightGuesses}
 use Rattle.kp_pipeline.specs.Rows.{Row, passed, one_if, bit, bits, counts, pipe, taken}
 use Rattle.kp_pipeline.{specs.Sequential.Instruction, specs.Sequential.instruction_before, proofs.Lists.bit-bits}
 use Rattle.kp_width.{specs.Widths.widths_of, proofs.Unbroken.Unbroken}
-use Rattle.kp_machine.specs.Machine.{machine_of, start_hints}
+use Rattle.kp_machine.specs.{Machine.machine_of, Machine.start_hints, Words.HasWord}
 use Rattle.kp_net.specs.{declared.netlist.NetReg.NetReg, Nodes.at}
 use Rattle.kp_net.specs.Netlist.{Net, Input, State, cells_of, state_after, regs_after, files_after, start_regs, states_from, rows_from, row_of}
 use Rattle.kp_net.specs.Parts.{no_reg}
-use Rattle.kp_seq.specs.Running.{HasWord}
 use Rattle.kp_sched.{specs.Rows.rows_seen, specs.Rows.bit_of, proofs.Counting.seen_length}
 use Rattle.kp_synth_spec.specs.{Naming.value_of, Naming.value_shown, Shows.Shows, Legal.value_from, Legal.IsLegalFrom, Anew.trace_from, Anew.BeginsAnew}
 use Rattle.kp_synth_spec.specs.Traces.{input_seen, inputs_seen, no_state, AreQuiet}

@@ -19,7 +19,7 @@ ghost use Rattle.kp_core_runs.specs.Beginning.{Begins};
 ghost use Rattle.kp_core_laws.specs.Values.{port_value, state_in, moment_in, IsFull, NoneWrong, pipe_of_instruction};
 
 use kp_core_runs::laws::runs_are_legal_and_move;
-use kp_machine_laws::laws::a_design_is_accepted;
+use kp_machine::laws::a_design_is_accepted;
 use kp_stage::Design;
 
 /// The output of `show R` is the value of R in that sequential machine, and the output of `peek F` the word of F at the address at its port, after as many

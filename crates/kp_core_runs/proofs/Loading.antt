@@ -5,11 +5,10 @@ use Rattle.std.proofs.lemmas.List.{length-map, length-set, get_or-set_other, Ele
 use Rattle.std.specs.{Prelude.All, Prelude.set, Prelude.fold, Prelude.if◌then◌else◌, Cmp.Lexicographic.bytes_decides}
 use Rattle.kp_ast.specs.declared.tree.Job.{Job}
 use Rattle.kp_width.{specs.Widths.widths_of, proofs.Unbroken.Unbroken}
-use Rattle.kp_machine.specs.Slots.{targets_of, is_register}
+use Rattle.kp_machine.specs.{Slots.targets_of, Slots.is_register, Words.target}
 use Rattle.kp_net.specs.Names.{same}
 use Rattle.kp_net.specs.Netlist.{Net, Input, State, start_regs, cells_of, regs_after, files_after, state_after}
 use Rattle.kp_net.specs.Parts.{NetOk, no_file}
-use Rattle.kp_seq.specs.Running.{target}
 use Rattle.kp_synth_tables.proofs.Apart.{targets_apart}
 use Rattle.kp_synth_spec.specs.{Naming.file_name, Naming.file_names, Naming.file_of, Naming.place_among, Naming.value_shown, Shows.Shows}
 use Rattle.kp_synth_spec.{specs.Anew.HasMemory, specs.Anew.left_by_reset, proofs.Anew.left_alike}

@@ -4,9 +4,8 @@
 -- a word is put into each file whose enable is 1.
 use Rattle.std.specs.Prelude.{◌≡◌, ℕ, ◌<◌, ◌^◌, true, false, ◌&&◌, ◌==◌, List, [], length, get_or, set, fold, All, if◌then◌else◌}
 use Rattle.kp_ast.specs.declared.tree.Job.{Job}
-use Rattle.kp_machine.specs.Slots.{targets_of, is_register}
+use Rattle.kp_machine.specs.{Slots.targets_of, Slots.is_register, Words.target}
 use Rattle.kp_net.specs.Netlist.{Net, Input, State, state_after}
-use Rattle.kp_seq.specs.Running.{target}
 use Rattle.kp_synth_spec.specs.Naming.{file_of}
 
 -- a word that is put into a file, which is the target of this number

@@ -19,7 +19,7 @@ ghost use Rattle.kp_ast.specs.declared.tree.Job.{Job};
 ghost use Rattle.kp_core_runs.specs.Beginning.{Begins, taken_in};
 ghost use Rattle.kp_core_runs.specs.Loading.{IsLoad, Cycle, after_cycle};
 
-use kp_machine_laws::laws::{
+use kp_machine::laws::{
     a_design_is_accepted, a_design_is_legal, a_design_moves, rows_of_a_design_are_the_timeline,
     the_highest_full_stage_of_a_design_stays,
 };

@@ -2,7 +2,8 @@
 use Rattle.std.specs.Prelude.{◌≡◌, ℕ, ◌-◌, List, [], ◌++◌, codes, decimal, Option, Some, None}
 use Rattle.kp_core_ports.specs.{Ports.rule_number, declared.port.PortRefusal.PortRefusal, declared.port.PortRule.PortRule}
 use Rattle.kp_core_ports.specs.declared.port.PortRule.TheVariants as rules
-use Rattle.kp_view_excerpt.specs.{Excerpts.IsExcerpt, Excerpts.excerpt_text, Excerpts.help_text, Lines.line_at, Lines.from_place, Tokens.token_length, declared.excerpt.Excerpt.Excerpt}
+use Rattle.kp_view_excerpt.specs.{Excerpts.IsExcerpt, Excerpts.excerpt_text, Excerpts.help_text, Lines.line_at, Lines.from_place, Tokens.token_length}
+use Rattle.kp_view_excerpt.specs.declared.excerpt.Excerpt.{Excerpt}
 
 abbrev pub file_name : Option (List ℕ) → List ℕ
 file_name None = codes "<stdin>"

@@ -4,9 +4,8 @@ use Rattle.std.{proofs.lemmas.Bool.ne_eqb, specs.Prelude.◌==◌, specs.Prelude
 use Rattle.kp_bits.specs.Word.{word}
 use Rattle.kp_ast.specs.declared.tree.{Decl.Decl, Job.Job, Named.Named, Num.Num}
 use Rattle.kp_ast.specs.declared.tree.Decl.TheVariants as decls
-use Rattle.kp_machine.{proofs.Widths.Fine, specs.Slots.Slot, specs.Slots.slot, specs.Slots.is_register}
+use Rattle.kp_machine.{proofs.Widths.Fine, specs.Slots.Slot, specs.Slots.slot, specs.Slots.is_register, specs.Words.HasWord, specs.Words.target}
 use Rattle.kp_net.specs.{Netlist.Net, Netlist.State, Parts.no_reg, Parts.no_file}
-use Rattle.kp_seq.specs.Running.{HasWord, target}
 use Rattle.kp_synth_spec.specs.Naming.{place_among, register_names, file_names, register_of, file_of, value_shown}
 use Rattle.kp_synth_spec.specs.Shows.{IsOfJob}
 use Rattle.kp_tool_report.specs.inner.Targets.{IsTarget}

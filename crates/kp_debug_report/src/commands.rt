@@ -4,7 +4,7 @@ ghost use Rattle.kp_base.specs.Bytes.{Writes};
 ghost use Rattle.kp_base.specs.Causes.{HasCause};
 ghost use Rattle.kp_machine.specs.Slots.{targets_of, is_register};
 ghost use Rattle.kp_sched.specs.Rows.{row_seen};
-ghost use Rattle.kp_seq.specs.Running.{target as target_of};
+ghost use Rattle.kp_machine.specs.Words.{target as target_of};
 ghost use Rattle.kp_tool_report.specs.States.{state_lines, no_counts};
 ghost use Rattle.kp_debug_report.specs.Inspecting.{all_cycles, found_word, has_value, first_from, reached, hit_line, at_line, row_or_end, printed_by, printed, ends_in, IsOfTargets, AreOfJob};
 ghost use Rattle.kp_debug_report.specs.inner.Standing.{IsUnderWay, IsRegisterOf, run_of, state_seen};

@@ -1,7 +1,7 @@
 // The registers and files of a netlist that store the targets of its job.
 ghost use Rattle.std.specs.Prelude.{◌≡◌, ◌<◌, [], ◌∷◌, ◌++◌, codes, length, get_or};
 ghost use Rattle.kp_machine.specs.Slots.{targets_of};
-ghost use Rattle.kp_seq.specs.Running.{no_slot};
+ghost use Rattle.kp_machine.specs.Words.{no_slot};
 ghost use Rattle.kp_synth_spec.specs.Naming.{place_among, register_name, register_names, file_names};
 ghost use Rattle.kp_tool_report.specs.States.{targets_in};
 

@@ -4,7 +4,7 @@ ghost use Rattle.std.specs.List.{All};
 ghost use Rattle.kp_base.specs.Bytes.{Writes};
 ghost use Rattle.kp_base.specs.Causes.{HasCause};
 ghost use Rattle.kp_net.specs.Netlist.{Net};
-ghost use Rattle.kp_seq.specs.Running.{target};
+ghost use Rattle.kp_machine.specs.Words.{target};
 ghost use Rattle.kp_synth_spec.specs.Shows.{IsOfJob};
 ghost use Rattle.kp_tool_report.specs.States.{no_counts, lines_of_words, lines_of, state_lines};
 ghost use Rattle.kp_tool_report.specs.inner.Targets.{StandsAt, HasWords, IsSmall};

@@ -5,7 +5,7 @@ ghost use Rattle.kp_diagram_run.specs.Claims.{ShowsRun};
 ghost use Rattle.kp_diagram_run.specs.Runs.{job_figure};
 
 use kp_frontend::Accepted;
-use kp_machine_laws::laws::a_design_is_accepted;
+use kp_machine::laws::a_design_is_accepted;
 
 /// The figure of a job shows the run of its pipelined machine: the cells are the instructions in the full stages, the marks have their reasons,
 /// the retired instructions are in order, and each cycle is counted under its cause.

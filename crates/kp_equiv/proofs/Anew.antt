@@ -4,11 +4,10 @@ use Rattle.std.proofs.lemmas.List.{length-map, get_or-map}
 use Rattle.kp_base.specs.declared.row.Row.{Row}
 use Rattle.kp_ast.specs.declared.tree.Job.{Job}
 use Rattle.kp_pipeline.specs.Rows.{pipe}
-use Rattle.kp_machine.specs.{Machine.machine_of, Machine.start_hints, Slots.targets_of, Slots.is_register}
+use Rattle.kp_machine.specs.{Machine.machine_of, Machine.start_hints, Slots.targets_of, Slots.is_register, Words.target}
 use Rattle.kp_net.specs.declared.netlist.NetFile.{NetFile}
 use Rattle.kp_net.specs.Netlist.{Net, Input, State, state_after, states_from, rows_from, last_from, last_of}
 use Rattle.kp_net.specs.{Names.Differ, Parts.NetOk, Parts.no_file}
-use Rattle.kp_seq.specs.Running.{target}
 use Rattle.kp_sched.specs.{Rows.rows_seen, Runs.ShowsAlike}
 use Rattle.kp_synth_spec.specs.Naming.{module_name, place_among, register_of, file_of, value_shown}
 use Rattle.kp_synth_spec.specs.{Traces.inputs_seen, Traces.AreQuiet, Anew.trace_from, Anew.left_by_reset, Anew.HasMemory, Anew.BeginsAnew}

@@ -1,9 +1,8 @@
 -- Netlists of one job can be compared.
 use Rattle.std.proofs.Common.{◌≡◌, ◌∙◌, ℕ, ◌<◌, [], length, get_or, sym, ap, arith}
 use Rattle.kp_ast.specs.declared.tree.Job.{Job}
-use Rattle.kp_machine.specs.Slots.{Slot}
+use Rattle.kp_machine.specs.{Slots.Slot, Words.target}
 use Rattle.kp_net.specs.{Names.Differ, Names.IsNamed, Netlist.Net, Parts.no_file}
-use Rattle.kp_seq.specs.Running.{target}
 use Rattle.kp_synth_spec.specs.{Naming.file_name as target_file_name, Naming.file_of, Shows.IsOfJob}
 use Rattle.kp_equiv_trees.{specs.Named.file_names, specs.Named.HasNames, proofs.Naming.one_number, proofs.Places.file_names_are, proofs.Places.file_count}
 use Rattle.kp_equiv.{specs.Roots.HasFiles, specs.Roots.IsComparable, proofs.Shown.placed_at}

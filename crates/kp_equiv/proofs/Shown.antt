@@ -6,12 +6,11 @@ use Rattle.std.specs.{Cmp.Lexicographic.bytes_decides, List.position_or_len}
 use Rattle.kp_base.specs.declared.row.Row.{Row}
 use Rattle.kp_bits.specs.Word.{Word}
 use Rattle.kp_ast.specs.declared.tree.Job.{Job}
-use Rattle.kp_machine.specs.Slots.{targets_of, is_register}
+use Rattle.kp_machine.specs.{Slots.targets_of, Slots.is_register, Words.target}
 use Rattle.kp_net.specs.{declared.node.NodeId.NodeId, Names.same}
 use Rattle.kp_net.specs.Netlist.{Net, Input, State, start_of, state_after, row_of, states_from, rows_from, run}
 use Rattle.kp_net.specs.{Parts.NetOk, Parts.no_reg, Parts.no_file, Widths.wide}
 use Rattle.kp_sched.specs.Rows.{rows_seen}
-use Rattle.kp_seq.specs.Running.{target}
 use Rattle.kp_synth_spec.specs.Naming.{module_name, register_name, file_name as target_file_name, place_among, register_of, file_of, value_of, value_shown}
 use Rattle.kp_synth_spec.specs.{Shows.IsOfJob, Traces.trace_of}
 use Rattle.kp_synth_spec.specs.Traces as traces

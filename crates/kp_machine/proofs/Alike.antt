@@ -2,8 +2,8 @@
 use Rattle.std.proofs.Common.{◌≡◌, ◌∙◌, ℕ, List, [], ◌∷◌, ◌++◌, Option, Some, None, Bool, true, cond, eqb, refl, ap, sym}
 use Rattle.std.{proofs.lemmas.Bool.or_left, proofs.lemmas.Bool.or_right, proofs.lemmas.List.Folds.list_any-append, specs.Prelude.unwrap_or, specs.List.list_any}
 use Rattle.kp_bits.specs.{Word.Word, Operators.no_word}
-use Rattle.kp_ast.specs.Expressions.{Values, look_up, eval, env_of}
-use Rattle.kp_ast.specs.declared.tree.{Expr.Expr, ReadStmt.ReadStmt, ResultDecl.ResultDecl, Decl.Decl, Stmt.Stmt, StmtKind.StmtKind}
+use Rattle.kp_ast.specs.{Expressions.Values, Expressions.look_up, Expressions.eval, Expressions.env_of, declared.tree.Expr.Expr}
+use Rattle.kp_ast.specs.declared.tree.{ReadStmt.ReadStmt, ResultDecl.ResultDecl, Decl.Decl, Stmt.Stmt, StmtKind.StmtKind}
 use Rattle.kp_ast.specs.declared.tree.StmtKind.TheVariants as stmts
 use Rattle.kp_stage.{specs.Uses.listed, specs.Uses.exprs_in, specs.Uses.uses, proofs.Names.same_value}
 use Rattle.kp_pipeline.specs.{Machine.Tree, Machine.Done, Machine.Ask, Machine.Guess, Sequential.first_value}

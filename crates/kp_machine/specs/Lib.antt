@@ -1,3 +1,5 @@
 pub mod Slots
 pub mod Trees
 pub mod Machine
+pub mod Words
+pub mod Examples

@@ -1,10 +1,9 @@
 -- The index of a node in a list, by the test that compares nodes.
 use Rattle.std.proofs.Common.{◌≡◌, ℕ, ◌<◌, ◌≤◌, Bool, false, List, length, get_or, sym, ap, ◌∙◌, arith, Option, None, Some, MatchOption}
 use Rattle.std.proofs.lemmas.{Bool.false≢true, Bool.false_from_ne_true, Grind.common_steps, List.get_or_default, List.Quantifiers.position-Some}
-use Rattle.std.proofs.{lemmas.List.Sums.fails_before_first, lemmas.List.Folds.list_any_none}
+use Rattle.std.proofs.lemmas.List.{Sums.fails_before_first, Folds.list_any_none}
 use Rattle.std.specs.List.{position, position_or_len, list_any}
-use Rattle.kp_net.specs.{declared.node.Node.Node, Widths.no_node, inner.Lookup.LacksBelow}
-use Rattle.kp_net.proofs.Same.{node_from_eq, node_eq_itself}
+use Rattle.kp_net.{specs.declared.node.Node.Node, specs.Widths.no_node, specs.inner.Lookup.LacksBelow, proofs.Same.node_from_eq, proofs.Same.node_eq_itself}
 use Rattle.kp_net.specs.contracts.node.NodePartialEq.TheImpl as nodes
 
 abbrev pub is : Node → Node → Bool

@@ -2,11 +2,10 @@
 use Rattle.std.proofs.Common.{◌≡◌, ◌∙◌, ℕ, ◌≤◌, List, length, ap, sym, arith}
 use Rattle.kp_ast.specs.declared.tree.Job.{Job}
 use Rattle.kp_pipeline.specs.Pipeline.{Inputs}
-use Rattle.kp_machine.specs.Machine.{inputs_from, pipe_of}
+use Rattle.kp_machine.specs.{Machine.inputs_from, Machine.pipe_of, Words.HasWord}
 use Rattle.kp_net.specs.Netlist.{Net, State, run}
 use Rattle.kp_run.{specs.Cycles.inputs_to, proofs.Prefixes.rows_many, proofs.Prefixes.state_is}
 use Rattle.kp_sched.proofs.Counting.{seen_length}
-use Rattle.kp_seq.specs.Running.{HasWord}
 use Rattle.kp_synth_spec.specs.{Naming.value_shown, Shows.Shows, Traces.trace_of, Traces.inputs_seen, Traces.AreQuiet}
 use Rattle.kp_page.{specs.States.recorded, specs.States.states_text, specs.inner.Seen.states_of, proofs.Alike.recorded_alike}
 

@@ -3,7 +3,7 @@ use Rattle.std.proofs.Common.{◌≡◌, ◌∙◌, ℕ, [], get_or, Bool, ap, s
 use Rattle.std.specs.Prelude.{if◌then◌else◌}
 use Rattle.kp_ast.specs.declared.tree.Job.{Job}
 use Rattle.kp_net.specs.Netlist.{Net, State}
-use Rattle.kp_seq.specs.Running.{target}
+use Rattle.kp_machine.specs.Words.{target}
 use Rattle.kp_synth_spec.specs.Naming.{register_of, file_of, value_shown}
 use Rattle.kp_debug_report.specs.inner.Standing.{IsFileOf}
 

@@ -4,7 +4,7 @@ ghost use Rattle.kp_base.specs.Bytes.{Writes};
 ghost use Rattle.kp_base.specs.Causes.{HasCause};
 ghost use Rattle.kp_bits.specs.Word.{word};
 ghost use Rattle.kp_debug_report.specs.inner.Standing.{IsFileOf, IsRegisterOf};
-ghost use Rattle.kp_seq.specs.Running.{HasWord, target};
+ghost use Rattle.kp_machine.specs.Words.{HasWord, target};
 ghost use Rattle.kp_synth_spec.specs.Naming.{file_names, place_among, register_names};
 ghost use Rattle.kp_synth_spec.specs.Shows.{IsOfJob};
 ghost use Rattle.kp_tool_report.specs.Texts.{word_line as line_of_word};

@@ -7,8 +7,9 @@ use Rattle.kp_pipeline.specs.{Accepted.Accepted, Rows.taken}
 use Rattle.kp_pipeline.specs.Rows as law
 use Rattle.kp_stage.specs.Start.{input, AreSamples}
 use Rattle.kp_machine.specs.{Machine.machine_of, Machine.sequential, Machine.inputs_from, Machine.values_in, Slots.Slot, Slots.targets_of}
+use Rattle.kp_machine.specs.Words.{HasWord, no_slot}
 use Rattle.kp_sched.{specs.Rows.rows_seen, specs.Runs.passes, specs.Runs.due_value, proofs.Counting.seen_length}
-use Rattle.kp_seq.specs.Running.{Running, HasWord, no_slot, state}
+use Rattle.kp_seq.specs.Running.{Running, state}
 use Rattle.kp_run.specs.{Boards.due_behind, inner.Boards.IsBoard, Columns.Taken, Columns.row_taken, Columns.AreColumns, Homes.AreHomes, Homes.home_of}
 use Rattle.kp_run.{specs.inner.Lanes.HaveRun, specs.inner.Lanes.lane_state, proofs.Gathering.taken_is}
 use Rattle.kp_run.proofs.Machines.{homes_within, home_passes, home_shows, lane_at}

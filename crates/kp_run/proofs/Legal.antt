@@ -7,10 +7,9 @@ use Rattle.kp_image.specs.Sections.{sections_of}
 use Rattle.kp_pipeline.{specs.Pipeline.Inputs, specs.Pipeline.pipeline_start, specs.Rows.Trace, proofs.Taken.rows-length}
 use Rattle.kp_pipeline.specs.Rows as law
 use Rattle.kp_stage.specs.Start.{start_of}
-use Rattle.kp_machine.specs.Machine.{machine_of, state_of, start_hints, inputs_from, pipe_of}
+use Rattle.kp_machine.specs.{Machine.machine_of, Machine.state_of, Machine.start_hints, Machine.inputs_from, Machine.pipe_of, Words.HasWord}
 use Rattle.kp_net.specs.Netlist.{Net}
 use Rattle.kp_sched.{specs.Monitors.Kept, specs.Rows.rows_seen, specs.Runs.due_value, specs.Runs.IsLegal, specs.Runs.ShowsAlike, proofs.Counting.seen_length}
-use Rattle.kp_seq.specs.Running.{HasWord}
 use Rattle.kp_synth_spec.specs.{Shows.Shows, Traces.trace_of}
 use Rattle.kp_run.{specs.Boards.due_behind, specs.Cycles.inputs_to, specs.Cycles.HasRows, proofs.Inputs.seen_to, proofs.Inputs.quiet_to}
 

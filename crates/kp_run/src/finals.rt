@@ -2,7 +2,7 @@
 ghost use Rattle.std.specs.Prelude.{◌≡◌, ◌<◌, ◌^◌, [], length, get_or, IfOk};
 ghost use Rattle.kp_bits.specs.Word.{word};
 ghost use Rattle.kp_machine.specs.Slots.{targets_of};
-ghost use Rattle.kp_seq.specs.Running.{HasWord, target};
+ghost use Rattle.kp_machine.specs.Words.{HasWord, target};
 ghost use Rattle.kp_synth_spec.specs.Naming.{value_shown};
 ghost use Rattle.kp_synth_spec.specs.Shows.{IsOfJob};
 ghost use Rattle.kp_run.specs.Places.{place_in, places_in, words_at};

@@ -8,7 +8,7 @@ ghost use Rattle.kp_run.specs.inner.Homes.{home_by, targets_in, declares};
 
 use kp_ast::{Decl, Name};
 use kp_base::NoMemory;
-use kp_machine_laws::laws::a_design_is_accepted;
+use kp_machine::laws::a_design_is_accepted;
 use kp_stage::Design;
 use std::alloc::Global;
 

@@ -6,7 +6,7 @@ ghost use Rattle.kp_machine.specs.Machine.{inputs_from, pipe_of};
 ghost use Rattle.kp_net.specs.Netlist.{Net};
 ghost use Rattle.kp_sched.specs.Monitors.{Kept};
 ghost use Rattle.kp_sched.specs.Rows.{rows_seen};
-ghost use Rattle.kp_seq.specs.Running.{HasWord};
+ghost use Rattle.kp_machine.specs.Words.{HasWord};
 ghost use Rattle.kp_synth_spec.specs.Shows.{Shows};
 ghost use Rattle.kp_synth_spec.specs.Traces.{inputs_seen, AreQuiet};
 ghost use Rattle.kp_run.specs.Boards.{due_behind};

@@ -3,8 +3,7 @@ use Rattle.std.specs.Prelude.{◌≡◌, ℕ, ◌≤◌, List, length, if◌then
 use Rattle.kp_base.specs.declared.row.Row as masks
 use Rattle.kp_ast.specs.declared.tree.Job.{Job}
 use Rattle.kp_pipeline.specs.{Pipeline.Inputs, Rows.Row, Rows.Trace, Rows.passed, Rows.taken}
-use Rattle.kp_machine.specs.Machine.{machine_of, pipe_of, sequential}
-use Rattle.kp_seq.specs.Running.{HasWord}
+use Rattle.kp_machine.specs.{Machine.machine_of, Machine.pipe_of, Machine.sequential, Words.HasWord}
 use Rattle.kp_sched.specs.{Rows.rows_seen, Monitors.Kept, Monitors.HasSeen}
 
 -- How many instructions target t reflects after T rows: those that have passed its write stage, and none if it has no result.

@@ -1,6 +1,6 @@
 //! Properties of runs of a design that have the pipeline's rows. `ins` are the inputs of the cycles: a stall word and
 //! the values of the samples for each. That the pipeline itself is legal and live, that its rows are the timeline,
-//! and that its highest full stage is never squashed are laws of kp_machine_laws.
+//! and that its highest full stage is never squashed are laws of kp_machine.
 
 ghost use Rattle.std.specs.Prelude.{◌≡◌, ℕ, ◌+◌, ◌<◌, ◌≤◌, List, length, get_or, true};
 ghost use Rattle.kp_base.specs.declared.row.Row.{Row};
@@ -11,7 +11,7 @@ ghost use Rattle.kp_machine.specs.Machine.{machine_of, pipe_of, sequential, take
 ghost use Rattle.kp_sched.specs.Monitors.{Kept};
 ghost use Rattle.kp_sched.specs.Runs.{IsLegal, ShowsAlike, HasWatched};
 
-use kp_machine_laws::laws::{
+use kp_machine::laws::{
     a_design_is_accepted, a_design_is_legal, a_design_moves,
     the_highest_full_stage_of_a_design_stays,
 };

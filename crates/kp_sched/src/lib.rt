@@ -2,7 +2,7 @@
 //!
 //! A row of masks corresponds to a row of the laws of the pipeline by `specs/Rows.antt`. `Monitor` keeps the counts
 //! of its rows (`specs/Monitors.antt`), and `row_line` writes the line of a row (`specs/Lines.antt`). `laws` relates
-//! both to the laws of a design's pipeline, which are in kp_machine_laws (`specs/Runs.antt`), and `examples` contains
+//! both to the laws of a design's pipeline, which are in kp_machine (`specs/Runs.antt`), and `examples` contains
 //! worked rows.
 #![tactic(auto)]
 

@@ -16,9 +16,10 @@ use Rattle.kp_stage.proofs.Unbroken.{first_none}
 use Rattle.kp_pipeline.specs.Sequential.{Instruction}
 use Rattle.kp_machine.{specs.Slots.targets_of, specs.Slots.number_of, specs.Slots.width_of as width_of_target, specs.Trees.Progress, proofs.Widths.job_fine}
 use Rattle.kp_machine.proofs.{Scopes.IsSlot, Scopes.found_sense, Scopes.storage_kind, Text.placed, Text.local_no, Text.found_where}
+use Rattle.kp_machine.specs.Words.{state_in}
 use Rattle.kp_seq.proofs.{Reading.number_get, Start.target_width, Stage.Named, Stage.value_found, Trees.next, Turns.holds_same, Turns.address_same}
 use Rattle.kp_seq.proofs.{Blocks.Before, Blocks.Keyed, Blocks.one_turn, Blocks.values_free, Noted.put_reads, Noted.put_both, Noted.narrowed_is, Low.target_low}
-use Rattle.kp_seq.specs.{Recorded.where_true, Recorded.read_recorded, Recorded.reads_recorded, Running.state_in, inner.Tables.Laid}
+use Rattle.kp_seq.specs.{Recorded.where_true, Recorded.read_recorded, Recorded.reads_recorded, inner.Tables.Laid}
 use Rattle.kp_seq.specs.inner.{Steps.Under, Steps.holds, Steps.address_in, Steps.after_stmt, Fits.FitSlots, Ready.AreTables}
 use Rattle.kp_seq.specs.inner.Notes.{Noted, is_wide, asked_in, narrow_address, with_read, note_stmt, note_stmts}
 use Rattle.kp_machine.specs.Trees as trees

@@ -16,12 +16,11 @@ use Rattle.kp_stage.specs.{Facts.facts_of, Rules.ask_expr, Rules.ask_option, Rul
 use Rattle.kp_stage.proofs.Unbroken.{first_none}
 use Rattle.kp_pipeline.specs.Sequential.{Instruction}
 use Rattle.kp_machine.specs.{Slots.targets_of, Slots.result_named, Trees.Progress}
-use Rattle.kp_machine.proofs.Scopes.{fresh_none, look_last, find_none}
+use Rattle.kp_machine.{proofs.Scopes.fresh_none, proofs.Scopes.look_last, proofs.Scopes.find_none, specs.Words.state_in}
 use Rattle.kp_machine.specs.Trees as trees
-use Rattle.kp_seq.specs.{Running.state_in, inner.Names.held, inner.Tables.Laid}
-use Rattle.kp_seq.specs.inner.{Steps.Under, Steps.holds, Steps.word_in, Steps.with_result, Steps.after_stmt, Steps.after_stmts, Fits.FitSlots, Ready.AreTables}
-use Rattle.kp_seq.proofs.{Lengths.stmt_same, Stage.Named, Trees.next, Trees.nexts, Turns.holds_same, Turns.let_turn}
-use Rattle.kp_seq.proofs.{Gives.Lists, Gives.put_turn, Gives.set_turn, Reading.read_turn, Plain.within}
+use Rattle.kp_seq.specs.inner.{Names.held, Tables.Laid, Steps.Under, Steps.holds, Steps.word_in, Steps.with_result, Steps.after_stmt, Steps.after_stmts}
+use Rattle.kp_seq.{specs.inner.Fits.FitSlots, specs.inner.Ready.AreTables, proofs.Lengths.stmt_same, proofs.Stage.Named, proofs.Trees.next, proofs.Trees.nexts}
+use Rattle.kp_seq.proofs.{Turns.holds_same, Turns.let_turn, Gives.Lists, Gives.put_turn, Gives.set_turn, Reading.read_turn, Plain.within}
 
 module _ (job : Job) (unbroken : Unbroken (widths_of job)) (t : Laid) (tables : AreTables job t) (rule : _) (is25 : slice_get all_rules 10 ≡ Some rule) (k : ℕ) (words : List (List ℕ)) (fit : FitSlots (targets_of job.decls) words) (c : Instruction) where
   -- what holds before a statement

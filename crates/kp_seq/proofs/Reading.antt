@@ -15,11 +15,10 @@ use Rattle.kp_width.proofs.{Unbroken.Unbroken, Unbroken.bind_unbroken, Unbroken.
 use Rattle.kp_stage.specs.{Facts.facts_of, Rules.ask_option, Rules.ask_values, Rules.all_rules}
 use Rattle.kp_machine.specs.{Slots.Slot, Slots.targets_of, Slots.number_of, Slots.width_of, Trees.Progress, Trees.with_name, Trees.word_read}
 use Rattle.kp_machine.proofs.{Scopes.IsSlot, Scopes.slot_of, Scopes.found_sense, Scopes.storage_kind, Scopes.fresh_none, Names.IsIn}
-use Rattle.kp_machine.proofs.{Text.placed, Text.local_no, Text.found_where, Widths.job_fine}
+use Rattle.kp_machine.{proofs.Text.placed, proofs.Text.local_no, proofs.Text.found_where, proofs.Widths.job_fine, specs.Words.no_slot, specs.Words.state_in}
 use Rattle.kp_machine.specs.Trees as trees
-use Rattle.kp_seq.specs.{Running.no_slot, Running.state_in, inner.Tables.Laid, inner.Steps.Under, inner.Steps.fitted, inner.Steps.holds, inner.Steps.address_in}
-use Rattle.kp_seq.{specs.inner.Fits.FitSlots, specs.inner.Ready.AreTables, proofs.Stage.Named}
-use Rattle.kp_seq.proofs.{Start.target_width, Start.word_fits, Start.fitted_is, Trees.value_read, Trees.address_read}
+use Rattle.kp_seq.specs.inner.{Tables.Laid, Steps.Under, Steps.fitted, Steps.holds, Steps.address_in, Fits.FitSlots, Ready.AreTables}
+use Rattle.kp_seq.proofs.{Stage.Named, Start.target_width, Start.word_fits, Start.fitted_is, Trees.value_read, Trees.address_read}
 use Rattle.kp_seq.proofs.Turns.{holds_same, address_same, name_bound}
 use Rattle.kp_seq.specs.inner.Steps as steps
 

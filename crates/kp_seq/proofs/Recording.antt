@@ -17,13 +17,12 @@ use Rattle.kp_pipeline.specs.{Sequential.Instruction, Sequential.first_value, Se
 use Rattle.kp_machine.specs.{Slots.Slot, Slots.targets_of, Slots.pipes_of, Slots.number_of, Trees.Progress}
 use Rattle.kp_machine.{specs.Machine.machine_of, specs.Machine.values_in, specs.Machine.is_enabled_by, proofs.Results.Stands}
 use Rattle.kp_machine.proofs.{Rules.rules_kept, Rules.head_kept, Rules.decl_kept, Rules.stmts_kept, Scopes.results_fit, Stages.stages_inside}
-use Rattle.kp_machine.proofs.Text.{declared_right, target_slot}
+use Rattle.kp_machine.{proofs.Text.declared_right, proofs.Text.target_slot, specs.Words.state_in}
 use Rattle.kp_machine.specs.Trees as trees
 use Rattle.kp_seq.specs.inner.Notes.{Noted, record_by, outlet_by, outlets_of, begun_notes, changed_from, narrowed, marked, with_marks, write_noted, setting_noted, with_results, note_stmts, note_blocks}
 use Rattle.kp_seq.specs.declared.notes.Outlet.{Outlet}
 use Rattle.kp_seq.specs.Recorded.{where_true, read_recorded, reads_recorded, stage_reads, reads_from, results_of, write_recorded, setting_recorded, record_of, done_after}
-use Rattle.kp_seq.specs.{Running.state_in, inner.Tables.Laid}
-use Rattle.kp_seq.specs.inner.Steps.{Under, begun, entered, address_by, after_stmts, after_block, after_blocks}
+use Rattle.kp_seq.specs.inner.{Tables.Laid, Steps.Under, Steps.begun, Steps.entered, Steps.address_by, Steps.after_stmts, Steps.after_block, Steps.after_blocks}
 use Rattle.kp_seq.{specs.inner.Ready.AreTables, specs.inner.Ready.HasPlaces, specs.inner.Ready.IsNoted, specs.inner.Fits.FitSlots, proofs.Entering.enters}
 use Rattle.kp_seq.proofs.{Keys.pipe_placed, Keys.sample_placed, Keys.keyed, Written.Ended, Written.enabled_same, Written.address_same, Written.address_fits}
 use Rattle.kp_seq.proofs.Step.{Reached, block_end, by_blocks, all_ended}

@@ -11,15 +11,15 @@ use Rattle.kp_ast.specs.declared.tree.Named as tree
 use Rattle.kp_ast.specs.declared.tree.StmtKind.TheVariants as stmts
 use Rattle.kp_stage.specs.Sizes.{size_of_stmt, size_of_block}
 use Rattle.kp_pipeline.specs.Sequential.{first_value}
-use Rattle.kp_machine.{specs.Slots.Slot, specs.Slots.number_of, specs.Slots.width_of, specs.Slots.result_named, proofs.Cases.by_test}
+use Rattle.kp_machine.{specs.Slots.Slot, specs.Slots.number_of, specs.Slots.width_of, specs.Slots.result_named, proofs.Cases.by_test, specs.Words.state_in}
 use Rattle.kp_seq_plan.specs.declared.{plan.Plan.Plan, code.Code.Code, code.Typed.Typed, resolve.Scope.Scope}
 use Rattle.kp_seq_plan.specs.{Names.at_place, Names.place_of, Plans.Slots, Plans.Means, Plans.meaning, Plans.space}
 use Rattle.kp_seq_plan.specs.{Codes.value_of, Codes.value_level, Codes.space_level, Lowering.Holds, Lowering.Suits, Lowering.AllSuit, Lowering.Gives}
 use Rattle.kp_seq_plan.proofs.CodeLevels.{code-Word}
 use Rattle.kp_seq_plan.specs.declared.code.Code.TheVariants as leaf
 use Rattle.kp_seq.specs.inner.Resolved.{Raw, AllDo, DoesAll, DoesStage, Does, DoesRead, IsShown, IsCode, IsOptionCode, IsReading, unnamed, address_at, value_at, note_step, note_steps, put_place, with_place, with_target, with_width, after_step, after_steps, steps_space, step_space}
-use Rattle.kp_seq.specs.{declared.program.Reading.Reading, declared.program.Step.Step, declared.program.Made.Made, Running.state_in, inner.Names.set_place}
-use Rattle.kp_seq.specs.inner.{Fits.FitSlots, Tables.Laid}
+use Rattle.kp_seq.specs.{declared.program.Reading.Reading, declared.program.Step.Step, declared.program.Made.Made, inner.Names.set_place, inner.Fits.FitSlots}
+use Rattle.kp_seq.specs.inner.Tables.{Laid}
 use Rattle.kp_seq.specs.inner.Steps.{Under, zero_bit, fitted, word_in, holds, address_in, address_read, value_read, with_name, with_result, after_stmt, after_stmts}
 use Rattle.kp_seq.specs.Recorded.{where_true}
 use Rattle.kp_seq.specs.inner.Notes.{Noted, narrow_address, with_read, asked_in, note_stmt, note_stmts}

@@ -3,8 +3,7 @@ use Rattle.std.proofs.Common.{◌≡◌, ◌∙◌, ℕ, zero, suc, List, [], �
 use Rattle.kp_bits.specs.Word.{Word}
 use Rattle.kp_ast.specs.declared.tree.Job.{Job}
 use Rattle.kp_pipeline.specs.{Machine.Machine, Sequential.exec, Sequential.seq}
-use Rattle.kp_machine.specs.Machine.{machine_of}
-use Rattle.kp_seq.specs.Running.{after_rows, after_one, given_by}
+use Rattle.kp_machine.specs.{Machine.machine_of, Words.after_rows, Words.after_one, Words.given_by}
 
 -- a run is its first instruction, and then the others
 from_second : (m : Machine) (s : ℕ → ℕ → ℕ) (given : ℕ → ℕ → ℕ) (i : ℕ) → seq m s given (suc i) ≡ seq m (exec m s (given 0)) (λ j. given (suc j)) i

@@ -9,9 +9,9 @@ use Rattle.kp_width.{specs.Widths.widths_of, proofs.Unbroken.Unbroken}
 use Rattle.kp_stage.specs.{Start.AreRegs, Start.AreFiles, Start.IsStartOf, declared.start.Start.Start}
 use Rattle.kp_machine.specs.Slots.{Slot, slot, targets_of, is_register}
 use Rattle.kp_machine.specs.Machine.{registers_before, files_before, register_words, file_words, target_words, state_of}
-use Rattle.kp_machine.proofs.Widths.{Fine, job_fine}
-use Rattle.kp_seq.specs.Running.{Running, HasWord, no_slot, target, state_in, state, word_shown}
-use Rattle.kp_seq.specs.inner.{Steps.fitted, Steps.zero_bit, Fits.FitSlots, Ready.words_of_start}
+use Rattle.kp_machine.{proofs.Widths.Fine, proofs.Widths.job_fine, specs.Words.HasWord, specs.Words.no_slot, specs.Words.target, specs.Words.state_in}
+use Rattle.kp_seq.specs.{Running.Running, Running.state, Running.word_shown, inner.Steps.fitted, inner.Steps.zero_bit, inner.Fits.FitSlots}
+use Rattle.kp_seq.specs.inner.Ready.{words_of_start}
 
 one_word : (v w : ℕ) (a : ℕ) → v < 2 ^ w → slice_index (v ∷ []) a < 2 ^ w
 one_word v w zero h = h

@@ -11,9 +11,10 @@ use Rattle.kp_stage.specs.{Facts.facts_of, Facts.stmts_in, Rules.ask_stmts, Rule
 use Rattle.kp_pipeline.specs.Sequential.{Instruction, after_stage, before_stage, run}
 use Rattle.kp_machine.specs.{Slots.targets_of, Trees.Progress, Trees.tree_of, Machine.machine_of, Machine.stage_tree, Machine.values_in}
 use Rattle.kp_machine.proofs.{Rules.rules_kept, Rules.stmts_kept, Stages.stages_inside, Text.text}
+use Rattle.kp_machine.specs.Words.{state_in, after_one}
 use Rattle.kp_machine.specs.Trees as trees
 use Rattle.kp_seq.specs.inner.Resolved.{Outline, Raw, Resolves, AllDo, DoesStage, after_steps, entered_at, entry_widths, after_stages, begun_at, outputs, ran, note_steps, note_stages, noted}
-use Rattle.kp_seq.specs.{Running.state_in, Running.after_one, inner.Tables.Laid}
+use Rattle.kp_seq.specs.inner.Tables.{Laid}
 use Rattle.kp_seq.specs.inner.Steps.{Under, begun, entered, after_block, after_blocks, executed, written_by, written_from}
 use Rattle.kp_seq.specs.{inner.Fits.FitSlots, inner.Ready.AreTables, inner.Ready.HasPlaces, inner.Ready.HasRoom, declared.program.Step.Step}
 use Rattle.kp_seq.specs.declared.tables.Port.{Port}

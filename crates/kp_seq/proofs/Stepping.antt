@@ -4,8 +4,8 @@ use Rattle.std.specs.{Prelude.sum_by, List.All}
 use Rattle.kp_bits.specs.Word.{Word}
 use Rattle.kp_ast.specs.declared.tree.Job.{Job}
 use Rattle.kp_stage.specs.{Sizes.size_of_block, Sizes.size_of_job, Start.AreSamples}
-use Rattle.kp_machine.specs.{Machine.values_in, Slots.targets_of}
-use Rattle.kp_seq.specs.{declared.machine.Resolved.Resolved, Running.state_in, Running.after_one, Recorded.record_of, inner.Fits.FitSlots}
+use Rattle.kp_machine.specs.{Machine.values_in, Slots.targets_of, Words.state_in, Words.after_one}
+use Rattle.kp_seq.specs.{declared.machine.Resolved.Resolved, Recorded.record_of, inner.Fits.FitSlots}
 use Rattle.kp_seq.specs.inner.Notes.{Noted, record_by, with_results, begun_notes, note_blocks}
 use Rattle.kp_seq.specs.inner.Ready.{HasPlaces, HasRoom, IsNoted, IsReady}
 use Rattle.kp_seq.specs.inner.Resolved.{Outline, Raw, entry_widths, steps_space, ran, after_stages, begun_at, noted}

@@ -10,9 +10,9 @@ use Rattle.kp_pipeline.specs.Sequential.{Instruction, StageOutcome, first_value,
 use Rattle.kp_machine.specs.{Slots.Slot, Slots.targets_of, Slots.pipes_of, Slots.number_of, Slots.result_to, Trees.Progress}
 use Rattle.kp_machine.specs.Machine.{machine_of, values_in, result_for, is_enabled_by, enabled_of, address_in}
 use Rattle.kp_machine.proofs.{Scopes.PipeFits, Scopes.slot_of, Cases.by_option, Text.text, Text.placed, Text.fits_text, Text.target_slot}
+use Rattle.kp_machine.specs.Words.{state_in, after_one}
 use Rattle.kp_machine.specs.Machine as machines
 use Rattle.kp_seq.specs.{declared.tables.Port.Port, inner.Tables.Laid, inner.Tables.pipe_number, inner.Tables.port_of, inner.Tables.ports_from}
-use Rattle.kp_seq.specs.Running.{state_in, after_one}
 use Rattle.kp_seq.specs.inner.Steps.{Under, begun, is_enabled, address_by, with_word, written_by, written_from}
 use Rattle.kp_seq.{specs.inner.Fits.FitsSlot, specs.inner.Fits.FitSlots, specs.inner.Ready.AreTables, proofs.Changes.set_seen, proofs.Gives.Lists}
 use Rattle.kp_seq.proofs.Plain.{after_next, next_first, none_after, none_before}

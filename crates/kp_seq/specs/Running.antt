@@ -1,9 +1,8 @@
--- A sequential machine that runs: its present state, and the state after steps.
-use Rattle.std.specs.Prelude.{ℕ, ◌^◌, ◌<◌, List, [], ◌∷◌, length, get_or, slice_index}
+-- A sequential machine that runs: its present state.
+use Rattle.std.specs.Prelude.{ℕ, List}
 use Rattle.kp_bits.specs.Word.{Word, word}
 use Rattle.kp_ast.specs.declared.tree.Job.{Job}
-use Rattle.kp_pipeline.specs.Sequential.{exec}
-use Rattle.kp_machine.specs.{Machine.machine_of, Machine.values_in, Slots.Slot, Slots.targets_of}
+use Rattle.kp_machine.specs.Words.{target, state_in}
 use Rattle.kp_seq.specs.Recorded.{Recorded}
 
 -- a job, the words of the targets of its machine, and the record of the last recorded instruction, which is unspecified before the first
@@ -12,22 +11,6 @@ pub record Running : Type 0 where
   pub words : List (List ℕ)
   pub last : Recorded
 
--- the default for a target that doesn't exist
-abbrev pub no_slot : Slot
-no_slot = record { name = []; width = 0; address = 0 }
-
-abbrev pub target : Job → ℕ → Slot
-target job t = get_or (targets_of job.decls) t no_slot
-
--- the job has a target of this number, with this address; a register has only address 0
-pub record HasWord (job : Job) (t a : ℕ) : Type 0 where
-  pub target : t < length (targets_of job.decls)
-  pub address : a < 2 ^ (get_or (targets_of job.decls) t no_slot).address
-
--- the words of all targets as a state: the value of each target at each address, and 0 if there is none
-abbrev pub state_in : List (List ℕ) → ℕ → ℕ → ℕ
-state_in words t a = slice_index (get_or words t []) a
-
 -- the present state of a machine
 abbrev pub state : Running → ℕ → ℕ → ℕ
 state m = state_in m.words
@@ -35,16 +18,3 @@ state m = state_in m.words
 -- a value of a target as a word of its width
 abbrev pub word_shown : Running → ℕ → ℕ → Word
 word_shown m t a = word (target m.job t).width (state m t a)
-
--- the state after one instruction with an input vector
-abbrev pub after_one : Job → (ℕ → ℕ → ℕ) → List Word → (ℕ → ℕ → ℕ)
-after_one job s row = exec (machine_of job) s (values_in row)
-
--- the state of the machine of a job after a step for each of these input vectors
-abbrev pub after_rows : Job → (ℕ → ℕ → ℕ) → List (List Word) → (ℕ → ℕ → ℕ)
-after_rows job s [] = s
-after_rows job s (row ∷ rows) = after_rows job (after_one job s row) rows
-
--- the values of the samples in a list of input vectors, and 0 past its end
-abbrev pub given_by : List (List Word) → ℕ → ℕ → ℕ
-given_by rows i = values_in (get_or rows i [])

@@ -4,7 +4,7 @@ ghost use Rattle.kp_bits.specs.Word.{Word};
 ghost use Rattle.kp_ast.specs.declared.tree.Job.{Job};
 ghost use Rattle.kp_pipeline.specs.Sequential.{seq};
 ghost use Rattle.kp_machine.specs.Machine.{machine_of};
-ghost use Rattle.kp_seq.specs.Running.{after_rows, given_by};
+ghost use Rattle.kp_machine.specs.Words.{after_rows, given_by};
 
 /// After a step for each input vector of a list the state of a machine is that of the sequential run in which each
 /// instruction has its input vector.

@@ -3,7 +3,7 @@ ghost use Rattle.std.specs.Prelude.{◌≡◌, ◌<◌, length, IfOk, get_or};
 ghost use Rattle.std.specs.Option.{option_map};
 ghost use Rattle.kp_machine.specs.Slots.{targets_of, pipes_of, samples_of, number_of, width_of, result_to, result_named};
 ghost use Rattle.kp_seq.specs.inner.Ready.{AreTables};
-ghost use Rattle.kp_seq.specs.Running.{no_slot};
+ghost use Rattle.kp_machine.specs.Words.{no_slot};
 ghost use Rattle.kp_seq.specs.inner.Tables.{port_of, ports_of, pipe_number};
 
 use kp_ast::{Decl, Name, Named, Num};

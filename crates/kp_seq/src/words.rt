@@ -1,7 +1,7 @@
 //! The words of the targets.
 ghost use Rattle.std.specs.Prelude.{◌≡◌, IfOk};
 ghost use Rattle.kp_stage.specs.Start.{AreRegs, AreFiles};
-ghost use Rattle.kp_seq.specs.Running.{state_in};
+ghost use Rattle.kp_machine.specs.Words.{state_in};
 ghost use Rattle.kp_seq.specs.inner.Steps.{with_word};
 ghost use Rattle.kp_seq.specs.inner.Ready.{words_of_start};
 

@@ -1,6 +1,7 @@
 -- Checks of the names in expressions that pass.
 use Rattle.std.proofs.Common.{◌≡◌, ◌∙◌, ℕ, zero, suc, ◌<◌, List, [], ◌∷◌, ◌++◌, map, length, get_or, Option, Some, None, Bool, true, false, refl, ap, sym, subst, arith}
-use Rattle.std.{proofs.lemmas.Bool.or_left, proofs.lemmas.Bool.or_right, specs.Prelude.◌||◌, specs.Prelude.Contains, specs.List.list_any, specs.Cmp.Lexicographic.bytes_decides}
+use Rattle.std.{proofs.lemmas.Bool.or_left, proofs.lemmas.Bool.or_right, specs.Prelude.◌||◌, specs.Prelude.Contains, specs.List.list_any}
+use Rattle.std.specs.Cmp.Lexicographic.{bytes_decides}
 use Rattle.kp_base.specs.{First.first, Check.Answer, declared.place.Place.Place}
 use Rattle.kp_bits.specs.{Word.Word, Word.not_of, Word.mux_of, Word.slice_of, Word.zext_of, Word.sext_of, Operators.binary_of, Operators.joined_of}
 use Rattle.kp_ast.specs.{Expressions.Env, Expressions.eval, Expressions.value_of_kind, Expressions.value_of_level, declared.tree.Expr.Expr}

@@ -2,8 +2,8 @@
 use Rattle.std.specs.Prelude.{ℕ, ◌%◌, List, [], false, nat_lt, if◌then◌else◌, length, get_or, map}
 use Rattle.kp_bits.specs.Word.{Word, word}
 use Rattle.kp_ast.specs.declared.tree.Job.{Job}
-use Rattle.kp_machine.specs.{Machine.sequential, Slots.targets_of}
-use Rattle.kp_seq.specs.{Running.target, Recorded.Recorded, Recorded.record_of}
+use Rattle.kp_machine.specs.{Machine.sequential, Slots.targets_of, Words.target}
+use Rattle.kp_seq.specs.Recorded.{Recorded, record_of}
 use Rattle.kp_stalls.specs.declared.{occupants.Stage.Stage, fate.Fate.TheVariants.Open}
 use Rattle.kp_sites.specs.{declared.sites.Site.Site, Sites.sited, Reports.nothing_recorded}
 

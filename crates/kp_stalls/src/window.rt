@@ -4,7 +4,8 @@ ghost use Rattle.kp_stage.specs.Counts.{summary_of};
 ghost use Rattle.kp_stage.specs.Start.{AreSamples, IsStartOf, start_of};
 ghost use Rattle.kp_machine.specs.Machine.{values_in};
 ghost use Rattle.kp_sites.specs.Sites.{sited};
-ghost use Rattle.kp_seq.specs.Running.{after_one, state};
+ghost use Rattle.kp_seq.specs.Running.{state};
+ghost use Rattle.kp_machine.specs.Words.{after_one};
 ghost use Rattle.kp_stalls.specs.Occupants.{report_of, nothing};
 ghost use Rattle.kp_stalls.specs.Windows.{Follows, HasRoom, IsKept};
 

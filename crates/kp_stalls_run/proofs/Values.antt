@@ -18,10 +18,8 @@ use Rattle.kp_synth.specs.Carrying.{Carries}
 use Rattle.kp_synth_registers.specs.Holding.{Holds, inputs_of}
 use Rattle.kp_synth_spec.specs.Traces.{AreQuiet, inputs_seen}
 use Rattle.kp_synth_tables.specs.Keys.{is_alive, keys_of}
-use Rattle.kp_stalls.specs.declared.cause.Cause.{Cause}
-use Rattle.kp_stalls.specs.declared.cause.Cause.TheVariants.{Value, Squashed}
-use Rattle.kp_stalls.specs.{declared.cause.Guess.Guess, declared.cause.Line.Line, declared.cause.Wait.Wait, declared.cause.Wrong.Wrong, Claims.moment_at}
-use Rattle.kp_stalls.specs.Occupants.{report}
+use Rattle.kp_stalls.specs.declared.cause.{Cause.Cause, Cause.TheVariants.Value, Cause.TheVariants.Squashed, Guess.Guess, Line.Line, Wait.Wait, Wrong.Wrong}
+use Rattle.kp_stalls.specs.{Claims.moment_at, Occupants.report}
 use Rattle.kp_sites.specs.Sites.{sited}
 use Rattle.kp_diagram.specs.Claims.{stalls_of}
 use Rattle.kp_stalls_run.specs.Claims.{moment_in}

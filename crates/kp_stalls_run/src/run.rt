@@ -23,7 +23,7 @@ use kp_base::{NoMemory, Row};
 use kp_bits::Bits;
 use kp_diagram_run::run_job;
 use kp_frontend::Accepted;
-use kp_machine_laws::laws::a_design_is_accepted;
+use kp_machine::laws::a_design_is_accepted;
 use kp_run::columns_of;
 use kp_run::laws::a_job_gives_its_own_inputs;
 use kp_sched::Monitor;

@@ -5,12 +5,11 @@ use Rattle.std.{proofs.Math.Seq.take-length, proofs.lemmas.Bool.cases_lt, proofs
 use Rattle.kp_ast.specs.declared.tree.Job.{Job}
 use Rattle.kp_machine.specs.Slots.{Slot, targets_of, samples_of, is_register}
 use Rattle.kp_machine.specs.Machine.{machine_of, start_hints, pipe_of, registers_before, files_before}
-use Rattle.kp_machine.proofs.Cases.{by_test}
+use Rattle.kp_machine.{proofs.Cases.by_test, specs.Words.no_slot, specs.Words.target}
 use Rattle.kp_pipeline.specs.Rows.{pipe}
 use Rattle.kp_net.specs.declared.netlist.{NetReg.NetReg, NetFile.NetFile, Port.Port}
 use Rattle.kp_net.specs.Netlist.{Net, Input, State, state_after, states_from, rows_from, run, last_of}
 use Rattle.kp_net.specs.{Names.IsNamed, Parts.no_reg, Parts.no_file}
-use Rattle.kp_seq.specs.Running.{no_slot, target}
 use Rattle.kp_sched.specs.Runs.{ShowsAlike}
 use Rattle.kp_synth_spec.specs.Naming.{register_name, file_name, sample_port, hidden_names, registers_of, files_of, register_names, file_names, register_of, file_of, value_shown, place_among}
 use Rattle.kp_synth_spec.specs.Traces.{trace_of, no_state, inputs_seen, state_at, AreQuiet}

@@ -1,8 +1,7 @@
 -- The guesses that are wrong in a stage.
 use Rattle.std.proofs.Common.{◌≡◌, ◌∙◌, ℕ, zero, suc, ◌+◌, ◌*◌, ◌<◌, ◌≤◌, ◌^◌, Bool, true, false, not, ◌&&◌, ◌||◌, ◌==◌, List, [], ◌∷◌, take, length, get_or, Option, Some, refl, sym, ap, subst, arith}
-use Rattle.std.proofs.Math.Bool.{or-false, or_assoc, and-false, and-or_distrib_left}
-use Rattle.std.proofs.{Math.Seq.take-length, Math.Nat.suc-mul, Math.Nat.mul-le-mul_right, lemmas.Bool.le-ltb}
-use Rattle.std.specs.{Prelude.slice_get, Prelude.nat_lt, List.list_any}
+use Rattle.std.proofs.Math.{Bool.or-false, Bool.or_assoc, Bool.and-false, Bool.and-or_distrib_left, Seq.take-length, Nat.suc-mul, Nat.mul-le-mul_right}
+use Rattle.std.{proofs.lemmas.Bool.le-ltb, specs.Prelude.slice_get, specs.Prelude.nat_lt, specs.List.list_any}
 use Rattle.kp_ast.specs.declared.tree.Job.{Job}
 use Rattle.kp_pipeline.specs.Sequential.{PendingGuess}
 use Rattle.kp_pipeline.specs.Pipeline.{PipelineState, StageState, Inputs, above, differs, some_differs, mismatches}

@@ -5,10 +5,9 @@ use Rattle.std.proofs.lemmas.List.{get_or_past, drop-map, length-append, length-
 use Rattle.kp_ast.specs.declared.tree.Job.{Job}
 use Rattle.kp_pipeline.{specs.Pipeline.pipeline_start, specs.Rows.Row, specs.Rows.pipe, proofs.Taken.rows-length}
 use Rattle.kp_stage.specs.Start.{start_of}
-use Rattle.kp_machine.specs.{Machine.machine_of, Machine.state_of, Machine.start_hints, Slots.targets_of, Slots.is_register}
+use Rattle.kp_machine.specs.{Machine.machine_of, Machine.state_of, Machine.start_hints, Slots.targets_of, Slots.is_register, Words.no_slot, Words.target}
 use Rattle.kp_net.specs.Netlist.{Net, Input, State, start_of as net_start, state_after, states_from, rows_from, last_of}
 use Rattle.kp_sched.specs.{Rows.row_seen, Rows.rows_seen, Runs.ShowsAlike}
-use Rattle.kp_seq.specs.Running.{no_slot, target}
 use Rattle.kp_synth_spec.specs.{Naming.value_shown, Shows.Shows, Traces.trace_of, Traces.no_state, Traces.input_seen, Traces.inputs_seen, Traces.AreQuiet}
 use Rattle.kp_synth_spec.specs.{Anew.trace_from, Anew.left_by_reset, Anew.BeginsAnew, Cuts.counted_on, Cuts.to_reset, Cuts.since, Cuts.begins_with}
 use Rattle.kp_synth_spec.proofs.Cutting.{rows_behind, states_behind, state_last, state_there}

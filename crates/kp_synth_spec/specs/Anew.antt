@@ -3,9 +3,8 @@ use Rattle.std.specs.Prelude.{◌≡◌, ℕ, ◌<◌, ◌^◌, true, List, [], 
 use Rattle.kp_ast.specs.declared.tree.Job.{Job}
 use Rattle.kp_stage.specs.Start.{start_of}
 use Rattle.kp_pipeline.specs.Rows.{Trace, pipe}
-use Rattle.kp_machine.specs.{Slots.is_register, Machine.machine_of, Machine.state_of, Machine.start_hints}
+use Rattle.kp_machine.specs.{Slots.is_register, Machine.machine_of, Machine.state_of, Machine.start_hints, Words.target}
 use Rattle.kp_net.specs.{Netlist.Net, Netlist.Input, Netlist.State, Netlist.state_after, Netlist.states_from, Netlist.rows_from, Netlist.last_of, Parts.no_file}
-use Rattle.kp_seq.specs.Running.{target}
 use Rattle.kp_sched.specs.{Rows.rows_seen, Runs.ShowsAlike}
 use Rattle.kp_synth_spec.specs.{Naming.value_shown, Traces.no_state, Traces.inputs_seen, Traces.AreQuiet}
 

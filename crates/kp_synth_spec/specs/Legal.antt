@@ -2,8 +2,7 @@
 use Rattle.std.specs.Prelude.{◌≡◌, ℕ, ◌≤◌, List, length}
 use Rattle.kp_ast.specs.declared.tree.Job.{Job}
 use Rattle.kp_pipeline.specs.{Pipeline.Inputs, Rows.Row, Rows.Trace, Rows.taken, Sequential.seq}
-use Rattle.kp_machine.specs.Machine.{machine_of}
-use Rattle.kp_seq.specs.Running.{HasWord}
+use Rattle.kp_machine.specs.{Machine.machine_of, Words.HasWord}
 use Rattle.kp_sched.specs.Runs.{passes}
 
 -- The required value of target t at address a after T cycles of such a run with these inputs and rows: its value in

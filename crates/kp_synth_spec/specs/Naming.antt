@@ -2,9 +2,8 @@
 use Rattle.std.specs.Prelude.{ℕ, zero, suc, List, [], ◌∷◌, ◌++◌, get_or, map, not, if◌then◌else◌, codes, decimal}
 use Rattle.std.specs.List.{filter}
 use Rattle.kp_ast.specs.declared.tree.Job.{Job}
-use Rattle.kp_machine.specs.Slots.{Slot, targets_of, samples_of, is_register}
+use Rattle.kp_machine.specs.{Slots.Slot, Slots.targets_of, Slots.samples_of, Slots.is_register, Words.target}
 use Rattle.kp_net.specs.{declared.netlist.Port.Port, Netlist.Net, Netlist.State, Names.same}
-use Rattle.kp_seq.specs.Running.{target}
 
 -- The module of a job J is m_J. A register R is r_R, a file F is f_F, and the port of a sample Q is s_Q.
 abbrev pub module_name : Job → List ℕ

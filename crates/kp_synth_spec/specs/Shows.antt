@@ -1,10 +1,9 @@
 -- A NETLIST SHOWS (IMPLEMENTS) THE PIPELINED MACHINE OF A JOB.
 use Rattle.std.specs.Prelude.{◌≡◌, ℕ, ◌<◌, ◌≤◌, true, false, List, [], ◌++◌, length, get_or, map, codes, take}
 use Rattle.kp_ast.specs.declared.tree.Job.{Job}
-use Rattle.kp_machine.specs.{Machine.pipe_of, Slots.Slot, Slots.targets_of, Slots.is_register}
+use Rattle.kp_machine.specs.{Machine.pipe_of, Slots.Slot, Slots.targets_of, Slots.is_register, Words.target}
 use Rattle.kp_net.specs.{Netlist.Net, Netlist.Input, Parts.no_reg, Parts.no_file, Widths.wide}
 use Rattle.kp_sched.specs.Runs.{ShowsAlike}
-use Rattle.kp_seq.specs.Running.{target}
 use Rattle.kp_synth_spec.specs.Naming.{module_name, register_name, file_name, hidden_names, registers_of, files_of, register_names, file_names, register_of, file_of, sample_ports}
 use Rattle.kp_synth_spec.specs.Traces.{trace_of, inputs_seen, AreQuiet}
 

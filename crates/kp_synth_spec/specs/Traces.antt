@@ -2,9 +2,8 @@
 use Rattle.std.specs.{Prelude.ℕ, Prelude.◌^◌, Prelude.◌%◌, Prelude.◌≡◌, Prelude.List, Prelude.[], Prelude.get_or, Prelude.map, Prelude.false, List.All}
 use Rattle.kp_ast.specs.declared.tree.Job.{Job}
 use Rattle.kp_pipeline.specs.{Pipeline.Inputs, Rows.Trace}
-use Rattle.kp_machine.specs.Slots.{Slot, samples_of}
+use Rattle.kp_machine.specs.{Slots.Slot, Slots.samples_of, Words.no_slot}
 use Rattle.kp_net.specs.Netlist.{Net, Input, State, run}
-use Rattle.kp_seq.specs.Running.{no_slot}
 use Rattle.kp_sched.specs.Rows.{bit_of, rows_seen}
 use Rattle.kp_synth_spec.specs.Naming.{value_shown}
 

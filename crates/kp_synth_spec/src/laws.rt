@@ -11,7 +11,7 @@ ghost use Rattle.kp_sched.specs.Runs.{IsLegal};
 ghost use Rattle.kp_synth_spec.specs.Shows.{Shows};
 ghost use Rattle.kp_synth_spec.specs.Traces.{trace_of, inputs_seen, AreQuiet};
 
-use kp_machine_laws::laws::rows_of_a_design_are_the_timeline;
+use kp_machine::laws::rows_of_a_design_are_the_timeline;
 use kp_sched::laws::what_shows_alike_is_legal_and_moves;
 use kp_stage::Design;
 

@@ -6,7 +6,7 @@ ghost use Rattle.kp_pipeline.specs.Timeline.{start_hold, timeline_rows};
 ghost use Rattle.kp_stage.specs.Counts.{summary_of};
 ghost use Rattle.kp_machine.specs.Machine.{machine_of};
 ghost use Rattle.kp_net.specs.Netlist.{Net, Input, State, state_after, last_of};
-ghost use Rattle.kp_seq.specs.Running.{HasWord};
+ghost use Rattle.kp_machine.specs.Words.{HasWord};
 ghost use Rattle.kp_synth_spec.specs.Naming.{value_shown};
 ghost use Rattle.kp_synth_spec.specs.Shows.{Shows};
 ghost use Rattle.kp_synth_spec.specs.Traces.{trace_of, inputs_seen, AreQuiet};
@@ -14,7 +14,7 @@ ghost use Rattle.kp_synth_spec.specs.Legal.{value_from, IsLegalFrom};
 ghost use Rattle.kp_synth_spec.specs.Anew.{trace_from, left_by_reset, HasMemory, BeginsAnew};
 ghost use Rattle.kp_synth_spec.specs.Cuts.{to_reset, since, begins_with};
 
-use kp_machine_laws::laws::{
+use kp_machine::laws::{
     a_design_is_legal, a_design_moves, rows_of_a_design_are_the_timeline,
     the_highest_full_stage_of_a_design_stays,
 };

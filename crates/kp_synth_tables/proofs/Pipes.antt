@@ -2,13 +2,11 @@
 use Rattle.std.proofs.Common.{◌≡◌, ◌∙◌, ℕ, zero, suc, ◌+◌, ◌<◌, ◌≤◌, max, List, [], ◌∷◌, Option, Some, Bool, true, cond, ◌||◌, length, get_or, refl, ap, sym, subst, arith}
 use Rattle.std.specs.Prelude.{slice_get}
 use Rattle.kp_bits.specs.Word.{Word, word}
-use Rattle.kp_ast.specs.Expressions.{is_same_name, look_up}
-use Rattle.kp_ast.specs.declared.tree.{Decl.Decl, Block.Block, Job.Job}
+use Rattle.kp_ast.specs.{Expressions.is_same_name, Expressions.look_up, declared.tree.Decl.Decl, declared.tree.Block.Block, declared.tree.Job.Job}
 use Rattle.kp_ast.specs.declared.tree.Decl.TheVariants as decls
 use Rattle.kp_stage.specs.Facts.{stmts_in}
-use Rattle.kp_machine.specs.Trees.{entered}
-use Rattle.kp_machine.specs.Slots.{Slot, pipes_of, samples_of, words_from, words_of}
-use Rattle.kp_machine.{specs.Machine.stage_tree, proofs.Alike.alike_append, proofs.Alike.tree_same, proofs.Cases.by_test, proofs.Names.same_name}
+use Rattle.kp_machine.specs.{Trees.entered, Slots.Slot, Slots.pipes_of, Slots.samples_of, Slots.words_from, Slots.words_of, Machine.stage_tree}
+use Rattle.kp_machine.proofs.{Alike.alike_append, Alike.tree_same, Cases.by_test, Names.same_name}
 use Rattle.kp_synth_tables.specs.{Spans.uses_name, Spans.last_use_in, Spans.is_called, Spans.last_write, Spans.last_use, Keys.no_slot, Keys.pipe_at}
 
 -- THE LAST USE is no earlier than any use.

@@ -6,13 +6,13 @@ use Rattle.kp_base.specs.Refusal.{e_rule}
 use Rattle.kp_stage.specs.{Facts.facts_of, Stages.broken_of, Counts.summary_of, Counts.samples_in, declared.start.Start.Start}
 use Rattle.kp_stage.proofs.Unbroken.{answer_none}
 use Rattle.kp_machine.{proofs.Rules.rules_kept, proofs.Rules.head_kept, proofs.Cases.by_test, proofs.Stages.stages_inside, specs.Slots.samples_of}
-use Rattle.kp_machine.specs.Machine.{machine_of, state_of, values_in}
+use Rattle.kp_machine.specs.{Machine.machine_of, Machine.state_of, Machine.values_in, Words.after_one}
 use Rattle.kp_ast.specs.declared.tree.{Decl.Decl, Job.Job}
 use Rattle.kp_ast.specs.declared.tree.Decl.TheVariants as decls
 use Rattle.kp_pipeline.specs.{Sequential.seq, Machine.Machine}
 use Rattle.kp_pipeline.specs.{Timeline.no_samples, Timeline.waits, Timeline.moves_on, Timeline.next_number, Timeline.next_hold, Timeline.start_hold, Rows.bits}
 use Rattle.kp_pipeline.proofs.Lists.{bits-same}
-use Rattle.kp_seq.specs.{Running.Running, Running.state, Running.after_one, Recorded.Recorded, Recorded.record_of}
+use Rattle.kp_seq.specs.{Running.Running, Running.state, Recorded.Recorded, Recorded.record_of}
 use Rattle.kp_base.specs.declared.row.Row as masks
 use Rattle.kp_sched.specs.Rows.{bit_of, row_seen}
 use Rattle.kp_sites.{specs.Sites.Sited, specs.Reports.HasRoom, specs.Reports.nothing_recorded, proofs.Sizes.record_room}

@@ -10,7 +10,7 @@ ghost use Rattle.kp_sched.specs.Rows.{rows_seen};
 ghost use Rattle.kp_timing.specs.Timed.{Timed, IsOpened, IsPlain};
 ghost use Rattle.kp_timing.specs.Cycles.{Cycles, StallAlike};
 
-use kp_machine_laws::laws::rows_of_a_design_are_the_timeline;
+use kp_machine::laws::rows_of_a_design_are_the_timeline;
 use kp_stage::Design;
 
 /// The rows of the cycles under these stall words are those of the timeline of the laws (`timeline`), and those of the pipeline of the design

@@ -3,7 +3,8 @@ ghost use Rattle.std.specs.Prelude.{◌≡◌, ℕ, ◌-◌, ◌≤◌, ◌<◌,
 ghost use Rattle.kp_stage.specs.Counts.{summary_of};
 ghost use Rattle.kp_stage.specs.Start.{IsStartOf};
 ghost use Rattle.kp_machine.specs.Slots.{samples_of};
-ghost use Rattle.kp_seq.specs.Running.{state, after_one};
+ghost use Rattle.kp_seq.specs.Running.{state};
+ghost use Rattle.kp_machine.specs.Words.{after_one};
 ghost use Rattle.kp_seq.specs.Recorded.{record_of};
 ghost use Rattle.kp_sched.specs.Rows.{bit_of};
 ghost use Rattle.kp_sites.specs.Reports.{HasRoom, nothing_recorded};

@@ -1,8 +1,7 @@
 -- The outcome for a netlist that was run and compared.
 use Rattle.std.specs.Prelude.{ℕ, List, Option, Some, None}
 use Rattle.kp_sched.specs.Rows.{rows_seen}
-use Rattle.kp_run.specs.{Boards.due_behind, declared.board.Board.Board}
-use Rattle.kp_watch.specs.declared.compare.Difference.{Difference}
+use Rattle.kp_run.specs.{Boards.due_behind, declared.board.Board.Board, declared.difference.Difference.Difference}
 use Rattle.kp_tool_report.specs.{Runs.run_text, inner.Differing.differing_text}
 
 -- by the first difference from the sequential machine, if there is one

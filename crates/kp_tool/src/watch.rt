@@ -17,9 +17,9 @@ use crate::outcome::{Outcome, finish};
 use kp_base::{NoMemory, Sink, SinkFault};
 use kp_frontend::{Accepted, Head, judge_head};
 use kp_net::Netlist;
-use kp_run::Board;
+use kp_run::{Board, Difference};
 use kp_tool_report::{write_board, write_difference};
-use kp_watch::{Difference, watched};
+use kp_watch::watched;
 use std::alloc::Global;
 
 /// `watch N`: runs the netlist of a Verilog text after a job over `count` cycles, and writes the run, or the run up to its first difference from the

@@ -4,8 +4,7 @@ use Rattle.std.specs.declared.option.Option.{Option}
 use Rattle.kp_bits.specs.Word.{word}
 use Rattle.kp_ast.specs.declared.tree.{Decl.Decl, Job.Job}
 use Rattle.kp_ast.specs.declared.tree.Decl.TheVariants as decls
-use Rattle.kp_machine.specs.Slots.{Slot, targets_of}
-use Rattle.kp_seq.specs.Running.{HasWord}
+use Rattle.kp_machine.specs.{Slots.Slot, Slots.targets_of, Words.HasWord}
 use Rattle.kp_tool_report.proofs.Lines.{slot_at, past_one, past_none}
 use Rattle.kp_tool_report.specs.{States.State, States.Behind, States.line_of_word, States.lines_of_words, States.state_lines, Texts.register_line}
 

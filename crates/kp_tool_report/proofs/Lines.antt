@@ -4,8 +4,7 @@ use Rattle.std.{proofs.lemmas.List.drop_more, proofs.lemmas.List.drop-drop, spec
 use Rattle.kp_base.specs.inner.Bytes.{WrittenUpTo}
 use Rattle.kp_ast.specs.declared.tree.{Decl.Decl, Job.Job}
 use Rattle.kp_ast.specs.declared.tree.Decl.TheVariants as decls
-use Rattle.kp_machine.specs.Slots.{Slot, targets_of}
-use Rattle.kp_seq.specs.Running.{no_slot}
+use Rattle.kp_machine.specs.{Slots.Slot, Slots.targets_of, Words.no_slot}
 use Rattle.kp_tool_report.specs.States.{State, Behind, line_of_word, lines_of_words, lines_of, targets_in, state_lines}
 use Rattle.kp_tool_report.specs.inner.Targets.{IsTarget, StandsAt, IsSmall}
 

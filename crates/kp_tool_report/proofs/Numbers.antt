@@ -3,8 +3,7 @@ use Rattle.std.proofs.Common.{◌≡◌, ◌∙◌, ℕ, zero, suc, ◌+◌, ◌
 use Rattle.std.proofs.lemmas.List.{drop_more, drop_all}
 use Rattle.kp_ast.specs.declared.tree.Decl.{Decl}
 use Rattle.kp_ast.specs.declared.tree.Decl.TheVariants as decls
-use Rattle.kp_machine.specs.Slots.{Slot, targets_of}
-use Rattle.kp_seq.specs.Running.{no_slot}
+use Rattle.kp_machine.specs.{Slots.Slot, Slots.targets_of, Words.no_slot}
 use Rattle.kp_tool_report.specs.States.{targets_in}
 
 -- target n of a list that starts with d is, beyond the targets of d, the target of the rest with n minus their number

@@ -3,7 +3,7 @@ ghost use Rattle.std.specs.Prelude.{◌≡◌, ◌<◌, ◌≤◌, ◌++◌, ◌
 ghost use Rattle.kp_base.specs.Bytes.{Writes};
 ghost use Rattle.kp_base.specs.Causes.{HasCause};
 ghost use Rattle.kp_machine.specs.Slots.{targets_of};
-ghost use Rattle.kp_seq.specs.Running.{no_slot};
+ghost use Rattle.kp_machine.specs.Words.{no_slot};
 ghost use Rattle.kp_tool_report.specs.States.{targets_in};
 ghost use Rattle.kp_tool_report.specs.Texts.{word_named, cycle_differing, values_differing};
 ghost use Rattle.kp_tool_report.specs.inner.Differing.{differing_text};
@@ -14,8 +14,7 @@ use itoa::Buffer;
 use kp_ast::Decl;
 use kp_base::{Sink, SinkFault, write_all, write_pieces};
 use kp_bits::Bits;
-use kp_run::Board;
-use kp_watch::Difference;
+use kp_run::{Board, Difference};
 
 /// Writes the rows of a run of a job before the cycle of a difference, and a line for the difference: its cycle, the register or the word of a file,
 /// the value found and the value expected. A fault comes only from the sink, which then has a prefix of the text.

@@ -6,7 +6,7 @@ ghost use Rattle.kp_base.specs.Causes.{HasCause};
 ghost use Rattle.kp_sched.specs.Lines.{row_line as row_line_of, row_lines};
 ghost use Rattle.kp_sched.specs.Monitors.{HasSeen};
 ghost use Rattle.kp_sched.specs.Rows.{row_seen, rows_seen};
-ghost use Rattle.kp_seq.specs.Running.{target};
+ghost use Rattle.kp_machine.specs.Words.{target};
 ghost use Rattle.kp_run.specs.Boards.{due_behind};
 ghost use Rattle.kp_tool_report.specs.Runs.{number_behind, counts_from, counts_behind, numbers_behind, count_word, count_line, run_text};
 ghost use Rattle.kp_tool_report.specs.States.{lines_of_words, lines_of, state_lines};

@@ -9,12 +9,12 @@ use Rattle.kp_stage.{specs.Counts.summary_of, specs.Stages.broken_of, specs.Star
 use Rattle.kp_pipeline.specs.{Accepted.Accepted, Pipeline.Inputs, Rows.Row, Rows.Trace, Rows.counts, Rows.passed, Rows.taken}
 use Rattle.kp_pipeline.proofs.{Counts.counts-passed, Legality.legal}
 use Rattle.kp_machine.specs.Machine.{machine_of, state_of, start_hints, pipe_of, inputs_from, values_in}
-use Rattle.kp_machine_laws.proofs.Sampleless.{same_run}
+use Rattle.kp_machine.proofs.Sampleless.{same_run}
 use Rattle.kp_net.specs.Netlist.{Net, Input}
 use Rattle.kp_sched.{specs.Runs.passes, specs.Runs.due_value, specs.Runs.ShowsAlike, proofs.Runs.alike_is_legal}
 use Rattle.kp_synth_spec.specs.{Naming.module_name, Traces.trace_of, Traces.inputs_seen}
-use Rattle.kp_run.{specs.Cycles.inputs_to, proofs.Inputs.seen_to, proofs.Inputs.quiet_to}
-use Rattle.kp_watch.specs.Watching.{own_trace, Agrees}
+use Rattle.kp_run.{specs.Cycles.inputs_to, specs.Cycles.own_trace, proofs.Inputs.seen_to, proofs.Inputs.quiet_to}
+use Rattle.kp_watch.specs.Watching.{Agrees}
 use Rattle.kp_equiv.specs.Showing.{ShowsButName}
 use Rattle.kp_frontend.{specs.Judging.Judges, specs.Judging.JudgesHead, specs.Judging.broken_in, proofs.Verdicts.one_verdict}
 use Rattle.kp_timing.specs.Unfit.{untimed}

@@ -1,14 +1,13 @@
 -- A run of a netlist, compared with the sequential machine, has exactly one outcome.
 use Rattle.std.proofs.Common.{◌≡◌, ◌≢◌, ◌∙◌, ℕ, zero, suc, ◌<◌, ◌≤◌, ◌^◌, ◌⊎◌, List, length, inl, inr, refl, sym, subst, arith}
 use Rattle.std.proofs.lemmas.Bool.{cases_lt, cases_eq}
-use Rattle.kp_machine.specs.Slots.{targets_of}
-use Rattle.kp_seq.specs.Running.{HasWord, target}
+use Rattle.kp_machine.specs.{Slots.targets_of, Words.HasWord, Words.target}
 use Rattle.kp_ast.specs.declared.tree.Job.{Job}
 use Rattle.kp_net.specs.Netlist.{Net, run}
 use Rattle.kp_sched.proofs.Counting.{seen_length}
 use Rattle.kp_synth_spec.specs.Traces.{trace_of}
-use Rattle.kp_run.{specs.Cycles.inputs_to, proofs.Prefixes.rows_many}
-use Rattle.kp_watch.specs.Watching.{own_trace, own_due, Agrees, IsFirstDifference}
+use Rattle.kp_run.{specs.Cycles.inputs_to, specs.Cycles.own_trace, proofs.Prefixes.rows_many}
+use Rattle.kp_watch.specs.Watching.{own_due, Agrees, IsFirstDifference}
 use Rattle.kp_tool_spec.specs.Watched.{own_text, differing_text, DueOfRun, agrees, differs}
 
 -- the first of n numbers that is bad, where each is good or bad

@@ -5,7 +5,8 @@ use Rattle.kp_tool_words.specs.declared.words.Command.TheVariants.{OnJob, Assemb
 use Rattle.kp_tool_words.specs.{declared.words.Command.Command, declared.words.JobCommand.JobCommand, Words.command_of, Words.reads_input}
 use Rattle.kp_base.specs.declared.refusal.Refusal.{Refusal}
 use Rattle.kp_ast.specs.declared.tree.Job.{Job}
-use Rattle.kp_frontend.specs.Judging.{Judges, JudgesText, JudgesHeadText, too_long, JudgesHead, JudgesHead.head_over, JudgesHead.head_within, Judges.over, Judges.within}
+use Rattle.kp_frontend.specs.Judging.{Judges, JudgesText, JudgesHeadText, too_long, JudgesHead, JudgesHead.head_over, JudgesHead.head_within}
+use Rattle.kp_frontend.specs.Judging.Judges.{over, within}
 use Rattle.kp_tool_report.specs.Texts.{refusal_line}
 use Rattle.kp_net.specs.Netlist.{Net}
 use Rattle.kp_vlog.specs.Canon.{canon}

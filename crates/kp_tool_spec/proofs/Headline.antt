@@ -9,9 +9,8 @@ use Rattle.kp_pipeline.specs.{Accepted.Accepted, Pipeline.Inputs, Rows.Row, Rows
 use Rattle.kp_pipeline.specs.{SpeculativeTimeline.timeline_rows as path_rows, RightPath.NoWrongGuess, RightPath.WaitsOnlyWhereItMust, RightPath.first_moment}
 use Rattle.kp_pipeline.proofs.{Legality.legal, Progress.moves, Progress.never-squashed, Timeline.same-rows, Runs.rows-right, Runs.waits-only}
 use Rattle.kp_pipeline.proofs.Sampled.{rows-taking}
-use Rattle.kp_machine_laws.proofs.{Accepting.accepted, Guessless.guessless, Guessless.without_guess}
-use Rattle.kp_machine.specs.Machine.{machine_of, state_of, start_hints, pipe_of, inputs_from}
-use Rattle.kp_seq.specs.Running.{target}
+use Rattle.kp_machine.proofs.{Accepting.accepted, Guessless.guessless, Guessless.without_guess}
+use Rattle.kp_machine.specs.{Machine.machine_of, Machine.state_of, Machine.start_hints, Machine.pipe_of, Machine.inputs_from, Words.target}
 use Rattle.kp_sched.specs.{Rows.rows_seen, Runs.due_value, Runs.IsLegal, Runs.ShowsAlike}
 use Rattle.kp_sched.proofs.Runs.{alike_is_legal, alike_moves, alike_stays}
 use Rattle.kp_synth_spec.specs.{Legal.IsLegalFrom, Anew.trace_from, Anew.left_by_reset, Anew.HasMemory, Anew.BeginsAnew}

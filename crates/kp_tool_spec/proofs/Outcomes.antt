@@ -20,10 +20,10 @@ use Rattle.kp_net.specs.Netlist.{Net}
 use Rattle.kp_vlog.{specs.Canon.canon, specs.Rules.Fault, specs.Verdict.refusal_of, proofs.Unique.one_net, proofs.Unique.one_rule, proofs.Unique.no_rule}
 use Rattle.kp_vread_split.{specs.Splitting.FirstEnds, proofs.Ends.one_end, proofs.Ends.some_end}
 use Rattle.kp_synth_spec.specs.Shows.{IsOfJob}
-use Rattle.kp_equiv.{specs.Roots.IsVerdict, specs.Texts.verdict_line, proofs.Deciding.one_verdict as one_comparison, proofs.Deciding.some_verdict as some_comparison}
+use Rattle.kp_equiv.specs.{Roots.IsVerdict, Texts.verdict_line}
+use Rattle.kp_equiv.proofs.Deciding.{one_verdict as one_comparison, some_verdict as some_comparison}
 use Rattle.kp_timing.specs.{Unfit.untimed, Lines.timing_text}
-use Rattle.kp_tool_spec.specs.Saying.{Says}
-use Rattle.kp_tool_spec.specs.Due.{Due, DueFor, DueOfJob, DueOfTiming, DueOfVerdict, DueOfProgram, program_of}
+use Rattle.kp_tool_spec.specs.{Saying.Says, Due.Due, Due.DueFor, Due.DueOfJob, Due.DueOfTiming, Due.DueOfVerdict, Due.DueOfProgram, Due.program_of}
 use Rattle.kp_tool_spec.specs.Read.{ReadsVerilog, DueOfVerilog, DueOfRead, read_over, read_within}
 use Rattle.kp_tool_spec.specs.Compared.{verdict_status, DueOfPair, ReadsModule, misread, not_jobs, jobs, DueOfSecond, DueOfFirst, DueOfModules, DueOfPairHead}
 use Rattle.kp_tool_spec.specs.Scripted.{DueOfScript, DueOfScriptHead}

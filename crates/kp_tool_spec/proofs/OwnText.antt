@@ -2,11 +2,10 @@
 use Rattle.std.proofs.Common.{◌∙◌, ◌≡◌, ℕ, ◌≤◌, List, ◌++◌, length, None, Some, ap, arith}
 use Rattle.kp_ast.specs.declared.tree.Job.{Job}
 use Rattle.kp_pipeline.specs.{Pipeline.Inputs, Rows.Row}
-use Rattle.kp_machine.specs.Machine.{inputs_from, pipe_of}
+use Rattle.kp_machine.specs.{Machine.inputs_from, Machine.pipe_of, Words.HasWord}
 use Rattle.kp_net.specs.Netlist.{Net}
 use Rattle.kp_sched.specs.{Lines.row_lines, Runs.passes, Runs.due_value}
-use Rattle.kp_seq.specs.Running.{HasWord}
-use Rattle.kp_watch.specs.Watching.{own_trace}
+use Rattle.kp_run.specs.Cycles.{own_trace}
 use Rattle.kp_equiv.specs.Showing.{ShowsButName}
 use Rattle.kp_frontend.specs.Judging.{broken_in}
 use Rattle.kp_tool_report.{specs.States.State, specs.Runs.count_line, specs.Runs.run_text, specs.Runs.sim_text, proofs.Alike.lines_alike, proofs.Sims.rows_many}

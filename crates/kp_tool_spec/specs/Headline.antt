@@ -21,7 +21,7 @@ use Rattle.kp_equiv.specs.{declared.verdict.Verdict.TheVariants.Same, Runs.RunAl
 use Rattle.kp_frontend.specs.Judging.{Judges, JudgesHead, broken_in}
 use Rattle.kp_debug_script.specs.{declared.command.Command.Command, Scripts.script_of}
 use Rattle.kp_debug_report.specs.Inspecting.{all_cycles, printed}
-use Rattle.kp_watch.specs.Watching.{own_trace}
+use Rattle.kp_run.specs.Cycles.{own_trace}
 use Rattle.kp_tool_report.specs.Runs.{run_text}
 use Rattle.kp_gen.specs.Generated.{gen_job}
 use Rattle.kp_gen_report.specs.Line.{totals_of, totals_line}

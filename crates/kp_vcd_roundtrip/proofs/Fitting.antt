@@ -12,9 +12,8 @@ use Rattle.kp_image.specs.Sections.{sections_of}
 use Rattle.kp_pipeline.specs.{Machine.Machine, Pipeline.PipelineState, Pipeline.Inputs, Pipeline.cycle, Pipeline.pipeline_start}
 use Rattle.kp_pipeline.specs.Rows.{Row, bits, one_if, rows_from}
 use Rattle.kp_machine.specs.{Machine.machine_of, Machine.state_of, Machine.start_hints, Machine.inputs_from, Slots.targets_of}
-use Rattle.kp_machine.proofs.Widths.{Fine, job_fine}
+use Rattle.kp_machine.{proofs.Widths.Fine, proofs.Widths.job_fine, specs.Words.no_slot}
 use Rattle.kp_synth_tables.proofs.Limits.{limits, targets_counted}
-use Rattle.kp_seq.specs.Running.{no_slot}
 use Rattle.kp_run.proofs.Machines.{stages_fit}
 use Rattle.kp_vcd.specs.{declared.dump.Signal.Signal, Recording.Values}
 use Rattle.kp_vcd_read.specs.{Forms.is_name, Fitting.IsSignal, Fitting.FitsForm}

@@ -11,13 +11,11 @@ use Rattle.kp_image.{specs.Sections.sections_of, proofs.Given.starts, proofs.Giv
 use Rattle.kp_pipeline.specs.{Machine.Machine, Pipeline.Inputs, Rows.Row, Rows.bit, Rows.one_if, Rows.taken_from, Rows.passed, Sequential.exec, Sequential.seq}
 use Rattle.kp_machine.specs.Machine.{machine_of, state_of, sequential, pipe_of, taken_of, inputs_from, values_in}
 use Rattle.kp_machine.{specs.Slots.targets_of, specs.Slots.pipes_of, specs.Slots.samples_of, proofs.Apart.Apart, proofs.Apart.samples_apart}
-use Rattle.kp_machine.proofs.Text.{declared_right}
-use Rattle.kp_machine_laws.proofs.Accepting as accepting
-use Rattle.kp_machine_laws.proofs.Showing.{shown, stays}
+use Rattle.kp_machine.{proofs.Text.declared_right, proofs.Showing.shown, proofs.Showing.stays, specs.Words.no_slot, specs.Words.state_in}
+use Rattle.kp_machine.proofs.Accepting as accepting
 use Rattle.kp_run.proofs.Legal.{inputs_many}
 use Rattle.kp_seq_plan.specs.Names.{keys_of}
-use Rattle.kp_seq.specs.{Running.no_slot, Running.state_in, inner.Tables.Laid, inner.Tables.ports_of, inner.Fits.FitSlots}
-use Rattle.kp_seq.specs.inner.{Ready.AreTables, Ready.HasPlaces, Ready.words_of_start, Steps.Under, Steps.executed}
+use Rattle.kp_seq.specs.inner.{Tables.Laid, Tables.ports_of, Fits.FitSlots, Ready.AreTables, Ready.HasPlaces, Ready.words_of_start, Steps.Under, Steps.executed}
 use Rattle.kp_seq.proofs.{Start.start_fits, Start.start_state, Start.word_fits, Step.step_state, Step.step_fits}
 
 -- ---- the values of samples

@@ -6,13 +6,12 @@ use Rattle.kp_base.specs.declared.row.Row as masks
 use Rattle.kp_ast.specs.declared.tree.Job.{Job}
 use Rattle.kp_pipeline.specs.{Pipeline.Inputs, Pipeline.pipeline_start, Rows.Row}
 use Rattle.kp_stage.specs.{Start.start_of as job_start, Stages.broken_of}
-use Rattle.kp_machine.specs.{Machine.machine_of, Machine.state_of, Machine.start_hints, Machine.pipe_of, Machine.inputs_from, Slots.targets_of}
+use Rattle.kp_machine.specs.{Machine.machine_of, Machine.state_of, Machine.start_hints, Machine.pipe_of, Machine.inputs_from, Slots.targets_of, Words.target}
 use Rattle.kp_synth_tables.proofs.Limits.{few}
 use Rattle.kp_cycle.specs.Steps.{Running, reg_shown}
 use Rattle.kp_net.specs.Netlist.{Net, State, start_of, row_of, last_of, run}
 use Rattle.kp_net.proofs.Runs.{rows_more}
 use Rattle.kp_sched.{specs.Rows.row_seen, specs.Rows.rows_seen, specs.Runs.ShowsAlike, proofs.Counting.seen_length}
-use Rattle.kp_seq.specs.Running.{target}
 use Rattle.kp_synth_spec.specs.{Naming.value_shown, Shows.Shows, Traces.trace_of, Traces.inputs_seen, Traces.AreQuiet}
 use Rattle.kp_run.{specs.Cycles.input_at, specs.Cycles.inputs_to, proofs.Prefixes.state_is, proofs.Prefixes.rows_many}
 use Rattle.kp_vcd.specs.Recording.{Values}

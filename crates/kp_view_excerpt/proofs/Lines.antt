@@ -1,7 +1,6 @@
 -- Lines of a text.
 use Rattle.std.proofs.Common.{◌≡◌, ◌∙◌, refl, ap, ℕ, zero, suc, ◌+◌, ◌-◌, ◌<◌, ◌≤◌, Bool, List, [], length, get_or, drop, arith}
-use Rattle.std.proofs.lemmas.List.{at_drop_more, at_drop_all}
-use Rattle.std.specs.Prelude.{if◌then◌else◌, ◌==◌}
+use Rattle.std.{proofs.lemmas.List.at_drop_more, proofs.lemmas.List.at_drop_all, specs.Prelude.if◌then◌else◌, specs.Prelude.◌==◌}
 use Rattle.kp_view_excerpt.specs.Lines.{after_lines}
 
 -- one more byte, before a later line

@@ -9,7 +9,7 @@ use Rattle.kp_vlog.specs.{Outcome.token_of, Outcome.word_of, inner.Follow.tables
 use Rattle.kp_vlog.specs.declared.token.Keyword.TheVariants as keywords
 use Rattle.kp_vlog.specs.declared.token.Mark.TheVariants as marks
 use Rattle.kp_vlog.specs.declared.token.VKind.TheVariants as kinds
-use Rattle.kp_vread_parse.specs.inner.{Reading.Goes, Reading.class_at, Reading.never, Reading.Turns}
+use Rattle.kp_vread_parse.specs.inner.Reading.{Goes, class_at, never, Turns}
 
 -- the class of a token of this kind
 abbrev pub kind_class : VKind → ℕ

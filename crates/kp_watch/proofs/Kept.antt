@@ -8,7 +8,7 @@ use Rattle.kp_ast.specs.declared.tree.{Decl.Decl, Job.Job, ResultDecl.ResultDecl
 use Rattle.kp_ast.specs.declared.tree.Decl.TheVariants as decls
 use Rattle.kp_cycle.specs.Steps.{port_writes, written_in}
 use Rattle.kp_machine.specs.Machine.{machine_of, result_for, sequential, state_of, write_stage_of, is_enabled_by, address_by, enabled_of, address_in}
-use Rattle.kp_machine.specs.Slots.{Slot, targets_of, pipes_of, is_register, number_of, result_to}
+use Rattle.kp_machine.specs.{Slots.Slot, Slots.targets_of, Slots.pipes_of, Slots.is_register, Slots.number_of, Slots.result_to, Words.HasWord, Words.target}
 use Rattle.kp_net.specs.{declared.node.Node.Node, declared.netlist.NetFile.NetFile, declared.netlist.WritePort.WritePort, Nodes.Cells, Nodes.at, Nodes.on}
 use Rattle.kp_net.specs.Netlist.{Net, Input, State as NetState, start_of, cells_of, port_after, resets, regs_after, files_after, start_regs, state_after, last_of}
 use Rattle.kp_net.{specs.Parts.no_file, proofs.Runs.last_more}
@@ -18,7 +18,7 @@ use Rattle.kp_run.specs.declared.places.Place.TheVariants.{Register, File}
 use Rattle.kp_run.proofs.{Machines.home_passes, Machines.next_is, Prefixes.passed_next, Prefixes.passed_before}
 use Rattle.kp_sched.specs.{Monitors.Kept, Monitors.HasSeen, Rows.bit_of, Rows.rows_seen, Runs.passes}
 use Rattle.kp_stage.specs.Start.{start_of as job_start}
-use Rattle.kp_seq.specs.{Running.Running, Running.HasWord, Running.target, Recorded.Recorded, Recorded.results_of, Recorded.write_recorded, Recorded.record_of}
+use Rattle.kp_seq.specs.{Running.Running, Recorded.Recorded, Recorded.results_of, Recorded.write_recorded, Recorded.record_of}
 use Rattle.kp_synth_spec.specs.{Naming.register_of, Naming.file_of, Naming.value_shown, Shows.IsOfJob}
 use Rattle.kp_watch.specs.inner.Changes.{AreNoted, noted_at, last_write, no_record, record_by, wrote_by}
 use Rattle.kp_watch.specs.inner.{Machines.ran, Machines.HaveRun, Results.result_number, Results.result_in}

@@ -8,15 +8,14 @@ use Rattle.kp_cycle.specs.Steps.{Running as Simulated}
 use Rattle.kp_pipeline.specs.{Accepted.Accepted, Rows.taken}
 use Rattle.kp_pipeline.specs.Rows as law
 use Rattle.kp_stage.specs.Start.{input, AreSamples}
-use Rattle.kp_machine.specs.Machine.{machine_of, sequential, inputs_from}
+use Rattle.kp_machine.specs.{Machine.machine_of, Machine.sequential, Machine.inputs_from, Words.HasWord, Words.target}
 use Rattle.kp_net.specs.Netlist.{Net, State as NetState, run, last_of}
 use Rattle.kp_sched.{specs.Rows.rows_seen, specs.Runs.passes, specs.Runs.due_value, proofs.Counting.seen_length}
-use Rattle.kp_seq.specs.Running.{Running, HasWord, target}
+use Rattle.kp_seq.specs.Running.{Running}
 use Rattle.kp_synth_spec.specs.{Naming.value_shown, Shows.IsOfJob, Traces.trace_of}
-use Rattle.kp_run.{specs.Boards.due_behind, specs.Cycles.inputs_to, specs.Places.place_in, specs.Places.places_in, proofs.Gathering.taken_is}
-use Rattle.kp_run.proofs.Prefixes.{state_is, rows_many}
-use Rattle.kp_watch.specs.{Watching.own_trace, Watching.own_due, Watching.Agrees, Watching.IsFirstDifference, declared.compare.Difference.Difference}
-use Rattle.kp_watch.specs.declared.{beside.Beside.Beside, compare.Tables.Tables}
+use Rattle.kp_run.specs.{Boards.due_behind, Cycles.inputs_to, Cycles.own_trace, Places.place_in, Places.places_in}
+use Rattle.kp_run.{proofs.Gathering.taken_is, proofs.Prefixes.state_is, proofs.Prefixes.rows_many, specs.declared.difference.Difference.Difference}
+use Rattle.kp_watch.specs.{Watching.own_due, Watching.Agrees, Watching.IsFirstDifference, declared.beside.Beside.Beside, declared.compare.Tables.Tables}
 use Rattle.kp_watch.specs.inner.Beside.{IsRecorded, AreTables, HaveCome}
 use Rattle.kp_watch.specs.inner.{Changes.AreNoted, Changes.AgreeElsewhere, Changes.IsComparable, Changes.noted_at, Comparing.IsFirstIn, Comparing.Compares}
 use Rattle.kp_watch.specs.inner.Machines.{given, HaveRun, due_by}

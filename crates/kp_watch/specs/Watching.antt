@@ -1,19 +1,12 @@
 -- A NETLIST COMPARED WITH THE SEQUENTIAL MACHINE OF ITS JOB, in a run under the job's own stall words and samples.
 use Rattle.std.specs.Prelude.{◌≡◌, ◌≢◌, ℕ, ◌<◌, ◌≤◌, ◌⊎◌}
 use Rattle.kp_ast.specs.declared.tree.Job.{Job}
-use Rattle.kp_pipeline.specs.Rows.{Trace}
-use Rattle.kp_machine.specs.Machine.{inputs_from}
+use Rattle.kp_machine.specs.{Machine.inputs_from, Words.HasWord}
 use Rattle.kp_net.specs.Netlist.{Net}
 use Rattle.kp_sched.specs.Runs.{due_value, IsLegal}
-use Rattle.kp_seq.specs.Running.{HasWord}
-use Rattle.kp_synth_spec.specs.Traces.{trace_of}
-use Rattle.kp_run.specs.Cycles.{inputs_to}
+use Rattle.kp_run.specs.Cycles.{own_trace}
 
--- The run of a netlist under the first n of the job's own inputs, as a run of the job's machine.
-abbrev pub own_trace : Job → Net → ℕ → Trace
-own_trace job net n = trace_of job net (inputs_to job n)
-
--- The specified value in it of target t at address a after T cycles.
+-- The specified value in the run of target t at address a after T cycles.
 abbrev pub own_due : Job → Net → ℕ → ℕ → ℕ → ℕ → ℕ
 own_due job net n T t a = due_value job (inputs_from job 0 n) (own_trace job net n).rows T t a
 

@@ -3,7 +3,8 @@ ghost use Rattle.std.specs.Prelude.{◌≡◌, ◌≢◌, ℕ, ◌<◌, length, 
 ghost use Rattle.kp_machine.specs.Slots.{targets_of};
 ghost use Rattle.kp_run.specs.Places.{place_in, words_at};
 ghost use Rattle.kp_run.specs.declared.places.Place.TheVariants.{File};
-ghost use Rattle.kp_seq.specs.Running.{HasWord, state, target};
+ghost use Rattle.kp_seq.specs.Running.{state};
+ghost use Rattle.kp_machine.specs.Words.{HasWord, target};
 ghost use Rattle.kp_synth_spec.specs.Naming.{value_shown};
 ghost use Rattle.kp_synth_spec.specs.Shows.{IsOfJob};
 ghost use Rattle.kp_watch.specs.inner.Changes.{IsComparable, noted_at, last_write};
@@ -11,10 +12,10 @@ ghost use Rattle.kp_watch.specs.inner.Comparing.{Compares, ComparesTarget, Compa
 ghost use Rattle.kp_watch.specs.inner.Machines.{due_by};
 
 use crate::beside::Beside;
-use crate::compare::{Difference, Tables, difference_of};
+use crate::compare::{Tables, difference_of};
 use kp_cycle::Sim;
 use kp_frontend::Accepted;
-use kp_run::Place;
+use kp_run::{Difference, Place};
 use kp_sched::Monitor;
 use kp_seq::SeqMachine;
 

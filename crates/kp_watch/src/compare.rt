@@ -5,7 +5,8 @@ ghost use Rattle.kp_bits.specs.Word.{word};
 ghost use Rattle.kp_machine.specs.Slots.{targets_of};
 ghost use Rattle.kp_run.specs.Homes.{AreHomes};
 ghost use Rattle.kp_run.specs.Places.{place_in, places_in, words_at};
-ghost use Rattle.kp_seq.specs.Running.{HasWord, state, target};
+ghost use Rattle.kp_seq.specs.Running.{state};
+ghost use Rattle.kp_machine.specs.Words.{HasWord, target};
 ghost use Rattle.kp_synth_spec.specs.Naming.{value_shown};
 ghost use Rattle.kp_synth_spec.specs.Shows.{IsOfJob};
 ghost use Rattle.kp_watch.specs.inner.Comparing.{Compares, ComparesTarget, ComparesWord};
@@ -14,23 +15,8 @@ ghost use Rattle.kp_watch.specs.inner.Machines.{due_by};
 use kp_bits::Bits;
 use kp_cycle::Sim;
 use kp_frontend::Accepted;
-use kp_run::{Column, Place};
+use kp_run::{Column, Difference, Place};
 use kp_seq::SeqMachine;
-
-/// The first word in which the value of a netlist isn't the specified one.
-#[derive(Clone, Copy, Debug)]
-pub struct Difference {
-    /// The number of cycles that have run.
-    pub cycle: u32,
-    /// The number of the register or file, in the order of declaration.
-    pub target: u32,
-    /// The address of the word, 0 for a register.
-    pub address: u32,
-    /// The value in the netlist.
-    pub found: Bits,
-    /// The value of the sequential machine.
-    pub due: Bits,
-}
 
 /// What is known of a run before it starts: for each target its register or file in the netlist, the machine that has its value, and its result; for
 /// each machine whether it has the value of a target; and for each sample the values that instructions read.

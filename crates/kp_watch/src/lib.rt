@@ -14,5 +14,4 @@ mod machines;
 mod results;
 mod watch;
 
-pub use compare::Difference;
 pub use watch::watched;

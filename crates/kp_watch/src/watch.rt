@@ -4,19 +4,20 @@ ghost use Rattle.std.specs.Option.{ForNone};
 ghost use Rattle.kp_bits.specs.Word.{word};
 ghost use Rattle.kp_net.specs.Netlist.{run, last_of};
 ghost use Rattle.kp_run.specs.Cycles.{HasRows, inputs_to};
-ghost use Rattle.kp_seq.specs.Running.{target};
+ghost use Rattle.kp_machine.specs.Words.{target};
 ghost use Rattle.kp_synth_spec.specs.Shows.{HasOutputs, IsOfJob};
-ghost use Rattle.kp_watch.specs.Watching.{own_trace, own_due, Agrees, IsFirstDifference};
+ghost use Rattle.kp_watch.specs.Watching.{own_due, Agrees, IsFirstDifference};
+ghost use Rattle.kp_run.specs.Cycles.{own_trace};
 ghost use Rattle.kp_watch.specs.inner.Beside.{AreTables, HaveCome, Answers};
 
 use crate::beside::{Beside, tables_of};
 use crate::changes::difference_after;
-use crate::compare::{Difference, Tables, difference_in};
+use crate::compare::{Tables, difference_in};
 use kp_base::NoMemory;
 use kp_frontend::Accepted;
-use kp_machine_laws::laws::a_design_is_accepted;
+use kp_machine::laws::a_design_is_accepted;
 use kp_net::Netlist;
-use kp_run::{Board, Cycles, board_of, board_with, columns_in};
+use kp_run::{Board, Cycles, Difference, board_of, board_with, columns_in};
 use std::alloc::Global;
 
 /// The run of a netlist over `count` cycles, under the stall words and the samples of a job, and the first difference between its values and those of

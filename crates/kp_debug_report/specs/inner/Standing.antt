@@ -4,14 +4,12 @@ use Rattle.kp_bits.specs.Word.{Word}
 use Rattle.kp_ast.specs.declared.tree.{Decl.Decl, Job.Job}
 use Rattle.kp_ast.specs.declared.tree.Decl.TheVariants as decls
 use Rattle.kp_pipeline.specs.Rows.{Trace}
-use Rattle.kp_machine.specs.Slots.{targets_of, is_register}
+use Rattle.kp_machine.specs.{Slots.targets_of, Slots.is_register, Words.target}
 use Rattle.kp_net.specs.Netlist.{Net}
 use Rattle.kp_debug.specs.Sessions.{Debugged, state_there}
-use Rattle.kp_run.specs.Cycles.{inputs_to}
-use Rattle.kp_seq.specs.Running.{target}
+use Rattle.kp_run.specs.Cycles.{inputs_to, own_trace}
 use Rattle.kp_tool_report.specs.States.{State}
 use Rattle.kp_synth_spec.specs.{Naming.register_of, Naming.file_of, Naming.value_shown, Shows.IsOfJob, Shows.Shows}
-use Rattle.kp_watch.specs.Watching.{own_trace}
 use Rattle.kp_debug_report.specs.Inspecting.{all_cycles, has_value, first_from}
 
 -- it steps through the run of the job's own inputs

@@ -2,8 +2,7 @@
 use Rattle.std.specs.Prelude.{◌≡◌, ℕ, ◌<◌, List, [], length, get_or}
 use Rattle.kp_bits.specs.Word.{Word, word}
 use Rattle.kp_ast.specs.declared.tree.Job.{Job}
-use Rattle.kp_machine.specs.Slots.{targets_of}
-use Rattle.kp_seq.specs.Running.{HasWord, target}
+use Rattle.kp_machine.specs.{Slots.targets_of, Words.HasWord, Words.target}
 
 -- a word for each address of a target, with these values
 pub record AreWords (job : Job) (t : ℕ) (shown : ℕ → ℕ) (words : List Word) : Type 0 where

@@ -7,9 +7,9 @@ use Rattle.kp_ast.specs.declared.tree.{StmtKind.StmtKind, Block.Block}
 use Rattle.kp_ast.specs.declared.tree.StmtKind.TheVariants as stmts
 use Rattle.kp_pipeline.specs.Sequential.{first_value}
 use Rattle.kp_stage.specs.Sizes.{size_of_option, size_of_kind, size_of_stmt}
-use Rattle.kp_machine.specs.Slots.{Slot}
+use Rattle.kp_machine.specs.{Slots.Slot, Words.state_in}
 use Rattle.kp_seq_plan.specs.{Codes.value_of, Codes.space_of, Lowering.Holds, Lowering.AllSuit, declared.code.Code.Code, declared.code.Typed.Typed}
-use Rattle.kp_seq.specs.{declared.program.Reading.Reading, declared.program.Step.Step, declared.program.Made.Made, declared.tables.Port.Port, Running.state_in}
+use Rattle.kp_seq.specs.declared.{program.Reading.Reading, program.Step.Step, program.Made.Made, tables.Port.Port}
 use Rattle.kp_seq.specs.inner.{Fits.FitSlots, Tables.Laid}
 use Rattle.kp_seq.specs.inner.Steps.{Under, word_in, holds, address_in, value_read, after_stmt, after_stmts, written_from}
 use Rattle.kp_seq.specs.Recorded.{where_true}

@@ -5,8 +5,8 @@ use Rattle.kp_ast.specs.{Checked.Known, Checked.checked, Checked.checked_calls_o
 use Rattle.kp_ast.specs.declared.tree.{ResultDecl.ResultDecl, Stmt.Stmt, StmtKind.StmtKind, Block.Block}
 use Rattle.kp_ast.specs.declared.tree.StmtKind.TheVariants as stmts
 use Rattle.kp_pipeline.specs.Sequential.{first_value}
-use Rattle.kp_machine.specs.Slots.{Slot, number_of, width_of, result_named}
-use Rattle.kp_seq.specs.{declared.tables.Port.Port, Running.state_in, inner.Names.held, inner.Names.bound, inner.Tables.Laid}
+use Rattle.kp_machine.specs.{Slots.Slot, Slots.number_of, Slots.width_of, Slots.result_named, Words.state_in}
+use Rattle.kp_seq.specs.{declared.tables.Port.Port, inner.Names.held, inner.Names.bound, inner.Tables.Laid}
 
 -- an instruction in flight: the values of names, of pipes, and of results by their targets
 pub record Under : Type 0 where

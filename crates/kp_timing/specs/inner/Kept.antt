@@ -5,8 +5,8 @@ use Rattle.kp_base.specs.First.{first}
 use Rattle.kp_width.specs.Widths.{widths_of}
 use Rattle.kp_stage.specs.{declared.start.Start.Start, Counts.summary_of, Stages.broken_of}
 use Rattle.kp_pipeline.specs.{Sequential.seq, Timeline.no_samples}
-use Rattle.kp_machine.specs.Machine.{machine_of, state_of}
-use Rattle.kp_seq.specs.{Running.Running, Running.state, Running.after_one, Recorded.record_of}
+use Rattle.kp_machine.specs.{Machine.machine_of, Machine.state_of, Words.after_one}
+use Rattle.kp_seq.specs.{Running.Running, Running.state, Recorded.record_of}
 use Rattle.kp_sites.specs.{Sites.Sited, Sites.sited, Reports.HasRoom}
 use Rattle.kp_timing.specs.Timed.{IsPlain}
 use Rattle.kp_timing.specs.inner.Deciding.{Held, record_in, moves_by, taken_down, fetched}

@@ -3,9 +3,9 @@ use Rattle.std.specs.Prelude.{ℕ, List, ◌++◌, take}
 use Rattle.kp_base.specs.declared.row.Row.{Row}
 use Rattle.kp_ast.specs.declared.tree.Job.{Job}
 use Rattle.kp_sched.specs.{Lines.row_lines, Rows.rows_seen}
-use Rattle.kp_seq.specs.Running.{target}
+use Rattle.kp_machine.specs.Words.{target}
 use Rattle.kp_tool_report.specs.Texts.{differs_line}
-use Rattle.kp_watch.specs.declared.compare.Difference.{Difference}
+use Rattle.kp_run.specs.declared.difference.Difference.{Difference}
 
 abbrev pub line_of : Job → Difference → List ℕ
 line_of job d = differs_line d.cycle (target job d.target) d.address d.found d.due

@@ -2,8 +2,7 @@
 use Rattle.std.specs.Prelude.{◌≡◌, ℕ, ◌<◌, ◌≤◌, length, get_or}
 use Rattle.kp_ast.specs.declared.tree.{Decl.Decl, Job.Job}
 use Rattle.kp_ast.specs.declared.tree.Decl.TheVariants as decls
-use Rattle.kp_machine.specs.Slots.{Slot, slot, targets_of}
-use Rattle.kp_seq.specs.Running.{HasWord, no_slot}
+use Rattle.kp_machine.specs.{Slots.Slot, Slots.slot, Slots.targets_of, Words.HasWord, Words.no_slot}
 
 -- target number t is the slot
 pub record IsTarget (job : Job) (t : ℕ) (s : Slot) : Type 0 where

@@ -5,10 +5,10 @@ use Rattle.kp_bits.specs.Word.{word}
 use Rattle.kp_ast.specs.declared.tree.Job.{Job}
 use Rattle.kp_net.specs.Netlist.{Net, last_of}
 use Rattle.kp_sched.specs.Rows.{rows_seen}
-use Rattle.kp_seq.specs.Running.{target}
-use Rattle.kp_run.specs.{Columns.AreColumns, Cycles.HasRows, Cycles.inputs_to, Homes.AreHomes, Places.places_in}
-use Rattle.kp_watch.specs.{Watching.own_trace, Watching.own_due, Watching.Agrees, Watching.IsFirstDifference, declared.compare.Difference.Difference}
-use Rattle.kp_watch.specs.declared.{compare.Tables.Tables, beside.Beside.Beside}
+use Rattle.kp_machine.specs.Words.{target}
+use Rattle.kp_run.specs.{Columns.AreColumns, Cycles.HasRows, Cycles.inputs_to, Cycles.own_trace, Homes.AreHomes, Places.places_in}
+use Rattle.kp_run.specs.declared.difference.Difference.{Difference}
+use Rattle.kp_watch.specs.{Watching.own_due, Watching.Agrees, Watching.IsFirstDifference, declared.compare.Tables.Tables, declared.beside.Beside.Beside}
 use Rattle.kp_watch.specs.inner.{Machines.given, Machines.HaveRun, Machines.AreNeeded, Results.AreResults}
 
 -- what stays the same in all cycles

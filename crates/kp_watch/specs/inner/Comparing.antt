@@ -2,8 +2,8 @@
 use Rattle.std.specs.Prelude.{◌≡◌, ◌≢◌, ℕ, ◌<◌, ◌⊎◌, nat_lt, if◌then◌else◌, Option, Some, None, MatchOption}
 use Rattle.kp_bits.specs.Word.{word}
 use Rattle.kp_ast.specs.declared.tree.Job.{Job}
-use Rattle.kp_seq.specs.Running.{HasWord, target}
-use Rattle.kp_watch.specs.declared.compare.Difference.{Difference}
+use Rattle.kp_machine.specs.Words.{HasWord, target}
+use Rattle.kp_run.specs.declared.difference.Difference.{Difference}
 
 -- An address of a target at which two states differ.
 pub record IsOneAt (job : Job) (shown owed : ℕ → ℕ) (cycle t : ℕ) (d : Difference) : Type 0 where

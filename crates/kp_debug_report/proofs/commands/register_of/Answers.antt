@@ -1,7 +1,6 @@
 use Rattle.std.proofs.Common.{◌≡◌, ◌<◌, ◌∙◌, List, length, get_or, ap, sym, subst}
 use Rattle.kp_ast.specs.declared.tree.{Decl.Decl, Job.Job}
-use Rattle.kp_machine.specs.Slots.{targets_of}
-use Rattle.kp_seq.specs.Running.{no_slot}
+use Rattle.kp_machine.specs.{Slots.targets_of, Words.no_slot}
 use Rattle.kp_synth_spec.specs.Naming.{place_among, register_name, register_names}
 use Rattle.kp_debug_report.proofs.commands.register_of.Goals as goal
 

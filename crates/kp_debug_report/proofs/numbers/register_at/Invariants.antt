@@ -1,6 +1,5 @@
 use Rattle.std.proofs.Common.{◌≡◌, ◌<◌, drop, length, get_or}
-use Rattle.kp_machine.specs.Slots.{targets_of}
-use Rattle.kp_seq.specs.Running.{no_slot}
+use Rattle.kp_machine.specs.{Slots.targets_of, Words.no_slot}
 use Rattle.kp_debug_report.proofs.numbers.register_at.Given as goal
 
 abbrev pub invariant-loop-decl : goal.invariant-loop-decl

@@ -1,6 +1,6 @@
 use Rattle.std.proofs.{Common.arith, Common.None, lemmas.Result.err_from_is_err_and, KnownBytes.Appends-nil}
 use Rattle.kp_base.proofs.Bytes.{written_piece, written_part, rest_whole}
-use Rattle.kp_seq.specs.Running.{target}
+use Rattle.kp_machine.specs.Words.{target}
 use Rattle.kp_tool_report.proofs.Lines.{left_is, words_next, words_end}
 use Rattle.kp_debug_report.specs.inner.Standing.{state_seen}
 use Rattle.kp_debug_report.proofs.states.write_words.Goals as goal

@@ -1,6 +1,6 @@
 use Rattle.std.proofs.Common.{◌-◌, ◌≤◌, None}
 use Rattle.kp_base.specs.inner.Bytes.{WrittenUpTo}
-use Rattle.kp_seq.specs.Running.{target}
+use Rattle.kp_machine.specs.Words.{target}
 use Rattle.kp_tool_report.specs.States.{lines_of_words}
 use Rattle.kp_debug_report.specs.inner.Standing.{state_seen}
 use Rattle.kp_debug_report.proofs.states.write_words.Given as goal

@@ -1,6 +1,6 @@
 use Rattle.std.proofs.Common.{◌-◌, ◌≤◌, ℕ, get_or}
 use Rattle.kp_base.specs.inner.Bytes.{WrittenUpTo}
-use Rattle.kp_seq.specs.Running.{target}
+use Rattle.kp_machine.specs.Words.{target}
 use Rattle.kp_page.specs.{States.changes_of_words, inner.Seen.seen}
 use Rattle.kp_page.proofs.states.write_words.Given as goal
 

@@ -1,7 +1,6 @@
 use Rattle.std.proofs.Common.{refl, subst}
 use Rattle.kp_seq_plan.specs.declared.code.Code.TheVariants as leaf
-use Rattle.kp_seq.specs.inner.Resolved.{IsCode}
-use Rattle.kp_seq.proofs.Resolved.{code_is, code_none}
+use Rattle.kp_seq.{specs.inner.Resolved.IsCode, proofs.Resolved.code_is, proofs.Resolved.code_none}
 use Rattle.kp_seq.proofs.program.code_for.Goals as goal
 
 pub returns-in-Some : goal.returns-in-Some

@@ -1,9 +1,7 @@
-use Rattle.std.proofs.Common.{◌∙◌, ap, sym}
-use Rattle.std.specs.List.{position}
+use Rattle.std.{proofs.Common.◌∙◌, proofs.Common.ap, proofs.Common.sym, specs.List.position}
 use Rattle.kp_ast.specs.Expressions.{is_same_name}
 use Rattle.kp_machine.specs.Slots.{width_of}
-use Rattle.kp_seq.specs.inner.Tables.{Laid}
-use Rattle.kp_seq.proofs.Resolved.{does_read, does_nowhere}
+use Rattle.kp_seq.{specs.inner.Tables.Laid, proofs.Resolved.does_read, proofs.Resolved.does_nowhere}
 use Rattle.kp_seq.proofs.program.read_of.Goals as goal
 
 pub returns-then-not-is_width : goal.returns-then-not-is_width

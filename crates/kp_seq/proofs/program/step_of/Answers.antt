@@ -1,8 +1,6 @@
-use Rattle.std.proofs.{Common.◌∙◌, Common.ap, Common.subst, Common.sym, lemmas.Result.IfOk-weaker}
-use Rattle.std.specs.List.{position}
+use Rattle.std.{proofs.Common.◌∙◌, proofs.Common.ap, proofs.Common.subst, proofs.Common.sym, proofs.lemmas.Result.IfOk-weaker, specs.List.position}
 use Rattle.kp_ast.specs.Expressions.{is_same_name}
-use Rattle.kp_seq.specs.inner.Resolved.{Does}
-use Rattle.kp_seq.proofs.Resolved.{does_let}
+use Rattle.kp_seq.{specs.inner.Resolved.Does, proofs.Resolved.does_let}
 use Rattle.kp_seq.proofs.program.step_of.Goals as goal
 
 pub returns-in-Read : goal.returns-in-Read

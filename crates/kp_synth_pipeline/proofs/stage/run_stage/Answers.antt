@@ -1,5 +1,5 @@
 use Rattle.std.proofs.Common.{◌+◌, ℕ, arith}
-use Rattle.kp_synth_registers.{proofs.Growth.test_kept, proofs.Growth.grown_added, proofs.Growth.added_then, proofs.Growth.added_more}
+use Rattle.kp_synth_registers.proofs.Growth.{test_kept, grown_added, added_then, added_more}
 use Rattle.kp_synth_stage.{specs.Work.stmts_at, specs.Work.costs_of, proofs.Binding.fits_kept}
 use Rattle.kp_synth_pipeline.proofs.Stalling.{computes, stalls}
 use Rattle.kp_synth_pipeline.proofs.stage.run_stage.Goals as goal

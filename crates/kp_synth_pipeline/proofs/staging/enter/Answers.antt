@@ -1,4 +1,4 @@
-use Rattle.kp_net.{proofs.Growing.kept_then, proofs.Growing.wire_kept}
+use Rattle.kp_net.proofs.Growing.{kept_then, wire_kept}
 use Rattle.kp_synth_registers.proofs.Growth.{test_kept, ready_kept}
 use Rattle.kp_synth_pipeline.proofs.Spoken.{slots_kept, pipes_kept, hints_kept}
 use Rattle.kp_synth_pipeline.proofs.staging.enter.Goals as goal

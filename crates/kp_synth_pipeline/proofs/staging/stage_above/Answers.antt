@@ -1,9 +1,8 @@
 use Rattle.std.proofs.Common.{List, Option, sym, subst, arith}
-use Rattle.kp_net.{proofs.Growing.kept_then, proofs.Growing.wire_kept}
+use Rattle.kp_net.proofs.Growing.{kept_then, wire_kept}
 use Rattle.kp_synth_registers.specs.declared.outcome.Set.{Set}
 use Rattle.kp_synth_registers.proofs.Growth.{test_kept, says_kept, grown_added, added_then, added_more, ready_kept}
-use Rattle.kp_synth_pipeline.{specs.inner.Whole.SetsMean, proofs.Spoken.faces_kept, proofs.Spoken.sets_of}
-use Rattle.kp_synth_pipeline.proofs.Following.{faces_below}
+use Rattle.kp_synth_pipeline.{specs.inner.Whole.SetsMean, proofs.Spoken.faces_kept, proofs.Spoken.sets_of, proofs.Following.faces_below}
 use Rattle.kp_synth_pipeline.proofs.staging.stage_above.Goals as goal
 
 pub add_rows-requires-clause-sources : goal.add_rows-requires-clause-sources

@@ -1,6 +1,6 @@
 use Rattle.std.proofs.{Common.arith, lemmas.Result.err_from_is_err_and, KnownBytes.Appends-nil}
 use Rattle.kp_base.proofs.Bytes.{written_piece, written_part, rest_whole}
-use Rattle.kp_seq.specs.Running.{target}
+use Rattle.kp_machine.specs.Words.{target}
 use Rattle.kp_run.specs.Boards.{due_behind}
 use Rattle.kp_tool_report.proofs.Lines.{left_is, words_next, words_end}
 use Rattle.kp_tool_report.proofs.runs.write_words.Goals as goal

@@ -1,6 +1,6 @@
 use Rattle.std.proofs.Common.{◌-◌, ◌≤◌}
 use Rattle.kp_base.specs.inner.Bytes.{WrittenUpTo}
-use Rattle.kp_seq.specs.Running.{target}
+use Rattle.kp_machine.specs.Words.{target}
 use Rattle.kp_run.specs.Boards.{due_behind}
 use Rattle.kp_tool_report.specs.States.{lines_of_words}
 use Rattle.kp_tool_report.proofs.runs.write_words.Given as goal

@@ -3,8 +3,7 @@ use Rattle.kp_base.specs.declared.row.Row.{Row}
 use Rattle.kp_bits.specs.Word.{Word}
 use Rattle.kp_net.specs.Netlist.{last_of, row_of}
 use Rattle.kp_cycle.specs.Steps.{Running}
-use Rattle.kp_run.specs.Cycles.{after_cycles, inputs_to, input_at}
-use Rattle.kp_run.proofs.{Given.as_feeds, Machines.stages_fit}
+use Rattle.kp_run.{specs.Cycles.after_cycles, specs.Cycles.inputs_to, specs.Cycles.input_at, proofs.Given.as_feeds, proofs.Machines.stages_fit}
 use Rattle.kp_vcd.specs.Recording.{Values, HasRecorded, moments_before}
 use Rattle.kp_vcd_run.specs.{Dumps.values_at, Dumps.own_run, Dumps.no_row, inner.Shown.shown_at, inner.Shown.mask_values}
 use Rattle.kp_vcd_run.proofs.Whole.{values_in_cycle, values_behind_all, values_few}

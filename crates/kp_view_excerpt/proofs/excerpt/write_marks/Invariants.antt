@@ -1,5 +1,4 @@
-use Rattle.std.proofs.Common.{◌≡◌, ◌++◌, map, drop}
-use Rattle.std.specs.Prelude.{filter}
+use Rattle.std.{proofs.Common.◌≡◌, proofs.Common.◌++◌, proofs.Common.map, proofs.Common.drop, specs.Prelude.filter}
 use Rattle.kp_view_excerpt.specs.Excerpts.{is_first}
 use Rattle.kp_view_excerpt.proofs.excerpt.write_marks.Given as goal
 

@@ -1,8 +1,6 @@
 use Rattle.std.proofs.Common.{◌≡◌, ◌∙◌, sym, ap, ℕ, ◌+◌, ◌-◌, true, false, get_or, drop, length, arith, rules}
-use Rattle.std.proofs.lemmas.List.{drop_all}
-use Rattle.std.specs.Prelude.{◌==◌}
-use Rattle.kp_view_excerpt.specs.Lines.{after_lines}
-use Rattle.kp_view_excerpt.proofs.Lines.{lines_next, lines_end}
+use Rattle.std.{proofs.lemmas.List.drop_all, specs.Prelude.◌==◌}
+use Rattle.kp_view_excerpt.{specs.Lines.after_lines, proofs.Lines.lines_next, proofs.Lines.lines_end}
 use Rattle.kp_view_excerpt.proofs.place.start_of_line.Goals.{then-byte-eq10+else-at-number, else-byte-eq10}
 use Rattle.kp_view_excerpt.proofs.place.start_of_line.Goals as goal
 

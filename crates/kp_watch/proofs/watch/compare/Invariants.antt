@@ -1,6 +1,7 @@
 use Rattle.std.{proofs.Common.◌≡◌, proofs.Common.◌+◌, proofs.Common.◌<◌, proofs.Common.◌≤◌, proofs.Common.ℕ, specs.Prelude.vec_capacity}
-use Rattle.kp_seq.specs.Running.{HasWord}
-use Rattle.kp_watch.specs.{Watching.own_trace, Watching.own_due, inner.Beside.HaveCome}
+use Rattle.kp_machine.specs.Words.{HasWord}
+use Rattle.kp_watch.specs.{Watching.own_due, inner.Beside.HaveCome}
+use Rattle.kp_run.specs.Cycles.{own_trace}
 use Rattle.kp_watch.proofs.watch.compare.Given as goal
 
 abbrev pub invariant-loop-cycle : goal.invariant-loop-cycle

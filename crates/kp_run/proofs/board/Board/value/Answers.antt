@@ -1,8 +1,8 @@
 use Rattle.std.proofs.Common.{◌≡◌, ◌<◌, ◌∙◌, [], List, get_or, length, ap, sym, subst, arith}
 use Rattle.std.proofs.lemmas.List.{get_or_default}
 use Rattle.kp_bits.specs.Word.{Word, word}
-use Rattle.kp_machine.specs.Slots.{targets_of}
-use Rattle.kp_seq.specs.Running.{Running, no_slot, state}
+use Rattle.kp_machine.specs.{Slots.targets_of, Words.no_slot}
+use Rattle.kp_seq.specs.Running.{Running, state}
 use Rattle.kp_run.{specs.Boards.due_behind, specs.Homes.home_of, proofs.Boards.home_at, proofs.Boards.machine_shows}
 use Rattle.kp_run.proofs.board.Board.value.Goals as goal
 

@@ -1,8 +1,8 @@
 use Rattle.std.proofs.Common.{refl, ◌≡◌, ap, ◌∙◌, subst, sym, arith}
 use Rattle.kp_stage.specs.{Counts.summary_of, declared.counts.Summary.Summary}
-use Rattle.kp_machine.specs.Slots.{targets_of}
-use Rattle.kp_seq.specs.{Running.state_in, declared.machine.Resolved.Resolved, inner.Ready.AreTables, inner.Ready.HasRoom, inner.Resolved.Resolves}
-use Rattle.kp_seq.{specs.inner.Fits.FitSlots, proofs.Start.start_fits, proofs.Start.start_state}
+use Rattle.kp_machine.specs.{Slots.targets_of, Words.state_in}
+use Rattle.kp_seq.specs.{declared.machine.Resolved.Resolved, inner.Ready.AreTables, inner.Ready.HasRoom, inner.Resolved.Resolves, inner.Fits.FitSlots}
+use Rattle.kp_seq.proofs.Start.{start_fits, start_state}
 use Rattle.kp_seq.proofs.machine.SeqMachine.open.Goals as goal
 
 pub invariant_of-result : goal.invariant_of-result

@@ -1,8 +1,8 @@
 use Rattle.std.proofs.Common.{length, ap, ◌∙◌, subst, sym, arith}
 use Rattle.std.specs.List.{length_refill}
 use Rattle.kp_stage.specs.Start.{AreSamples}
-use Rattle.kp_seq.specs.Running.{Running, state, after_one}
-use Rattle.kp_seq.proofs.Stepping.{room_is_enough, state_after, ready_after}
+use Rattle.kp_seq.{specs.Running.Running, specs.Running.state, proofs.Stepping.room_is_enough, proofs.Stepping.state_after, proofs.Stepping.ready_after}
+use Rattle.kp_machine.specs.Words.{after_one}
 use Rattle.kp_seq.proofs.machine.SeqMachine.step_unrecorded.Goals as goal
 
 pub execute-requires : goal.execute-requires

@@ -1,8 +1,8 @@
 use Rattle.std.proofs.Common.{length, ap, ◌∙◌, subst, sym, arith}
 use Rattle.std.specs.List.{length_refill}
 use Rattle.kp_stage.specs.Start.{AreSamples}
-use Rattle.kp_machine.specs.Machine.{values_in}
-use Rattle.kp_seq.specs.{Running.Running, Running.state, Running.after_one, Recorded.record_of}
+use Rattle.kp_machine.specs.{Machine.values_in, Words.after_one}
+use Rattle.kp_seq.specs.{Running.Running, Running.state, Recorded.record_of}
 use Rattle.kp_seq.proofs.Stepping.{room_is_enough, state_after, ready_after, record_kept, record_after}
 use Rattle.kp_seq.proofs.machine.SeqMachine.step_with.Goals as goal
 

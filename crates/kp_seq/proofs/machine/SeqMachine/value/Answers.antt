@@ -1,6 +1,7 @@
 use Rattle.std.proofs.Common.{◌≡◌, ap, ◌∙◌, subst, sym, get_or}
-use Rattle.kp_seq.specs.Running.{Running, HasWord, no_slot, target, state_in, word_shown}
-use Rattle.kp_seq.{specs.declared.machine.Resolved.Resolved, specs.inner.Notes.record_by, specs.inner.Steps.fitted, proofs.Start.shown_is}
+use Rattle.kp_seq.specs.{Running.Running, Running.word_shown, declared.machine.Resolved.Resolved, inner.Notes.record_by, inner.Steps.fitted}
+use Rattle.kp_seq.proofs.Start.{shown_is}
+use Rattle.kp_machine.specs.Words.{HasWord, no_slot, target, state_in}
 use Rattle.kp_seq.proofs.machine.SeqMachine.value.Goals as goal
 
 pub returns : goal.returns

@@ -1,7 +1,6 @@
 use Rattle.std.proofs.Common.{◌≡◌, ◌∙◌, refl, sym, ap, ap₂, ℕ, ltb, ◌-◌, min, List, length, take, drop, arith, rules}
 use Rattle.std.proofs.lemmas.{List.take_min, List.drop_min, Grind.common_steps}
-use Rattle.kp_view_excerpt.specs.{Excerpts.last, Lines.line_at, Tokens.token_length}
-use Rattle.kp_view_excerpt.proofs.Cuts.{cut_is}
+use Rattle.kp_view_excerpt.{specs.Excerpts.last, specs.Lines.line_at, specs.Tokens.token_length, proofs.Cuts.cut_is}
 use Rattle.kp_view_excerpt.proofs.excerpt.Excerpt.at.Goals as goal
 
 pub returns-clause-shows : goal.returns-clause-shows

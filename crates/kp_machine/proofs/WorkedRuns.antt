@@ -9,10 +9,10 @@ use Rattle.kp_stage.specs.Start.{start_of}
 use Rattle.kp_pipeline.specs.Machine.{Machine, Tree, Done, Ask, Guess}
 use Rattle.kp_pipeline.specs.Pipeline.{above, back, from_stages, next_hints, next_stage, next_visible, outcome, stall, ue}
 use Rattle.kp_pipeline.specs.{Rows.pipe, Sequential.before_stage, Sequential.first_value, Sequential.seq, Timeline.no_samples}
+use Rattle.kp_machine.specs.Examples.{name, number, sum, bit, call, place, late3, late3_rows, hint3, hint3_rows, near, near_rows, odd, odd_block}
 use Rattle.kp_machine.specs.Slots.{words_of, hints_of, result_named}
 use Rattle.kp_machine.specs.Trees.{value_with_hints, Progress, entered, with_name, with_value, with_put, with_set, tree_of, value_of}
 use Rattle.kp_machine.specs.Machine.{machine_of, stage_tree, result_for, state_of, start_hints, inputs_from, pipe_of, sequential}
-use Rattle.kp_machine_laws.specs.Examples.{name, number, sum, bit, call, place, late3, late3_rows, hint3, hint3_rows, near, near_rows, odd, odd_block}
 
 eval_number : (env : Env) (w v : ℕ) → eval env (number w v) ≡ word w v
 eval_number env w v = fold-Lit Word Word (value_of_kind env) value_of_level place (record { width = w; value = v })

@@ -11,8 +11,8 @@ use Rattle.kp_stage.proofs.Unbroken.{first_none, answer_none}
 use Rattle.kp_pipeline.specs.Accepted.{Accepted}
 use Rattle.kp_machine.specs.Machine.{machine_of, result_for, write_stage_of, after_put, known_after, known_from_of}
 use Rattle.kp_machine.{specs.Slots.sample_stages, proofs.Aims.aims_inside, proofs.Placing.stands}
-use Rattle.kp_machine.proofs.{Rules.rules_kept, Rules.head_kept, Rules.decl_kept, Rules.stmts_kept, Results.Stands}
-use Rattle.kp_machine_laws.proofs.{Sampled.own_samples, Sampled.sample_stands, Fitting.some_from, Fitting.stage_fits}
+use Rattle.kp_machine.proofs.{Rules.rules_kept, Rules.head_kept, Rules.decl_kept, Rules.stmts_kept, Results.Stands, Sampled.own_samples, Sampled.sample_stands}
+use Rattle.kp_machine.proofs.Fitting.{some_from, stage_fits}
 
 put_in_time : (w : ℕ) (o : Option At) → holds_of (λ at. nat_lt at.stage w) o ≡ true → after_put o ≤ w
 put_in_time w None e = cc

@@ -8,7 +8,7 @@ use Rattle.kp_stage.specs.{Counts.guesses_in, Counts.guesses_of, Counts.one_if_s
 use Rattle.kp_pipeline.specs.{Machine.Tree, Timeline.HasNoGuess, Timeline.HasNoGuessOrSample}
 use Rattle.kp_machine.specs.Trees.{Progress, entered, holds, value_of, value_with_hints, with_name, with_put, with_set, with_aim, word_of, word_read, read_of, statement_of, tree_of}
 use Rattle.kp_machine.specs.{Slots.hints_of, Slots.pipes_of, Slots.sample_stages, Slots.number_of, Slots.result_named, Machine.machine_of, Machine.stage_tree}
-use Rattle.kp_machine_laws.proofs.Sampleless.{none_declared}
+use Rattle.kp_machine.proofs.Sampleless.{none_declared}
 
 abbrev NoneIn : List Stmt → Type 0
 NoneIn ss = AllByRecursion (λ s. guesses_of s.kind ≡ 0) ss

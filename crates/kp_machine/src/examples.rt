@@ -3,7 +3,7 @@
 
 ghost use Rattle.std.specs.Prelude.{◌≡◌};
 ghost use Rattle.kp_pipeline.specs.Timeline.{no_samples};
-ghost use Rattle.kp_machine_laws.specs.Examples.{late3, late3_rows, hint3, hint3_rows, near, near_rows, odd};
+ghost use Rattle.kp_machine.specs.Examples.{late3, late3_rows, hint3, hint3_rows, near, near_rows, odd};
 ghost use Rattle.kp_machine.specs.Machine.{sequential, pipe_of, inputs_from};
 
 /// A read waits for a result that is set late. After two instructions X is 3.

@@ -1,19 +1,18 @@
 -- A stage uses only its own samples: if two input vectors agree on these, its tree is the same.
 use Rattle.std.proofs.Common.{◌≡◌, ◌∙◌, ℕ, zero, suc, ◌+◌, List, [], ◌∷◌, map, Option, Some, None, Bool, true, false, not, cond, eqb, refl, ap, sym, subst, arith}
-use Rattle.std.{proofs.lemmas.Bool.eqb-true, specs.Prelude.slice_get, specs.Prelude.get_or, specs.Prelude.unwrap_or, specs.Option.option_map, specs.List.list_any}
+use Rattle.std.{proofs.lemmas.Bool.eqb-true, specs.Prelude.slice_get, specs.Prelude.get_or, specs.Prelude.unwrap_or, specs.Option.option_map}
+use Rattle.std.specs.List.{list_any}
 use Rattle.kp_base.specs.{First.first, Refusal.e_rule, declared.place.Place.Place}
 use Rattle.kp_bits.specs.Word.{Word, word}
-use Rattle.kp_ast.specs.Expressions.{is_same_name, look_up}
-use Rattle.kp_ast.specs.declared.tree.{Expr.Expr, Named.Named, Num.Num, Decl.Decl, Stmt.Stmt}
-use Rattle.kp_ast.specs.declared.tree.Job.{Job}
+use Rattle.kp_ast.specs.{Expressions.is_same_name, Expressions.look_up, declared.tree.Expr.Expr, declared.tree.Named.Named, declared.tree.Num.Num}
+use Rattle.kp_ast.specs.declared.tree.{Decl.Decl, Stmt.Stmt, Job.Job}
 use Rattle.kp_ast.specs.declared.tree.Decl.TheVariants as decls
 use Rattle.kp_stage.specs.Facts.{Facts, facts_of, sample_at, stmts_in}
 use Rattle.kp_stage.specs.Rules.{holds_of, ask_name, ask_expr, ask_values, ask_guesses, ask_stmt, ask_stmts, all_rules}
-use Rattle.kp_stage.specs.Uses.{exprs_in, uses}
-use Rattle.kp_stage.proofs.{Unbroken.first_none, Unbroken.answer_none, Names.either, Names.name_asked, Names.exprs_asked}
-use Rattle.kp_machine.specs.Trees.{entered}
-use Rattle.kp_machine.specs.Slots.{pipes_of, samples_of, sample_stages, words_from, words_of}
-use Rattle.kp_machine.{specs.Machine.stage_tree, proofs.Alike.alike_append, proofs.Alike.tree_same, proofs.Cases.by_test}
+use Rattle.kp_stage.{specs.Uses.exprs_in, specs.Uses.uses, proofs.Unbroken.first_none, proofs.Unbroken.answer_none}
+use Rattle.kp_stage.proofs.Names.{either, name_asked, exprs_asked}
+use Rattle.kp_machine.specs.{Trees.entered, Slots.pipes_of, Slots.samples_of, Slots.sample_stages, Slots.words_from, Slots.words_of, Machine.stage_tree}
+use Rattle.kp_machine.proofs.{Alike.alike_append, Alike.tree_same, Cases.by_test}
 
 not_twice : (b : Bool) → not (not b) ≡ true → b ≡ true
 not_twice true e = refl
