@@ -15,7 +15,7 @@ use std::hash::{Hash, Hasher};
 use std::marker::Model;
 
 // The name of a label.
-#[derive(Debug, Drop)]
+#[derive(Drop)]
 struct Name {
     bytes: Vec<u8>,
 }

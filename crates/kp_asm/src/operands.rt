@@ -8,7 +8,7 @@ use crate::token::{Token, TokenKind, broken, bytes_of};
 use kp_base::Refusal;
 
 /// A rule of operands.
-#[derive(Clone, Copy, Debug, PartialEq, Eq)]
+#[derive(Clone, Copy, PartialEq, Eq)]
 pub enum Rule {
     /// A3: a token is the next one of the form.
     Form,

@@ -7,7 +7,7 @@ use std::marker::Model;
 
 /// A `Box` that contracts see as its contents, so that two trees are equal if their parts are, and no statement about
 /// a tree depends on its location in memory.
-#[derive(Debug, Drop)]
+#[derive(Drop)]
 pub struct Boxed<T> {
     inner: Box<T>,
 }

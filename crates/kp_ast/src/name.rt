@@ -14,7 +14,6 @@ use std::marker::Model;
 /// A name: 1 to 64 bytes, each a letter, a digit or `_`.
 ///
 /// Names are equal if their bytes are, and contracts see a name as the list of its bytes.
-#[derive(Debug)]
 pub struct Name {
     bytes: Vec<u8>,
 }

@@ -5,21 +5,21 @@ use kp_base::{List, Place};
 use kp_bits::{BinOp, Literal};
 
 /// A number as written, and its position.
-#[derive(Clone, Copy, Debug, PartialEq, Eq)]
+#[derive(Clone, Copy, PartialEq, Eq)]
 pub struct Num {
     pub value: u64,
     pub at: Place,
 }
 
 /// A literal as written, and its position.
-#[derive(Clone, Copy, Debug, PartialEq, Eq)]
+#[derive(Clone, Copy, PartialEq, Eq)]
 pub struct Lit {
     pub literal: Literal,
     pub at: Place,
 }
 
 /// A name, and its position.
-#[derive(Debug, Drop)]
+#[derive(Drop)]
 pub struct Named {
     pub name: Name,
     pub at: Place,
@@ -30,7 +30,6 @@ pub struct Named {
 /// Its position is that of its outermost operator, name, literal, call name, extension keyword, `?`, opening `[` of a
 /// slice or opening `{`.
 #[cycle(tree)]
-#[derive(Debug)]
 pub struct Expr {
     pub place: Place,
     pub kind: ExprKind,
@@ -46,7 +45,7 @@ impl Drop for Expr {
 
 /// The kind of an expression.
 #[cycle(tree)]
-#[derive(Debug, Drop)]
+#[derive(Drop)]
 pub enum ExprKind {
     Lit(Literal),
     Name(Name),
@@ -69,7 +68,7 @@ pub enum ExprKind {
 }
 
 /// `read name = target[address] when when;` or `.. guess guess;`
-#[derive(Debug, Drop)]
+#[derive(Drop)]
 pub struct ReadStmt {
     pub name: Named,
     pub target: Named,
@@ -79,7 +78,7 @@ pub struct ReadStmt {
 }
 
 /// What a statement does.
-#[derive(Debug, Drop)]
+#[derive(Drop)]
 pub enum StmtKind {
     Read(ReadStmt),
     /// `let name = value;`
@@ -93,28 +92,28 @@ pub enum StmtKind {
 }
 
 /// A statement, and the position of its first token.
-#[derive(Debug, Drop)]
+#[derive(Drop)]
 pub struct Stmt {
     pub at: Place,
     pub kind: StmtKind,
 }
 
 /// `stage number { .. }`
-#[derive(Debug, Drop)]
+#[derive(Drop)]
 pub struct Block {
     pub number: Num,
     pub stmts: List<Stmt>,
 }
 
 /// A parameter of a function.
-#[derive(Debug, Drop)]
+#[derive(Drop)]
 pub struct Param {
     pub name: Named,
     pub width: Num,
 }
 
 /// `result name : width -> target[address] when enable at stage;`
-#[derive(Debug, Drop)]
+#[derive(Drop)]
 pub struct ResultDecl {
     pub name: Named,
     pub width: Num,
@@ -125,7 +124,7 @@ pub struct ResultDecl {
 }
 
 /// `fn name(params) : width = body;`
-#[derive(Debug, Drop)]
+#[derive(Drop)]
 pub struct FuncDecl {
     pub name: Named,
     pub params: List<Param>,
@@ -134,7 +133,7 @@ pub struct FuncDecl {
 }
 
 /// A declaration.
-#[derive(Debug, Drop)]
+#[derive(Drop)]
 pub enum Decl {
     /// `reg name : width = start;`
     Reg(Named, Num, Lit),
@@ -151,7 +150,7 @@ pub enum Decl {
 }
 
 /// An entry of the image section: `name[address] = value, value;`
-#[derive(Debug, Drop)]
+#[derive(Drop)]
 pub struct Image {
     pub name: Named,
     pub address: Option<Num>,
@@ -159,7 +158,7 @@ pub struct Image {
 }
 
 /// An entry of the stalls section: `stage from a to b step p;`
-#[derive(Debug, Drop)]
+#[derive(Drop)]
 pub struct Stalls {
     pub stage: Num,
     pub from: Num,
@@ -168,7 +167,7 @@ pub struct Stalls {
 }
 
 /// An entry of the inputs section: `name = value from a to b step p;`
-#[derive(Debug, Drop)]
+#[derive(Drop)]
 pub struct Inputs {
     pub name: Named,
     pub value: Lit,
@@ -178,7 +177,6 @@ pub struct Inputs {
 }
 
 /// A complete job. A section that is present but has no entries is an empty list.
-#[derive(Debug)]
 pub struct Job {
     pub name: Named,
     pub stages: Num,

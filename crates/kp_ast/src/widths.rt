@@ -4,7 +4,7 @@ use kp_base::List;
 
 /// Where a name is in scope: to the end of the text, of a function, or of a stage block. Functions and blocks are
 /// numbered in text order, from 0.
-#[derive(Clone, Copy, Debug, PartialEq, Eq)]
+#[derive(Clone, Copy, PartialEq, Eq)]
 pub enum Scope {
     Text,
     Function(u32),
@@ -12,7 +12,7 @@ pub enum Scope {
 }
 
 /// The kind of a name. A file has the width of its addresses.
-#[derive(Clone, Copy, Debug, PartialEq, Eq)]
+#[derive(Clone, Copy, PartialEq, Eq)]
 pub enum NameKind {
     Reg,
     File(u8),
@@ -27,7 +27,7 @@ pub enum NameKind {
 }
 
 /// A declared name, with the width of its values.
-#[derive(Debug, Drop)]
+#[derive(Drop)]
 pub struct Entry {
     pub name: Name,
     pub scope: Scope,
@@ -36,7 +36,7 @@ pub struct Entry {
 }
 
 /// The entries of all declared names, in text order.
-#[derive(Debug, Drop)]
+#[derive(Drop)]
 pub struct Widths {
     pub entries: List<Entry>,
 }

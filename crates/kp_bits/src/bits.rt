@@ -9,7 +9,7 @@ use std::marker::Model;
 ///
 /// The operations are those of unsigned vectors in Verilog (IEEE 1364-2005, clause 5). Contracts see a `Bits` as a
 /// record of its width and its value.
-#[derive(Clone, Copy, Debug, PartialEq, Eq)]
+#[derive(Clone, Copy, PartialEq, Eq)]
 pub struct Bits {
     width: u8,
     value: u64,

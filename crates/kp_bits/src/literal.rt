@@ -9,7 +9,7 @@ use std::error::Error;
 use std::fmt;
 
 /// A literal as it was written, whether or not its value fits its width.
-#[derive(Clone, Copy, Debug, PartialEq, Eq)]
+#[derive(Clone, Copy, PartialEq, Eq)]
 pub struct Literal {
     /// The number before the `'`.
     pub width: u64,

@@ -2,7 +2,7 @@
 use crate::bits::Bits;
 
 /// A binary operator: `& | ^ + - * == < << >>`, in this order.
-#[derive(Clone, Copy, Debug, PartialEq, Eq, Hash)]
+#[derive(Clone, Copy, PartialEq, Eq, Hash)]
 pub enum BinOp {
     And,
     Or,

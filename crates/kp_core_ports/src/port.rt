@@ -7,7 +7,7 @@ use kp_base::{List, NoMemory, Place};
 use std::alloc::{AllocError, AllocFailed};
 
 /// What a line asks for. Targets, which are the registers and the files together, and pipes are identified by number, in the order of declaration.
-#[derive(Clone, Copy, Debug, PartialEq, Eq)]
+#[derive(Clone, Copy, PartialEq, Eq)]
 pub enum Ask {
     /// `show R`: the value of a register, by its target.
     Show(u32),
@@ -24,7 +24,6 @@ pub enum Ask {
 }
 
 /// The ports that a line asks for, with what follows the prefix in their names: `R`, `F`, `P_k`, or nothing for `commit`.
-#[derive(Debug)]
 pub struct Port {
     pub ask: Ask,
     pub label: List<u8>,
@@ -38,7 +37,7 @@ impl Drop for Port {
 }
 
 /// The first word of a line that asks for a register or a file.
-#[derive(Clone, Copy, Debug, PartialEq, Eq)]
+#[derive(Clone, Copy, PartialEq, Eq)]
 pub enum TargetVerb {
     Show,
     Peek,
@@ -46,14 +45,14 @@ pub enum TargetVerb {
 }
 
 /// The first word of a line that asks for a pipe in a stage.
-#[derive(Clone, Copy, Debug, PartialEq, Eq)]
+#[derive(Clone, Copy, PartialEq, Eq)]
 pub enum PipeVerb {
     Probe,
     Next,
 }
 
 /// The first word of a line.
-#[derive(Clone, Copy, Debug, PartialEq, Eq)]
+#[derive(Clone, Copy, PartialEq, Eq)]
 pub enum Verb {
     Target(TargetVerb),
     Pipe(PipeVerb),
@@ -92,7 +91,7 @@ impl Verb {
 }
 
 /// What violates a rule of the lines that ask for ports.
-#[derive(Clone, Copy, Debug, PartialEq, Eq)]
+#[derive(Clone, Copy, PartialEq, Eq)]
 pub enum PortRule {
     /// P1: the line has none of the forms.
     Form,
@@ -122,14 +121,14 @@ impl PortRule {
 }
 
 /// A violated rule, and the position of the token that violates it.
-#[derive(Clone, Copy, Debug, PartialEq, Eq)]
+#[derive(Clone, Copy, PartialEq, Eq)]
 pub struct PortRefusal {
     pub rule: PortRule,
     pub place: Place,
 }
 
 /// Why no ports are returned: a violated rule, or out of memory.
-#[derive(Clone, Copy, Debug, PartialEq, Eq)]
+#[derive(Clone, Copy, PartialEq, Eq)]
 pub enum PortsRefused {
     Rule(PortRefusal),
     NoMemory,

@@ -21,7 +21,6 @@ use std::alloc::Global;
 use std::marker::Model;
 
 /// A netlist that runs; contracts see it as the netlist, its present state, and the contents of its slots.
-#[derive(Debug)]
 pub struct Sim<'n> {
     net: &'n Netlist,
     heads: u32,

@@ -17,7 +17,6 @@ use std::marker::Model;
 /// span, so that the index of a register is that of its word. All these are adjacent, so that the complete state is a
 /// span as well, and each slot is another span of its size. The values of the nodes are no part of the state: each cycle
 /// computes those that are needed.
-#[derive(Debug)]
 pub struct Memory {
     nodes: Vec<u64>,
     region: Region,

@@ -8,7 +8,7 @@ use kp_net::{Kind, Node, NodeId};
 
 /// What a node computes, with all that depends on its widths precomputed, so that values are plain numbers. A mask
 /// has a one in each bit of the node's width.
-#[derive(Clone, Copy, Debug)]
+#[derive(Clone, Copy)]
 pub enum Op {
     /// A constant, a rare operation, or one that reads more than nodes: it is computed from the node itself.
     Plain,
@@ -40,7 +40,7 @@ pub enum Op {
 }
 
 /// A node to evaluate, and its operation.
-#[derive(Clone, Copy, Debug)]
+#[derive(Clone, Copy)]
 pub struct Step {
     pub target: u32,
     pub op: Op,

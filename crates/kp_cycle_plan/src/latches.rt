@@ -8,7 +8,7 @@ use std::alloc::Global;
 
 /// How a register gets its next value. Most registers of a pipeline keep their value while their stage is stalled: their next node is
 /// `test ? value : the register itself`, and needs no step of its own.
-#[derive(Clone, Copy, Debug)]
+#[derive(Clone, Copy)]
 pub enum Latch {
     /// From this node.
     Always(NodeId),
@@ -17,14 +17,14 @@ pub enum Latch {
 }
 
 /// A register that takes the value of a node in each cycle.
-#[derive(Clone, Copy, Debug)]
+#[derive(Clone, Copy)]
 pub struct Moved {
     pub reg: u32,
     pub next: NodeId,
 }
 
 /// A register that takes the value of a node if that of `test` is 1, and else keeps its own.
-#[derive(Clone, Copy, Debug)]
+#[derive(Clone, Copy)]
 pub struct Held {
     pub reg: u32,
     pub test: NodeId,
@@ -32,7 +32,6 @@ pub struct Held {
 }
 
 /// The latches of all registers, by their kind.
-#[derive(Debug)]
 pub struct Latches {
     pub moved: Vec<Moved>,
     pub held: Vec<Held>,

@@ -20,7 +20,6 @@ const COPIES: u32 = 49;
 
 /// A run of a netlist that is stepped through in both directions, specified by the netlist, the inputs of each cycle, and the current cycle. It
 /// stores a checkpoint of the state at the cycles 0, 2,048 and so on when they are first reached, so a step back runs at most 2,047 cycles again.
-#[derive(Debug)]
 pub struct Session<'n> {
     sim: Sim<'n>,
     exts: Vec<u16>,

@@ -11,7 +11,7 @@ use kp_base::Row;
 
 /// The instructions that retired, and the cycles lost to the filling of the pipeline, to data hazards, to wrong guesses and to stalls from
 /// outside.
-#[derive(Clone, Copy, Debug, PartialEq, Eq)]
+#[derive(Clone, Copy, PartialEq, Eq)]
 pub struct Account {
     pub retired: u64,
     pub filling: u64,
@@ -20,7 +20,7 @@ pub struct Account {
     pub outside: u64,
 }
 
-#[derive(Clone, Copy, Debug, PartialEq, Eq)]
+#[derive(Clone, Copy, PartialEq, Eq)]
 enum Loss {
     Filling,
     DataHazard,

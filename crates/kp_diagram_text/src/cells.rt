@@ -7,7 +7,7 @@ ghost use Rattle.kp_diagram_text.specs.Marks.{shown};
 use kp_base::Row;
 
 /// What the instruction in a stage does in a cycle.
-#[derive(Clone, Copy, Debug, PartialEq, Eq)]
+#[derive(Clone, Copy, PartialEq, Eq)]
 pub enum Mark {
     Moves,
     WaitsForValue,

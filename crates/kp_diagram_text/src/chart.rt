@@ -11,7 +11,7 @@ use kp_base::{Row, Sink, SinkFault, word_length, write_all};
 
 /// A run of a machine: its name, how many stages it has, the row and the stall word of each cycle, and the names of its stages. A stage past
 /// the end of the names is named by its number.
-#[derive(Clone, Copy, Debug)]
+#[derive(Clone, Copy)]
 pub struct Chart<'a> {
     pub name: &'a [u8],
     pub stages: u8,

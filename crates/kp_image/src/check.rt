@@ -13,7 +13,7 @@ use kp_bits::LiteralFault;
 use std::marker::Model;
 
 // The destination of an entry's values.
-#[derive(Clone, Copy, Debug)]
+#[derive(Clone, Copy)]
 struct Storage {
     width: u64,
     words: u64,

@@ -6,7 +6,7 @@ ghost use Rattle.kp_image.specs.inner.Kept.{cycles_of};
 use kp_ast::Num;
 
 // The cycles from one to another, in steps.
-#[derive(Clone, Copy, Debug)]
+#[derive(Clone, Copy)]
 pub(crate) struct Cycles {
     first: u64,
     last: u64,

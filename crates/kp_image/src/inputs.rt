@@ -13,14 +13,14 @@ use std::alloc::Global;
 use std::marker::Model;
 
 // An entry: a value, and the cycles in which the sample has it.
-#[derive(Clone, Copy, Debug)]
+#[derive(Clone, Copy)]
 pub(crate) struct Given {
     value: u64,
     cycles: Cycles,
 }
 
 // The external values of a sample.
-#[derive(Debug, Drop)]
+#[derive(Drop)]
 pub(crate) struct Feed {
     width: u8,
     givens: Vec<Given>,
@@ -62,7 +62,6 @@ fn given_value(width: u8, givens: &[Given], cycle: u64) -> u64
 }
 
 /// The external values of each sample, for each cycle.
-#[derive(Debug)]
 pub struct InputPattern {
     feeds: Vec<Feed>,
 }

@@ -19,7 +19,6 @@ use kp_stage::{Design, Start};
 use std::alloc::Global;
 
 /// The contents of a job's sections.
-#[derive(Debug)]
 pub struct Sections {
     pub start: Start,
     pub stalls: StallPattern,

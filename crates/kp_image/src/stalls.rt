@@ -14,7 +14,7 @@ use std::alloc::Global;
 use std::marker::Model;
 
 // An entry: a stage, and the cycles in which it is stalled.
-#[derive(Clone, Copy, Debug)]
+#[derive(Clone, Copy)]
 pub(crate) struct Span {
     stage: u8,
     cycles: Cycles,
@@ -33,7 +33,6 @@ impl Span {
 /// Which stages are stalled externally, for each cycle.
 ///
 /// Bit k of a stall word is 1 if stage k is stalled.
-#[derive(Debug)]
 pub struct StallPattern {
     stages: u8,
     spans: Vec<Span>,

@@ -6,7 +6,7 @@ use kp_base::{List, Place};
 use kp_bits::Literal;
 
 /// A keyword of the language, which is never a name.
-#[derive(Clone, Copy, Debug, PartialEq, Eq)]
+#[derive(Clone, Copy, PartialEq, Eq)]
 pub enum Keyword {
     Machine,
     Stages,
@@ -144,7 +144,7 @@ impl Keyword {
 }
 
 /// A punctuator of one or two bytes.
-#[derive(Clone, Copy, Debug, PartialEq, Eq)]
+#[derive(Clone, Copy, PartialEq, Eq)]
 pub enum Mark {
     /// `;`
     Semicolon,
@@ -195,7 +195,7 @@ pub enum Mark {
 }
 
 /// The kind of a token.
-#[derive(Clone, Copy, Debug, PartialEq, Eq)]
+#[derive(Clone, Copy, PartialEq, Eq)]
 pub enum TokenKind {
     /// A name: an identifier of 1 to 64 bytes that isn't a keyword.
     Ident,
@@ -208,7 +208,7 @@ pub enum TokenKind {
 }
 
 /// A token of a text: `len` bytes from the offset `start` on, at the position `place`.
-#[derive(Clone, Copy, Debug, PartialEq, Eq)]
+#[derive(Clone, Copy, PartialEq, Eq)]
 pub struct Token {
     pub start: u32,
     pub len: u32,
@@ -217,7 +217,7 @@ pub struct Token {
 }
 
 /// The tokens up to and including the first `end`, or up to the end of the text; `rest` is the offset after them.
-#[derive(Debug, Drop)]
+#[derive(Drop)]
 pub struct Lexed {
     pub tokens: List<Token>,
     pub rest: u32,

@@ -7,7 +7,7 @@ use kp_base::NoMemory;
 use std::alloc::Global;
 
 /// The bytes of a text from one offset up to another.
-#[derive(Clone, Copy, Debug, PartialEq, Eq)]
+#[derive(Clone, Copy, PartialEq, Eq)]
 pub struct Run {
     pub at: u32,
     pub end: u32,

@@ -8,7 +8,6 @@ use std::marker::Model;
 /// A name of a module, a register, a file or a port in Verilog: 1 to 70 bytes.
 ///
 /// Contracts see a label as the list of its bytes.
-#[derive(Debug)]
 pub struct Label {
     bytes: Vec<u8>,
 }

@@ -10,14 +10,14 @@ use kp_bits::Bits;
 use std::marker::Model;
 
 /// An input port other than the stall word. Its values have `width` bits.
-#[derive(Debug, Drop)]
+#[derive(Drop)]
 pub struct Port {
     pub name: Label,
     pub width: u8,
 }
 
 /// A register: its start value, and the node whose value it latches at the end of each cycle.
-#[derive(Debug, Drop)]
+#[derive(Drop)]
 pub struct NetReg {
     pub name: Label,
     pub start: Bits,
@@ -25,7 +25,7 @@ pub struct NetReg {
 }
 
 /// The write port of a file: at the end of a cycle in which `enable` is 1, the word at `address` becomes `value`.
-#[derive(Clone, Copy, Debug, PartialEq, Eq)]
+#[derive(Clone, Copy, PartialEq, Eq)]
 pub struct WritePort {
     pub enable: NodeId,
     pub address: NodeId,
@@ -33,7 +33,7 @@ pub struct WritePort {
 }
 
 /// A file of 2^`address_width` words of `width` bits, with its initial words.
-#[derive(Debug, Drop)]
+#[derive(Drop)]
 pub struct NetFile {
     pub name: Label,
     pub width: u8,
@@ -43,7 +43,6 @@ pub struct NetFile {
 }
 
 /// All parts of a netlist other than its nodes.
-#[derive(Debug)]
 pub struct Parts {
     pub name: Label,
     /// The width of the stall word.
@@ -82,7 +81,6 @@ impl Drop for Parts {
 }
 
 /// A netlist: operands precede the nodes that use them, widths fit, and each reference is to an existing part.
-#[derive(Debug)]
 pub struct Netlist {
     nodes: Vec<Node>,
     parts: Parts,

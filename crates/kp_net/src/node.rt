@@ -5,11 +5,11 @@ use crate::operands::Operands;
 use kp_bits::BinOp;
 
 /// A node, by its index in the list of nodes, counted from 0.
-#[derive(Clone, Copy, Debug, Default, PartialEq, Eq, Hash)]
+#[derive(Clone, Copy, Default, PartialEq, Eq, Hash)]
 pub struct NodeId(pub u32);
 
 /// What a node computes.
-#[derive(Debug, Drop, PartialEq, Eq, Hash)]
+#[derive(Drop, PartialEq, Eq, Hash)]
 pub enum Kind {
     /// A constant.
     Const(u64),
@@ -34,7 +34,7 @@ pub enum Kind {
 }
 
 /// A node, which has `width` bits.
-#[derive(Debug, Drop, PartialEq, Eq, Hash)]
+#[derive(Drop, PartialEq, Eq, Hash)]
 pub struct Node {
     pub width: u8,
     pub kind: Kind,

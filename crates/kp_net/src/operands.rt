@@ -16,7 +16,7 @@ const MOST: usize = 12;
 /// 2 to 12 nodes, stored in the value itself.
 ///
 /// Contracts see operands as the list of them.
-#[derive(Debug, Drop)]
+#[derive(Drop)]
 pub struct Operands {
     nodes: [NodeId; 12],
     count: u8,

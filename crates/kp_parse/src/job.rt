@@ -21,7 +21,7 @@ use kp_parse_grammar::{Fault, Tokens};
 use std::alloc::Global;
 
 /// A job, and the offset after its `end`.
-#[derive(Debug, Drop)]
+#[derive(Drop)]
 pub struct Parsed {
     pub job: Job,
     pub rest: u32,

@@ -7,7 +7,7 @@ use std::alloc::{AllocError, AllocFailed};
 
 /// The error that ends the reading: a token, by its number from 0, that can't occur there or that exceeds the limit
 /// of nesting. The number of all tokens denotes the end of the text.
-#[derive(Debug, Drop)]
+#[derive(Drop)]
 pub enum Fault {
     NoMemory,
     Wrong(usize),

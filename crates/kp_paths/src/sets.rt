@@ -10,7 +10,7 @@ use kp_base::NoMemory;
 use std::alloc::Global;
 
 /// A set of a result: its stage, the number of the result's target, and whether it has no condition.
-#[derive(Clone, Copy, Debug, PartialEq, Eq)]
+#[derive(Clone, Copy, PartialEq, Eq)]
 pub struct Placed {
     pub stage: usize,
     pub target: usize,

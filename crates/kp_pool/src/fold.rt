@@ -13,7 +13,7 @@ use kp_bits::{BinOp, Bits};
 use kp_net::{Kind, Node, NodeId};
 
 // The result of folding a requested node.
-#[derive(Debug, Drop)]
+#[derive(Drop)]
 pub(crate) enum Folded {
     // An existing node.
     There(NodeId),
@@ -24,7 +24,7 @@ pub(crate) enum Folded {
 }
 
 // The effect of a constant operand of `&` or `|`.
-#[derive(Clone, Copy, Debug)]
+#[derive(Clone, Copy)]
 pub(crate) enum Masking {
     // The result is the constant.
     Wins,

@@ -9,7 +9,6 @@ use std::alloc::Global;
 use std::marker::Model;
 
 /// Nodes by their numbers, from 0 on, and the number of each node, looked up in about constant time.
-#[derive(Debug)]
 pub(crate) struct Index {
     nodes: IndexSet<Node>,
 }

@@ -17,7 +17,6 @@ use std::alloc::Global;
 use std::marker::Model;
 
 /// Nodes, no two of them equal and none foldable, and capacity for more.
-#[derive(Debug)]
 pub struct Pool {
     nodes: Vec<Node>,
     spare: u32,

@@ -8,11 +8,11 @@ use std::alloc::Global;
 use std::marker::Model;
 
 /// The region has fewer words left than requested.
-#[derive(Clone, Copy, Debug, PartialEq, Eq)]
+#[derive(Clone, Copy, PartialEq, Eq)]
 pub struct Full;
 
 /// A number of used words of a region at some moment.
-#[derive(Clone, Copy, Debug, PartialEq, Eq)]
+#[derive(Clone, Copy, PartialEq, Eq)]
 pub struct Mark {
     used: u32,
 }
@@ -28,7 +28,7 @@ impl Model for Mark {
 }
 
 /// Words of 64 bits; contracts see the list of all of them and the number of those that are used.
-#[derive(Debug, Drop)]
+#[derive(Drop)]
 pub struct Region {
     words: Vec<u64>,
     used: u32,

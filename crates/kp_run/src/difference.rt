@@ -2,7 +2,7 @@
 use kp_bits::Bits;
 
 /// The first word in which the value of a netlist isn't the specified one.
-#[derive(Clone, Copy, Debug)]
+#[derive(Clone, Copy)]
 pub struct Difference {
     /// The number of cycles that have run.
     pub cycle: u32,

@@ -13,7 +13,7 @@ use kp_synth_spec::{file_named, register_named};
 use std::alloc::Global;
 
 /// The register of a target, or its file with the number of words.
-#[derive(Clone, Copy, Debug)]
+#[derive(Clone, Copy)]
 pub enum Place {
     Register(u32),
     File(u32, u32),

@@ -10,7 +10,7 @@ use kp_base::Row;
 use std::marker::Model;
 
 /// The counts of a run, from its rows alone: which instruction each stage holds, and how many instructions have passed it.
-#[derive(Debug, Drop)]
+#[derive(Drop)]
 pub struct Monitor {
     stages: u8,
     cycles: u64,

@@ -10,7 +10,7 @@ use kp_base::{Place, Refusal, Refused};
 
 /// The numbers of a machine: the number of stages, of declarations of each kind, of reads, and of guessed reads, its
 /// expanded size, and the number of samples.
-#[derive(Clone, Copy, Debug, PartialEq, Eq)]
+#[derive(Clone, Copy, PartialEq, Eq)]
 pub struct Summary {
     pub stages: u32,
     pub regs: u32,
@@ -24,7 +24,7 @@ pub struct Summary {
     pub samples: u32,
 }
 
-#[derive(Clone, Copy, Debug)]
+#[derive(Clone, Copy)]
 pub(crate) struct Counts {
     pub regs: u32,
     pub files: u32,

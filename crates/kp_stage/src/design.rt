@@ -19,7 +19,6 @@ use std::alloc::Global;
 use std::marker::Model;
 
 /// A job that violates no rule of names, widths and stages, with the widths of its names.
-#[derive(Debug)]
 pub struct Design {
     job: Job,
     widths: Widths,

@@ -10,7 +10,7 @@ use std::alloc::Global;
 use std::marker::Model;
 
 // A statement: its stage, and its number in the block.
-#[derive(Clone, Copy, Debug)]
+#[derive(Clone, Copy)]
 pub(crate) struct Spot {
     pub stage: usize,
     pub index: usize,

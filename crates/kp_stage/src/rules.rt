@@ -10,7 +10,7 @@ use kp_ast::{Block, Decl, Expr, ExprKind, Job, Name, Named, ReadStmt, Stmt, Stmt
 use kp_base::{Place, Refusal};
 
 /// A rule of stages, by its number. The variants are in the order in which the rules are checked.
-#[derive(Clone, Copy, Debug)]
+#[derive(Clone, Copy)]
 pub enum Rule {
     E15,
     E16,

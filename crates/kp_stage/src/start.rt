@@ -3,7 +3,6 @@ use kp_base::List;
 use kp_bits::Bits;
 
 /// The start state of a machine: a value for each register, and for each file its words, in the order of declaration.
-#[derive(Debug)]
 pub struct Start {
     pub regs: List<Bits>,
     pub files: List<List<u64>>,

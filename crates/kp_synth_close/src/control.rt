@@ -2,7 +2,7 @@
 use kp_net::NodeId;
 
 /// The control signals of a cycle. Of the 12 nodes of a list only those of existing stages are used.
-#[derive(Debug, Drop)]
+#[derive(Drop)]
 pub struct Control {
     /// One more than the greatest stage that mismatches, or 0, in 4 bits.
     pub back: NodeId,
@@ -13,7 +13,7 @@ pub struct Control {
 }
 
 /// The outputs of the netlist in a cycle.
-#[derive(Clone, Copy, Debug, PartialEq, Eq)]
+#[derive(Clone, Copy, PartialEq, Eq)]
 pub struct RowNodes {
     /// Bit k says whether stage k holds an instruction.
     pub full: NodeId,

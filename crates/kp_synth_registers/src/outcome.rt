@@ -3,21 +3,20 @@ use kp_base::List;
 use kp_net::NodeId;
 
 /// A set of a result: whether it is enabled, and its value.
-#[derive(Clone, Copy, Debug, PartialEq, Eq)]
+#[derive(Clone, Copy, PartialEq, Eq)]
 pub struct Set {
     pub enabled: NodeId,
     pub value: NodeId,
 }
 
 /// A guessed read: whether the guess is used, so that it is pending, and its value.
-#[derive(Clone, Copy, Debug, PartialEq, Eq)]
+#[derive(Clone, Copy, PartialEq, Eq)]
 pub struct Made {
     pub pending: NodeId,
     pub value: NodeId,
 }
 
 /// The nodes of a stage: what it does in a cycle.
-#[derive(Debug)]
 pub struct Outcome {
     /// Whether the stage stalls.
     pub stall: NodeId,

@@ -18,7 +18,6 @@ use kp_synth_tables::{Key, Layout};
 use std::alloc::Global;
 
 /// The nodes that are built before those of the stages. Their meaning in contracts is `Ready`.
-#[derive(Debug)]
 pub struct Reads {
     /// One for each register, in the order of the keys: it has the value of the register.
     pub registers: List<NodeId>,

@@ -4,7 +4,7 @@ use kp_net::NodeId;
 /// A row (bypass entry) of a stage for the reads of a target below it: whether the stage is full, whether its intent
 /// is known, and then whether the result is enabled and the address that it writes; whether its value is available,
 /// and the value.
-#[derive(Clone, Copy, Debug)]
+#[derive(Clone, Copy)]
 pub struct Row {
     pub full: NodeId,
     pub known: bool,
@@ -15,7 +15,7 @@ pub struct Row {
 }
 
 /// The source of a target's own value: the node of a register, or the number of a file among the files.
-#[derive(Clone, Copy, Debug)]
+#[derive(Clone, Copy)]
 pub enum Own {
     Register(NodeId),
     File(u32),
@@ -41,21 +41,21 @@ impl Drop for Source {
 }
 
 /// The truth of a read: whether it is available, and the value.
-#[derive(Clone, Copy, Debug)]
+#[derive(Clone, Copy)]
 pub struct Truth {
     pub ok: NodeId,
     pub value: NodeId,
 }
 
 /// The value of a read, and whether its truth is missing.
-#[derive(Clone, Copy, Debug)]
+#[derive(Clone, Copy)]
 pub(crate) struct Got {
     pub value: NodeId,
     pub lacks: NodeId,
 }
 
 /// The value of a read, whether its truth is missing, and its guess.
-#[derive(Clone, Copy, Debug)]
+#[derive(Clone, Copy)]
 pub(crate) struct Answer {
     pub value: NodeId,
     pub lacks: NodeId,

@@ -1,6 +1,6 @@
 /// What a register of the netlist stores. Targets, pipes, results, guesses and hints are identified by number, before
 /// the stage, and a result has the number of its target. The stage is at least 1, since stage 0 has no registers.
-#[derive(Clone, Copy, Debug, PartialEq, Eq)]
+#[derive(Clone, Copy, PartialEq, Eq)]
 pub enum Key {
     /// The value of a visible register.
     Visible(u32),
@@ -21,7 +21,7 @@ pub enum Key {
 }
 
 /// A guessed read of the job.
-#[derive(Clone, Copy, Debug, PartialEq, Eq)]
+#[derive(Clone, Copy, PartialEq, Eq)]
 pub struct GuessSlot {
     /// The stage that contains it.
     pub stage: u32,

@@ -18,7 +18,7 @@ use std::alloc::{AllocError, Global};
 const MOST_COUNT: u32 = 100_000;
 
 /// A command that reads only a job.
-#[derive(Clone, Copy, Debug, PartialEq, Eq)]
+#[derive(Clone, Copy, PartialEq, Eq)]
 pub enum JobCommand {
     /// `seq N`: the state after N instructions.
     Seq(u32),
@@ -35,7 +35,7 @@ pub enum JobCommand {
 }
 
 /// A command, by what it reads. Counts are at most 100,000.
-#[derive(Clone, Copy, Debug, PartialEq, Eq)]
+#[derive(Clone, Copy, PartialEq, Eq)]
 pub enum Command {
     /// Reads a job.
     OnJob(JobCommand),

@@ -10,7 +10,7 @@ use std::marker::Model;
 /// A name of a module or of a signal: up to 66 bytes, each a letter, a digit or `_`.
 ///
 /// Contracts see a name as the list of its bytes.
-#[derive(Debug, Drop)]
+#[derive(Drop)]
 pub struct Name {
     bytes: Vec<u8>,
 }
@@ -46,7 +46,7 @@ impl Name {
 }
 
 /// A signal of `width` bits, which is a register or a wire. Signals are numbered from 0 on.
-#[derive(Debug, Drop)]
+#[derive(Drop)]
 pub struct Signal {
     pub name: Name,
     pub reg: bool,
@@ -54,21 +54,20 @@ pub struct Signal {
 }
 
 /// A signal changes to a value.
-#[derive(Clone, Copy, Debug, PartialEq, Eq)]
+#[derive(Clone, Copy, PartialEq, Eq)]
 pub struct Change {
     pub signal: u32,
     pub value: Bits,
 }
 
 /// The changes at a time.
-#[derive(Debug, Drop)]
+#[derive(Drop)]
 pub struct Moment {
     pub at: u64,
     pub changes: List<Change>,
 }
 
 /// A change dump: its module, the signals of the module, and their changes by time.
-#[derive(Debug)]
 pub struct Dump {
     pub module: Name,
     pub signals: List<Signal>,

@@ -11,7 +11,7 @@ use kp_bits::{Bits, read_number, read_numeral};
 use kp_vcd::{Change, Signal};
 
 /// The meaning of the first token of a change.
-#[derive(Clone, Copy, Debug)]
+#[derive(Clone, Copy)]
 pub(crate) enum Said {
     /// A bit and the number of its signal, as `1s3`.
     Short(u64, Bits),

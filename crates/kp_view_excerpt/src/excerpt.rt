@@ -16,7 +16,7 @@ const MARKED: usize = 100;
 const AFTER: usize = 200;
 
 /// The line of a place, and how many of its bytes are marked from there on.
-#[derive(Clone, Copy, Debug)]
+#[derive(Clone, Copy)]
 pub struct Excerpt<'t> {
     /// The number of the line.
     pub line: u32,

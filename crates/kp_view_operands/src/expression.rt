@@ -10,7 +10,7 @@ use kp_base::Place;
 use kp_bits::BinOp;
 
 // The width of an expression, and the widths of the expression in it that is at a place and of its operands, if one is.
-#[derive(Clone, Copy, Debug)]
+#[derive(Clone, Copy)]
 pub(crate) struct Measured {
     pub width: u8,
     pub found: Option<ExprWidths>,

@@ -1,14 +1,14 @@
 // The widths of an expression and of its operands.
 
 /// The width of an expression and those of its operands, in bits. 65 denotes each width over 64, which no rule allows.
-#[derive(Clone, Copy, Debug)]
+#[derive(Clone, Copy)]
 pub struct ExprWidths {
     pub own: u8,
     pub operands: OperandWidths,
 }
 
 /// The widths of the operands of an expression, in their order.
-#[derive(Clone, Copy, Debug)]
+#[derive(Clone, Copy)]
 pub enum OperandWidths {
     /// Of a slice or an extension.
     One(u8),

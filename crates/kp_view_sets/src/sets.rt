@@ -7,7 +7,7 @@ use kp_base::{NoMemory, Place};
 use std::alloc::Global;
 
 /// A set of a result: its stage, its number in the block, its place, and whether it has no condition.
-#[derive(Clone, Copy, Debug, PartialEq, Eq)]
+#[derive(Clone, Copy, PartialEq, Eq)]
 pub struct PlacedSet {
     pub stage: usize,
     pub index: usize,

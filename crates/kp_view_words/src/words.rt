@@ -25,7 +25,7 @@ const MOST_LISTED: u32 = 100_000;
 const MOST_NAME: usize = 8;
 
 /// A word, which says what is to be written about a job.
-#[derive(Clone, Copy, Debug, PartialEq, Eq)]
+#[derive(Clone, Copy, PartialEq, Eq)]
 pub enum Word {
     /// `diagram`: the pipeline diagram as text.
     Diagram,
@@ -40,7 +40,7 @@ pub enum Word {
 }
 
 /// What help and usage are about: the program or one of its words.
-#[derive(Clone, Copy, Debug, PartialEq, Eq)]
+#[derive(Clone, Copy, PartialEq, Eq)]
 pub enum Topic {
     Program,
     Of(Word),

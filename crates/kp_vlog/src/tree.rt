@@ -4,42 +4,42 @@ use kp_bits::{BinOp, Literal};
 use kp_net::Label;
 
 /// A number, and its offset.
-#[derive(Clone, Copy, Debug, PartialEq, Eq)]
+#[derive(Clone, Copy, PartialEq, Eq)]
 pub struct Num {
     pub value: u64,
     pub at: u32,
 }
 
 /// A literal, and its offset.
-#[derive(Clone, Copy, Debug, PartialEq, Eq)]
+#[derive(Clone, Copy, PartialEq, Eq)]
 pub struct Lit {
     pub literal: Literal,
     pub at: u32,
 }
 
 /// A name, and its offset.
-#[derive(Debug, Drop)]
+#[derive(Drop)]
 pub struct Named {
     pub name: Label,
     pub at: u32,
 }
 
 /// `[high:low]`
-#[derive(Clone, Copy, Debug, PartialEq, Eq)]
+#[derive(Clone, Copy, PartialEq, Eq)]
 pub struct Range {
     pub high: Num,
     pub low: Num,
 }
 
 /// A port with a range.
-#[derive(Debug, Drop)]
+#[derive(Drop)]
 pub struct VPort {
     pub range: Range,
     pub port: Named,
 }
 
 /// The right side of an assignment.
-#[derive(Debug, Drop)]
+#[derive(Drop)]
 pub enum Right {
     /// `8'h01`
     Literal(Lit),
@@ -60,7 +60,7 @@ pub enum Right {
 }
 
 /// A line before `initial`.
-#[derive(Debug, Drop)]
+#[derive(Drop)]
 pub enum Item {
     /// `reg [7:0] r_X;`
     Reg(Range, Named),
@@ -75,7 +75,7 @@ pub enum Item {
 }
 
 /// `for (counter = from; tested < limit; stepped = old + by) file[index] = value;`
-#[derive(Debug, Drop)]
+#[derive(Drop)]
 pub struct Fill {
     pub counter: Named,
     pub from: Num,
@@ -90,7 +90,7 @@ pub struct Fill {
 }
 
 /// A line of the `initial` block.
-#[derive(Debug, Drop)]
+#[derive(Drop)]
 pub enum Init {
     /// `r_X = 8'h01;`
     Reg(Named, Lit),
@@ -100,21 +100,21 @@ pub enum Init {
 }
 
 /// `r_X <= 8'h01;` in the reset list.
-#[derive(Debug, Drop)]
+#[derive(Drop)]
 pub struct ResetValue {
     pub name: Named,
     pub value: Lit,
 }
 
 /// `if (reset) begin .. end else ..`
-#[derive(Debug, Drop)]
+#[derive(Drop)]
 pub struct ResetList {
     pub reset: Named,
     pub values: List<ResetValue>,
 }
 
 /// An update at the clock edge.
-#[derive(Debug, Drop)]
+#[derive(Drop)]
 pub enum Update {
     /// `r_X <= n3;`
     Reg(Named, Named),
@@ -123,7 +123,6 @@ pub enum Update {
 }
 
 /// A module.
-#[derive(Debug)]
 pub struct VModule {
     pub name: Named,
     pub clk: Named,

@@ -6,7 +6,7 @@ use kp_base::NoMemory;
 use std::alloc::{AllocError, AllocFailed};
 
 /// Where parsing ended: at a token, by its number from 0, that isn't allowed there. The number of all tokens denotes the end of the text.
-#[derive(Clone, Copy, Debug)]
+#[derive(Clone, Copy)]
 pub(crate) enum Fault {
     NoMemory,
     Wrong(usize),

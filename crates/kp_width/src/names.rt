@@ -10,7 +10,7 @@ use std::alloc::Global;
 use std::marker::Model;
 
 // The meaning of a name: its kind and width, and the number of its declaration.
-#[derive(Clone, Copy, Debug)]
+#[derive(Clone, Copy)]
 pub(crate) struct Meaning {
     pub kind: NameKind,
     pub width: u8,
@@ -28,7 +28,7 @@ impl Model for Meaning {
 }
 
 // The position in which a name is used: each position accepts certain kinds.
-#[derive(Clone, Copy, Debug)]
+#[derive(Clone, Copy)]
 pub(crate) enum Position {
     Value,
     Register,
