@@ -1,6 +1,6 @@
 // A wrong guess, hint or sample, or a write that a guess forbids.
-use kp_view_help::{Help, Word};
-use std::fmt;
+use kp_view_help::{Help, Phrase, Term, Word};
+use std::fmt::{self, Display};
 
 /// A wrong guess, hint or sample, or a write that a guess forbids.
 #[derive(Clone, Copy)]
@@ -56,44 +56,50 @@ impl<'t> GuessFault<'t> {
     }
 }
 
-impl<'t> fmt::Display for GuessFault<'t> {
-    fn fmt<W: fmt::Write>(&self, f: &mut fmt::Formatter<W>) -> fmt::Result {
+impl<'t> GuessFault<'t> {
+    // Each branch returns: branches that pass different texts don't join.
+    fn phrase(&self) -> Phrase<'t> {
         match self {
-            GuessFault::GuessedFile(name) => {
-                write!(f, "`{name}` is a file, and only a register can be guessed")
-            }
-            GuessFault::GuessWithoutResult(name) => write!(
-                f,
-                "`{name}` has no result: it never changes, and there is nothing to guess"
+            GuessFault::GuessedFile(name) => return Phrase::one(
+                "`{}` is a file, and only a register can be guessed",
+                Term::Word(*name),
             ),
-            GuessFault::GuessLate { name, write, here } => write!(
-                f,
-                "`{name}` is written in stage {write}; a guess stands at least two stages before, and this is stage {here}"
+            GuessFault::GuessWithoutResult(name) => return Phrase::one(
+                "`{}` has no result: it never changes, and there is nothing to guess",
+                Term::Word(*name),
             ),
-            GuessFault::EarlyWrite { top } => {
-                let least = top.saturating_sub(1);
-                write!(
-                    f,
-                    "beside a guess of a register that is written in stage {top}, a result is written in stage {least} at the earliest"
-                )
-            }
-            GuessFault::EarlySample { top } => {
-                let least = top.saturating_sub(1);
-                write!(
-                    f,
-                    "beside a guess of a register that is written in stage {top}, a sample is taken in stage {least} at the earliest"
-                )
-            }
-            GuessFault::HintAsValue(name) => {
-                write!(
-                    f,
-                    "`{name}` is a hint, and counts in `guess` and `aim` alone"
-                )
-            }
-            GuessFault::SampleElsewhere { name, stage, line } => write!(
-                f,
-                "the sample `{name}` is seen in stage {stage} alone (line {line})"
+            GuessFault::GuessLate { name, write, here } => return Phrase::three(
+                "`{}` is written in stage {}; a guess stands at least two stages before, and this is stage {}",
+                Term::Word(*name),
+                Term::Number(*write),
+                Term::Number(*here as u64),
+            ),
+            GuessFault::EarlyWrite { top } => return Phrase::two(
+                "beside a guess of a register that is written in stage {}, a result is written in stage {} at the earliest",
+                Term::Number(*top),
+                Term::Number(top.saturating_sub(1)),
+            ),
+            GuessFault::EarlySample { top } => return Phrase::two(
+                "beside a guess of a register that is written in stage {}, a sample is taken in stage {} at the earliest",
+                Term::Number(*top),
+                Term::Number(top.saturating_sub(1)),
+            ),
+            GuessFault::HintAsValue(name) => return Phrase::one(
+                "`{}` is a hint, and counts in `guess` and `aim` alone",
+                Term::Word(*name),
+            ),
+            GuessFault::SampleElsewhere { name, stage, line } => return Phrase::three(
+                "the sample `{}` is seen in stage {} alone (line {})",
+                Term::Word(*name),
+                Term::Number(*stage),
+                Term::Number(u64::from(*line)),
             ),
         }
+    }
+}
+
+impl<'t> Display for GuessFault<'t> {
+    fn fmt<W: fmt::Write>(&self, f: &mut fmt::Formatter<W>) -> fmt::Result {
+        self.phrase().fmt(f)
     }
 }

@@ -1,6 +1,6 @@
 // A wrong name.
-use kp_view_help::{Help, Kind, Wanted, Word};
-use std::fmt;
+use kp_view_help::{Help, Kind, Phrase, Term, Wanted, Word};
+use std::fmt::{self, Display};
 
 /// A wrong name.
 #[derive(Clone, Copy)]
@@ -145,75 +145,115 @@ impl<'t> NameFault<'t> {
     }
 }
 
-impl<'t> fmt::Display for NameFault<'t> {
-    fn fmt<W: fmt::Write>(&self, f: &mut fmt::Formatter<W>) -> fmt::Result {
+impl<'t> NameFault<'t> {
+    // Each branch returns: branches that pass different texts don't join.
+    fn phrase(&self) -> Phrase<'t> {
         match self {
             NameFault::Redeclared {
                 name,
                 kind,
                 line,
                 ..
-            } => { write!(f, "`{name}` is declared already, as a {kind} (line {line})") },
-            NameFault::Undeclared { name } => write!(f, "`{name}` is declared nowhere before this"),
-            NameFault::DeclaredBelow { name, line } => {
-                write!(
-                    f,
-                    "`{name}` is declared only in line {line}, after this use"
-                )
-            }
+            } => return Phrase::three(
+                "`{}` is declared already, as a {} (line {})",
+                Term::Word(*name),
+                Term::Kind(*kind),
+                Term::Number(u64::from(*line)),
+            ),
+            NameFault::Undeclared { name } => return Phrase::one(
+                "`{}` is declared nowhere before this",
+                Term::Word(*name),
+            ),
+            NameFault::DeclaredBelow { name, line } => return Phrase::two(
+                "`{}` is declared only in line {}, after this use",
+                Term::Word(*name),
+                Term::Number(u64::from(*line)),
+            ),
             NameFault::OtherStage {
                 name,
                 kind,
                 line,
                 stage,
                 ..
-            } => {
-                let verb = match kind {
-                    Kind::Read => "read",
-                    _ => "defined by `let`",
-                };
-                write!(
-                    f,
-                    "`{name}` isn't known here: it is {verb} in stage {stage} (line {line})"
-                )
-            }
+            } => return other_stage(*name, *kind, *line, *stage),
             NameFault::WrongKind {
                 name,
                 kind,
                 line,
                 wanted,
-            } => write!(
-                f,
-                "`{name}` is a {kind} (line {line}); {wanted} is wanted here"
+            } => return Phrase::many(
+                "`{}` is a {} (line {}); {} is wanted here",
+                [
+                    Some(Term::Word(*name)),
+                    Some(Term::Kind(*kind)),
+                    Some(Term::Number(u64::from(*line))),
+                    Some(Term::Wanted(*wanted)),
+                    None,
+                    None,
+                ],
             ),
-            NameFault::NoAddress { name, line } => {
-                write!(f, "`{name}` is a file (line {line}), and needs an address")
-            }
-            NameFault::NeedlessAddress { name, line } => {
-                write!(
-                    f,
-                    "`{name}` is a register (line {line}), and has no address"
-                )
-            }
+            NameFault::NoAddress { name, line } => return Phrase::two(
+                "`{}` is a file (line {}), and needs an address",
+                Term::Word(*name),
+                Term::Number(u64::from(*line)),
+            ),
+            NameFault::NeedlessAddress { name, line } => return Phrase::two(
+                "`{}` is a register (line {}), and has no address",
+                Term::Word(*name),
+                Term::Number(u64::from(*line)),
+            ),
             NameFault::Arguments {
                 name,
                 line,
                 wanted,
                 found,
-            } => write!(
-                f,
-                "the function `{name}` (line {line}) takes {wanted} arguments; this call has {found}"
+            } => return Phrase::many(
+                "the function `{}` (line {}) takes {} arguments; this call has {}",
+                [
+                    Some(Term::Word(*name)),
+                    Some(Term::Number(u64::from(*line))),
+                    Some(Term::Number(*wanted as u64)),
+                    Some(Term::Number(*found as u64)),
+                    None,
+                    None,
+                ],
             ),
-            NameFault::CalledEarly { name, line, own } => {
-                if *own {
-                    write!(f, "the function `{name}` can't call itself")
-                } else {
-                    write!(
-                        f,
-                        "the function `{name}` is declared only in line {line}, after this call"
-                    )
-                }
-            }
+            NameFault::CalledEarly { name, line, own } => return called_early(*name, *line, *own),
         }
+    }
+}
+
+fn other_stage(name: Word<'_>, kind: Kind, line: u32, stage: usize) -> Phrase<'_> {
+    match kind {
+        Kind::Read => return Phrase::three(
+            "`{}` isn't known here: it is read in stage {} (line {})",
+            Term::Word(name),
+            Term::Number(stage as u64),
+            Term::Number(u64::from(line)),
+        ),
+        _ => return Phrase::three(
+            "`{}` isn't known here: it is defined by `let` in stage {} (line {})",
+            Term::Word(name),
+            Term::Number(stage as u64),
+            Term::Number(u64::from(line)),
+        ),
+    }
+}
+
+fn called_early(name: Word<'_>, line: u32, own: bool) -> Phrase<'_> {
+    if own {
+        return Phrase::one("the function `{}` can't call itself", Term::Word(name));
+    } else {
+        return Phrase::two(
+            "the function `{}` is declared only in line {}, after this call",
+            Term::Word(name),
+            Term::Number(u64::from(line)),
+        );
+    }
+}
+
+impl<'t> Display for NameFault<'t> {
+    fn fmt<W: fmt::Write>(&self, f: &mut fmt::Formatter<W>) -> fmt::Result {
+        self.phrase().fmt(f)
     }
 }

@@ -1,6 +1,6 @@
 // A wrong entry of a section.
-use kp_view_help::{Help, Kind, Word};
-use std::fmt;
+use kp_view_help::{Help, Kind, Phrase, Term, Word};
+use std::fmt::{self, Display};
 
 /// A wrong entry of a section.
 #[derive(Clone, Copy)]
@@ -76,63 +76,69 @@ impl<'t> SectionFault<'t> {
     }
 }
 
-impl<'t> fmt::Display for SectionFault<'t> {
-    fn fmt<W: fmt::Write>(&self, f: &mut fmt::Formatter<W>) -> fmt::Result {
+impl<'t> SectionFault<'t> {
+    // Each branch returns: branches that pass different texts don't join.
+    fn phrase(&self) -> Phrase<'t> {
         match self {
-            SectionFault::Unknown(name) => {
-                write!(
-                    f,
-                    "`{name}` is declared nowhere; an image fills registers and files"
-                )
-            }
-            SectionFault::Empty { name, kind, line } => {
-                write!(
-                    f,
-                    "`{name}` is a {kind} (line {line}); an image fills registers and files"
-                )
-            }
-            SectionFault::NoAddress { name, line } => {
-                write!(f, "`{name}` is a file (line {line}), and needs an address")
-            }
-            SectionFault::NeedlessAddress { name, line } => {
-                write!(
-                    f,
-                    "`{name}` is a register (line {line}), and has no address"
-                )
-            }
-            SectionFault::AddressBeyond { name, last, value } => {
-                write!(
-                    f,
-                    "the addresses of `{name}` are 0 to {last}, and {value} isn't one of them"
-                )
-            }
-            SectionFault::WordBeyond { name, last } => {
-                write!(
-                    f,
-                    "this word lies after the last one of `{name}`, whose address is {last}"
-                )
-            }
-            SectionFault::SecondStart(name) => write!(
-                f,
-                "`{name}` is a register, and has one value"
+            SectionFault::Unknown(name) => return Phrase::one(
+                "`{}` is declared nowhere; an image fills registers and files",
+                Term::Word(*name),
             ),
-            SectionFault::NoStage { found, stages } => {
-                let last = stages.saturating_sub(1);
-                write!(f, "there is no stage {found}: the stages are 0 to {last}")
-            }
-            SectionFault::UnknownSample(name) => {
-                write!(
-                    f,
-                    "`{name}` is declared nowhere; inputs are the values of samples"
-                )
-            }
-            SectionFault::NoSample { name, kind, line } => {
-                write!(
-                    f,
-                    "`{name}` is a {kind} (line {line}); inputs are the values of samples"
-                )
-            }
-            SectionFault::StallStep | SectionFault::InputStep => f.write_str("a step is 1 or more"),
+            SectionFault::Empty { name, kind, line } => return Phrase::three(
+                "`{}` is a {} (line {}); an image fills registers and files",
+                Term::Word(*name),
+                Term::Kind(*kind),
+                Term::Number(u64::from(*line)),
+            ),
+            SectionFault::NoAddress { name, line } => return Phrase::two(
+                "`{}` is a file (line {}), and needs an address",
+                Term::Word(*name),
+                Term::Number(u64::from(*line)),
+            ),
+            SectionFault::NeedlessAddress { name, line } => return Phrase::two(
+                "`{}` is a register (line {}), and has no address",
+                Term::Word(*name),
+                Term::Number(u64::from(*line)),
+            ),
+            SectionFault::AddressBeyond { name, last, value } => return Phrase::three(
+                "the addresses of `{}` are 0 to {}, and {} isn't one of them",
+                Term::Word(*name),
+                Term::Number(*last),
+                Term::Number(*value),
+            ),
+            SectionFault::WordBeyond { name, last } => return Phrase::two(
+                "this word lies after the last one of `{}`, whose address is {}",
+                Term::Word(*name),
+                Term::Number(*last),
+            ),
+            SectionFault::SecondStart(name) => return Phrase::one(
+                "`{}` is a register, and has one value",
+                Term::Word(*name),
+            ),
+            SectionFault::NoStage { found, stages } => return Phrase::two(
+                "there is no stage {}: the stages are 0 to {}",
+                Term::Number(*found),
+                Term::Number(stages.saturating_sub(1)),
+            ),
+            SectionFault::UnknownSample(name) => return Phrase::one(
+                "`{}` is declared nowhere; inputs are the values of samples",
+                Term::Word(*name),
+            ),
+            SectionFault::NoSample { name, kind, line } => return Phrase::three(
+                "`{}` is a {} (line {}); inputs are the values of samples",
+                Term::Word(*name),
+                Term::Kind(*kind),
+                Term::Number(u64::from(*line)),
+            ),
+            SectionFault::StallStep | SectionFault::InputStep => return Phrase::plain(
+                "a step is 1 or more",
+            ),
         }
+    }
+}
+
+impl<'t> Display for SectionFault<'t> {
+    fn fmt<W: fmt::Write>(&self, f: &mut fmt::Formatter<W>) -> fmt::Result {
+        self.phrase().fmt(f)
     }
 }

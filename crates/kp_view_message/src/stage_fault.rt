@@ -1,6 +1,6 @@
 // A wrong stage, or too many of something.
-use kp_view_help::{Help, Word};
-use std::fmt;
+use kp_view_help::{Help, Phrase, Term, Word};
+use std::fmt::{self, Display};
 
 /// What a machine has a limited number of.
 #[derive(Clone, Copy)]
@@ -14,22 +14,6 @@ pub enum Counted {
     Reads,
     Guesses,
     Samples,
-}
-
-impl fmt::Display for Counted {
-    fn fmt<W: fmt::Write>(&self, f: &mut fmt::Formatter<W>) -> fmt::Result {
-        f.write_str(match self {
-            Counted::Registers => "64 registers",
-            Counted::Files => "16 files",
-            Counted::Pipes => "128 pipes",
-            Counted::Results => "64 results",
-            Counted::Hints => "16 hints",
-            Counted::Functions => "64 functions",
-            Counted::Reads => "256 reads",
-            Counted::Guesses => "8 guesses",
-            Counted::Samples => "16 samples",
-        })
-    }
 }
 
 /// A wrong stage, or too many of something.
@@ -162,72 +146,122 @@ impl<'t> StageFault<'t> {
     }
 }
 
-impl<'t> fmt::Display for StageFault<'t> {
-    fn fmt<W: fmt::Write>(&self, f: &mut fmt::Formatter<W>) -> fmt::Result {
+impl<'t> StageFault<'t> {
+    // Each branch returns: branches that pass different texts don't join.
+    fn phrase(&self) -> Phrase<'t> {
         match self {
-            StageFault::StageCount(value) => write!(f, "a machine has 2 to 12 stages, not {value}"),
-            StageFault::FewBlocks { stages, blocks } => write!(
-                f,
-                "{stages} stages are declared, but there are {blocks} blocks"
+            StageFault::StageCount(value) => return Phrase::one(
+                "a machine has 2 to 12 stages, not {}",
+                Term::Number(*value),
             ),
-            StageFault::BlockNumber { found, wanted } => write!(
-                f,
-                "blocks stand in order: this is stage {wanted}, not {found}"
+            StageFault::FewBlocks { stages, blocks } => return Phrase::two(
+                "{} stages are declared, but there are {} blocks",
+                Term::Number(*stages),
+                Term::Number(*blocks as u64),
             ),
-            StageFault::BlockBeyond { stages } => {
-                write!(f, "only {stages} stages are declared; this is one more")
-            }
-            StageFault::NoStage { found, stages } => {
-                let last = stages.saturating_sub(1);
-                write!(f, "there is no stage {found}: the stages are 0 to {last}")
-            }
-            StageFault::NeverPut(name) => write!(f, "the pipe `{name}` is never put"),
-            StageFault::PutAgain { name, line } => write!(
-                f,
-                "the pipe `{name}` is put a second time; the first is in line {line}"
+            StageFault::BlockNumber { found, wanted } => return Phrase::two(
+                "blocks stand in order: this is stage {}, not {}",
+                Term::Number(*wanted as u64),
+                Term::Number(*found),
+            ),
+            StageFault::BlockBeyond { stages } => return Phrase::one(
+                "only {} stages are declared; this is one more",
+                Term::Number(*stages),
+            ),
+            StageFault::NoStage { found, stages } => return Phrase::two(
+                "there is no stage {}: the stages are 0 to {}",
+                Term::Number(*found),
+                Term::Number(stages.saturating_sub(1)),
+            ),
+            StageFault::NeverPut(name) => return Phrase::one(
+                "the pipe `{}` is never put",
+                Term::Word(*name),
+            ),
+            StageFault::PutAgain { name, line } => return Phrase::two(
+                "the pipe `{}` is put a second time; the first is in line {}",
+                Term::Word(*name),
+                Term::Number(u64::from(*line)),
             ),
             StageFault::UsedEarly {
                 name,
                 put,
                 here,
                 line,
-            } => write!(
-                f,
-                "the pipe `{name}` is put in stage {put} (line {line}), and can be used in later stages only; this is stage {here}"
+            } => return Phrase::many(
+                "the pipe `{}` is put in stage {} (line {}), and can be used in later stages only; this is stage {}",
+                [
+                    Some(Term::Word(*name)),
+                    Some(Term::Number(*put as u64)),
+                    Some(Term::Number(u64::from(*line))),
+                    Some(Term::Number(*here as u64)),
+                    None,
+                    None,
+                ],
             ),
-            StageFault::ReadLate { name, write, line } => write!(
-                f,
-                "`{name}` is written in stage {write} (line {line}), and can't be read in a later stage"
+            StageFault::ReadLate { name, write, line } => return Phrase::three(
+                "`{}` is written in stage {} (line {}), and can't be read in a later stage",
+                Term::Word(*name),
+                Term::Number(*write),
+                Term::Number(u64::from(*line)),
             ),
-            StageFault::PutLate { name, put, write } => write!(
-                f,
-                "the pipe `{name}` is put in stage {put}, which isn't before the write stage {write}"
+            StageFault::PutLate { name, put, write } => return Phrase::three(
+                "the pipe `{}` is put in stage {}, which isn't before the write stage {}",
+                Term::Word(*name),
+                Term::Number(*put as u64),
+                Term::Number(*write),
             ),
             StageFault::SetLate {
                 name,
                 write,
                 line,
                 ..
-            } => write!(
-                f,
-                "`{name}` is written at the end of stage {write} (line {line}), and can't be set later"
+            } => return Phrase::three(
+                "`{}` is written at the end of stage {} (line {}), and can't be set later",
+                Term::Word(*name),
+                Term::Number(*write),
+                Term::Number(u64::from(*line)),
             ),
-            StageFault::SetAgain { name, line } => write!(
-                f,
-                "`{name}` is set a second time in this stage; the first is in line {line}"
+            StageFault::SetAgain { name, line } => return Phrase::two(
+                "`{}` is set a second time in this stage; the first is in line {}",
+                Term::Word(*name),
+                Term::Number(u64::from(*line)),
             ),
-            StageFault::AimedAgain { name, line } => {
-                write!(f, "the hint `{name}` is aimed already in line {line}")
-            }
+            StageFault::AimedAgain { name, line } => return Phrase::two(
+                "the hint `{}` is aimed already in line {}",
+                Term::Word(*name),
+                Term::Number(u64::from(*line)),
+            ),
             StageFault::SecondResult {
                 target,
                 first,
                 line,
-            } => write!(
-                f,
-                "`{target}` has a result already: `{first}` (line {line})"
+            } => return Phrase::three(
+                "`{}` has a result already: `{}` (line {})",
+                Term::Word(*target),
+                Term::Word(*first),
+                Term::Number(u64::from(*line)),
             ),
-            StageFault::TooMany(counted) => write!(f, "a machine has at most {counted}"),
+            StageFault::TooMany(counted) => return too_many(*counted),
         }
+    }
+}
+
+fn too_many<'t>(counted: Counted) -> Phrase<'t> {
+    match counted {
+        Counted::Registers => return Phrase::plain("a machine has at most 64 registers"),
+        Counted::Files => return Phrase::plain("a machine has at most 16 files"),
+        Counted::Pipes => return Phrase::plain("a machine has at most 128 pipes"),
+        Counted::Results => return Phrase::plain("a machine has at most 64 results"),
+        Counted::Hints => return Phrase::plain("a machine has at most 16 hints"),
+        Counted::Functions => return Phrase::plain("a machine has at most 64 functions"),
+        Counted::Reads => return Phrase::plain("a machine has at most 256 reads"),
+        Counted::Guesses => return Phrase::plain("a machine has at most 8 guesses"),
+        Counted::Samples => return Phrase::plain("a machine has at most 16 samples"),
+    }
+}
+
+impl<'t> Display for StageFault<'t> {
+    fn fmt<W: fmt::Write>(&self, f: &mut fmt::Formatter<W>) -> fmt::Result {
+        self.phrase().fmt(f)
     }
 }

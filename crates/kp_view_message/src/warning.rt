@@ -1,6 +1,6 @@
 // What is said of an accepted job that may not be meant so.
-use kp_view_help::{Help, Kind, Word};
-use std::fmt;
+use kp_view_help::{Help, Kind, Phrase, Term, Word};
+use std::fmt::{self, Display};
 
 /// A warning, with the facts that it rests on.
 #[derive(Clone, Copy)]
@@ -84,49 +84,81 @@ impl<'t> Warning<'t> {
     }
 }
 
-impl<'t> fmt::Display for Warning<'t> {
-    fn fmt<W: fmt::Write>(&self, f: &mut fmt::Formatter<W>) -> fmt::Result {
+impl<'t> Warning<'t> {
+    // Each branch returns: branches that pass different texts don't join.
+    fn phrase(&self) -> Phrase<'t> {
         match self {
-            Warning::NeverSet { result, target } => write!(
-                f,
-                "`{result}` is never set: each instruction that writes `{target}` makes it 0"
+            Warning::NeverSet { result, target } => return Phrase::two(
+                "`{}` is never set: each instruction that writes `{}` makes it 0",
+                Term::Word(*result),
+                Term::Word(*target),
             ),
             Warning::MaybeUnset {
                 result,
                 target,
                 file,
                 ..
-            } => {
-                let address = if *file { "[..]" } else { "" };
-                write!(
-                    f,
-                    "an instruction that sets no `{result}` writes 0 to `{target}{address}`"
-                )
-            }
+            } => return maybe_unset(*result, *target, *file),
             Warning::SetInVain {
                 result,
                 stage,
                 line,
-            } => write!(
-                f,
-                "this `set` never takes place: stage {stage} (line {line}) has set `{result}` in every instruction"
+            } => return Phrase::three(
+                "this `set` never takes place: stage {} (line {}) has set `{}` in every instruction",
+                Term::Number(*stage as u64),
+                Term::Number(u64::from(*line)),
+                Term::Word(*result),
             ),
-            Warning::UnusedPipe(name) => write!(f, "the pipe `{name}` is used nowhere"),
-            Warning::UnusedLocal { name, stage } => {
-                write!(f, "`{name}` is used nowhere in stage {stage}")
-            }
-            Warning::UnusedName { name, kind } => write!(f, "the {kind} `{name}` is used nowhere"),
+            Warning::UnusedPipe(name) => return Phrase::one(
+                "the pipe `{}` is used nowhere",
+                Term::Word(*name),
+            ),
+            Warning::UnusedLocal { name, stage } => return Phrase::two(
+                "`{}` is used nowhere in stage {}",
+                Term::Word(*name),
+                Term::Number(*stage as u64),
+            ),
+            Warning::UnusedName { name, kind } => return Phrase::two(
+                "the {} `{}` is used nowhere",
+                Term::Kind(*kind),
+                Term::Word(*name),
+            ),
             Warning::PutLate {
                 name,
                 target,
                 earliest,
-            } => write!(
-                f,
-                "the pipe `{name}` can be put in stage {earliest} already: instructions that read `{target}` wait until it is put"
+            } => return Phrase::three(
+                "the pipe `{}` can be put in stage {} already: instructions that read `{}` wait until it is put",
+                Term::Word(*name),
+                Term::Number(*earliest as u64),
+                Term::Word(*target),
             ),
-            Warning::NoResult(name) => {
-                write!(f, "the register `{name}` has no result, and never changes")
-            }
+            Warning::NoResult(name) => return Phrase::one(
+                "the register `{}` has no result, and never changes",
+                Term::Word(*name),
+            ),
         }
+    }
+}
+
+fn maybe_unset<'t>(name: Word<'t>, target: Word<'t>, file: bool) -> Phrase<'t> {
+    if file {
+        return Phrase::two(
+            "an instruction that sets no `{}` writes 0 to `{}[..]`",
+            Term::Word(name),
+            Term::Word(target),
+        );
+    } else {
+        return Phrase::two(
+            "an instruction that sets no `{}` writes 0 to `{}`",
+            Term::Word(name),
+            Term::Word(target),
+        );
+    }
+}
+
+impl<'t> Display for Warning<'t> {
+    fn fmt<W: fmt::Write>(&self, f: &mut fmt::Formatter<W>) -> fmt::Result {
+        self.phrase().fmt(f)
     }
 }

@@ -1,8 +1,8 @@
 // A wrong width.
 use kp_lex::Mark;
 use kp_view_expected::TokenClass;
-use kp_view_help::{Bits, Help, Kind, Word};
-use std::fmt;
+use kp_view_help::{Help, Kind, Phrase, Term, Word};
+use std::fmt::{self, Display};
 
 /// What a value goes to, or comes from.
 #[derive(Clone, Copy)]
@@ -13,16 +13,6 @@ pub enum Goal<'t> {
     Argument(Word<'t>),
     /// The expression of a function.
     Body(Word<'t>),
-}
-
-impl<'t> fmt::Display for Goal<'t> {
-    fn fmt<W: fmt::Write>(&self, f: &mut fmt::Formatter<W>) -> fmt::Result {
-        match self {
-            Goal::Named(kind, name) => write!(f, "the {kind} `{name}`"),
-            Goal::Argument(name) => write!(f, "the parameter `{name}`"),
-            Goal::Body(name) => write!(f, "the function `{name}`"),
-        }
-    }
 }
 
 /// A wrong width.
@@ -174,114 +164,179 @@ fn fit<'t>(found: u64, wanted: u64, literal: Option<u64>) -> Help<'t> {
     }
 }
 
-impl<'t> fmt::Display for WidthFault<'t> {
-    fn fmt<W: fmt::Write>(&self, f: &mut fmt::Formatter<W>) -> fmt::Result {
+impl<'t> WidthFault<'t> {
+    // Each branch returns: branches that pass different texts don't join.
+    fn phrase(&self) -> Phrase<'t> {
         match self {
-            WidthFault::WidthRange(value) => write!(f, "a width is 1 to 64, not {value}"),
-            WidthFault::LiteralWidth(value) => write!(f, "a literal has 1 to 64 bits, not {value}"),
-            WidthFault::JoinedWidth => f.write_str("the parts have more than 64 bits together"),
+            WidthFault::WidthRange(value) => return Phrase::one(
+                "a width is 1 to 64, not {}",
+                Term::Number(*value),
+            ),
+            WidthFault::LiteralWidth(value) => return Phrase::one(
+                "a literal has 1 to 64 bits, not {}",
+                Term::Number(*value),
+            ),
+            WidthFault::JoinedWidth => return Phrase::plain(
+                "the parts have more than 64 bits together",
+            ),
             WidthFault::Operands {
                 mark,
                 left,
                 right,
                 ..
-            } => {
-                let operator = TokenClass::Mark(*mark);
-                let (left, right) = (Bits(u64::from(*left)), Bits(u64::from(*right)));
-                write!(
-                    f,
-                    "the operands of {operator} have different widths: {left} and {right}"
-                )
-            }
-            WidthFault::Branches { yes, no, .. } => {
-                let (yes, no) = (Bits(u64::from(*yes)), Bits(u64::from(*no)));
-                write!(
-                    f,
-                    "the branches of this choice have different widths: {yes} and {no}"
-                )
-            }
+            } => return Phrase::three(
+                "the operands of {} have different widths: {} and {}",
+                Term::Class(TokenClass::Mark(*mark)),
+                Term::Bits(u64::from(*left)),
+                Term::Bits(u64::from(*right)),
+            ),
+            WidthFault::Branches { yes, no, .. } => return Phrase::two(
+                "the branches of this choice have different widths: {} and {}",
+                Term::Bits(u64::from(*yes)),
+                Term::Bits(u64::from(*no)),
+            ),
             WidthFault::ValueWidth {
                 found,
                 wanted,
                 goal,
                 ..
-            } => {
-                let (found, wanted) = (Bits(u64::from(*found)), Bits(*wanted));
-                write!(f, "this value has {found}; {goal} has {wanted}")
-            }
+            } => return value_width(*found, *wanted, *goal),
             WidthFault::StartWidth {
                 found,
                 wanted,
                 name,
                 ..
-            } => {
-                let (found, wanted) = (Bits(u64::from(*found)), Bits(u64::from(*wanted)));
-                write!(f, "the start value has {found}; `{name}` has {wanted}")
-            }
+            } => return Phrase::three(
+                "the start value has {}; `{}` has {}",
+                Term::Bits(u64::from(*found)),
+                Term::Word(*name),
+                Term::Bits(u64::from(*wanted)),
+            ),
             WidthFault::TargetWidth {
                 result,
                 target,
                 name,
                 kind,
                 line,
-            } => {
-                let (result, target) = (Bits(u64::from(*result)), Bits(u64::from(*target)));
-                write!(
-                    f,
-                    "the result has {result}; the {kind} `{name}` (line {line}) has {target}"
-                )
-            }
-            WidthFault::Condition { found } => {
-                let found = Bits(u64::from(*found));
-                write!(f, "a condition has 1 bit; this has {found}")
-            }
-            WidthFault::Enable { found, name, line } => {
-                let found = Bits(u64::from(*found));
-                write!(
-                    f,
-                    "an enable has 1 bit; the pipe `{name}` (line {line}) has {found}"
-                )
-            }
-            WidthFault::Slice { hi, lo, width } => {
-                let bits = Bits(u64::from(*width));
-                let top = width.saturating_sub(1);
-                if *hi < *lo {
-                    write!(f, "the high number stands first: `[{lo}:{hi}]`")
-                } else {
-                    write!(
-                        f,
-                        "bits {hi} to {lo} of {bits}: the bits are numbered {top} to 0"
-                    )
-                }
-            }
-            WidthFault::Shortened { to, from } => {
-                let (to, from) = (Bits(*to), Bits(u64::from(*from)));
-                write!(f, "an extension of {from} can't give {to}")
-            }
-            WidthFault::LiteralValue { value, width } => {
-                let bits = Bits(*width);
-                if *width >= 1 && *width < 64 {
-                    let most = (u64::MAX >> (64 - *width)) as u64;
-                    write!(f, "{value} doesn't fit {bits}: the largest value is {most}")
-                } else {
-                    write!(f, "{value} doesn't fit {bits}")
-                }
-            }
-            WidthFault::AddressRange(value) => {
-                write!(f, "an address has 1 to 16 bits, not {value}")
-            }
+            } => return Phrase::many(
+                "the result has {}; the {} `{}` (line {}) has {}",
+                [
+                    Some(Term::Bits(u64::from(*result))),
+                    Some(Term::Kind(*kind)),
+                    Some(Term::Word(*name)),
+                    Some(Term::Number(u64::from(*line))),
+                    Some(Term::Bits(u64::from(*target))),
+                    None,
+                ],
+            ),
+            WidthFault::Condition { found } => return Phrase::one(
+                "a condition has 1 bit; this has {}",
+                Term::Bits(u64::from(*found)),
+            ),
+            WidthFault::Enable { found, name, line } => return Phrase::three(
+                "an enable has 1 bit; the pipe `{}` (line {}) has {}",
+                Term::Word(*name),
+                Term::Number(u64::from(*line)),
+                Term::Bits(u64::from(*found)),
+            ),
+            WidthFault::Slice { hi, lo, width } => return slice(*hi, *lo, *width),
+            WidthFault::Shortened { to, from } => return Phrase::two(
+                "an extension of {} can't give {}",
+                Term::Bits(u64::from(*from)),
+                Term::Bits(*to),
+            ),
+            WidthFault::LiteralValue { value, width } => return literal_value(*value, *width),
+            WidthFault::AddressRange(value) => return Phrase::one(
+                "an address has 1 to 16 bits, not {}",
+                Term::Number(*value),
+            ),
             WidthFault::Address {
                 found,
                 wanted,
                 file,
                 line,
-            } => {
-                let (found, wanted) = (Bits(u64::from(*found)), Bits(u64::from(*wanted)));
-                write!(
-                    f,
-                    "this address has {found}; addresses of `{file}` (line {line}) have {wanted}"
-                )
-            }
+            } => return Phrase::many(
+                "this address has {}; addresses of `{}` (line {}) have {}",
+                [
+                    Some(Term::Bits(u64::from(*found))),
+                    Some(Term::Word(*file)),
+                    Some(Term::Number(u64::from(*line))),
+                    Some(Term::Bits(u64::from(*wanted))),
+                    None,
+                    None,
+                ],
+            ),
         }
+    }
+}
+
+fn value_width(found: u8, wanted: u64, goal: Goal<'_>) -> Phrase<'_> {
+    let (found, wanted) = (Term::Bits(u64::from(found)), Term::Bits(wanted));
+    match goal {
+        Goal::Named(kind, name) => return Phrase::many(
+            "this value has {}; the {} `{}` has {}",
+            [
+                Some(found),
+                Some(Term::Kind(kind)),
+                Some(Term::Word(name)),
+                Some(wanted),
+                None,
+                None,
+            ],
+        ),
+        Goal::Argument(name) => return Phrase::three(
+            "this value has {}; the parameter `{}` has {}",
+            found,
+            Term::Word(name),
+            wanted,
+        ),
+        Goal::Body(name) => return Phrase::three(
+            "this value has {}; the function `{}` has {}",
+            found,
+            Term::Word(name),
+            wanted,
+        ),
+    }
+}
+
+fn slice<'t>(hi: u64, lo: u64, width: u8) -> Phrase<'t> {
+    if hi < lo {
+        return Phrase::two(
+            "the high number stands first: `[{}:{}]`",
+            Term::Number(lo),
+            Term::Number(hi),
+        );
+    } else {
+        return Phrase::many(
+            "bits {} to {} of {}: the bits are numbered {} to 0",
+            [
+                Some(Term::Number(hi)),
+                Some(Term::Number(lo)),
+                Some(Term::Bits(u64::from(width))),
+                Some(Term::Number(u64::from(width.saturating_sub(1)))),
+                None,
+                None,
+            ],
+        );
+    }
+}
+
+fn literal_value<'t>(value: u64, width: u64) -> Phrase<'t> {
+    if width >= 1 && width < 64 {
+        let most = (u64::MAX >> (64 - width)) as u64;
+        return Phrase::three(
+            "{} doesn't fit {}: the largest value is {}",
+            Term::Number(value),
+            Term::Bits(width),
+            Term::Number(most),
+        );
+    } else {
+        return Phrase::two("{} doesn't fit {}", Term::Number(value), Term::Bits(width));
+    }
+}
+
+impl<'t> Display for WidthFault<'t> {
+    fn fmt<W: fmt::Write>(&self, f: &mut fmt::Formatter<W>) -> fmt::Result {
+        self.phrase().fmt(f)
     }
 }
