@@ -1,6 +1,6 @@
 // A violated rule of drivers: V5.
-use kp_view_help::Word;
-use std::fmt;
+use kp_view_help::{Phrase, Term, Word};
+use std::fmt::{self, Display};
 
 /// A violated rule of drivers.
 #[derive(Clone, Copy)]
@@ -29,63 +29,91 @@ pub enum DriverFault<'m> {
     OtherStart { name: Word<'m>, line: usize },
 }
 
-impl<'m> fmt::Display for DriverFault<'m> {
-    fn fmt<W: fmt::Write>(&self, f: &mut fmt::Formatter<W>) -> fmt::Result {
+impl<'m> DriverFault<'m> {
+    // The sentence. Each branch returns: branches that pass different texts don't join.
+    fn phrase(&self) -> Phrase<'m> {
         match self {
-            DriverFault::NeverAssigned(name) => write!(f, "`{name}` is assigned nowhere"),
-            DriverFault::NoValue(name) => write!(f, "the output `{name}` is assigned nowhere"),
-            DriverFault::Itself(name) => write!(f, "`{name}` is used in its own value"),
-            DriverFault::NoStart(name) => {
-                write!(
-                    f,
-                    "the register `{name}` has no start value under `initial`"
-                )
-            }
-            DriverFault::NoUpdate(name) => {
-                write!(f, "the register `{name}` has no update under `always`")
-            }
-            DriverFault::NoReset(name) => {
-                write!(f, "the register `{name}` isn't in the reset list")
-            }
-            DriverFault::NoFill(name) => {
-                write!(f, "the file `{name}` has no `for` under `initial`")
-            }
-            DriverFault::AssignedAgain { name, line } => {
-                write!(f, "`{name}` is assigned already in line {line}")
-            }
-            DriverFault::AssignedLate { name, line } => {
-                write!(
-                    f,
-                    "`{name}` is assigned only in line {line}, after this use"
-                )
-            }
-            DriverFault::StartedAgain { name, line } => {
-                write!(f, "`{name}` has a start value already in line {line}")
-            }
-            DriverFault::FilledLate(name) => {
-                write!(
-                    f,
-                    "the `for` of the file `{name}` goes before its single words"
-                )
-            }
-            DriverFault::FilledAgain { name, line } => {
-                write!(f, "the file `{name}` has a `for` already in line {line}")
-            }
-            DriverFault::ResetAgain { name, line } => {
-                write!(f, "`{name}` is in the reset list already in line {line}")
-            }
-            DriverFault::UpdatedAgain { name, line } => {
-                write!(f, "`{name}` is updated already in line {line}")
-            }
-            DriverFault::Wide(name) => write!(f, "`{name}` has another width than `ext`"),
-            DriverFault::NoResetForm => {
-                f.write_str("the module has the port `rst`, and no reset list")
-            }
-            DriverFault::OtherStart { name, line } => write!(
-                f,
-                "`{name}` has another value here than its start value in line {line}"
+            DriverFault::NeverAssigned(name) => return Phrase::one(
+                "`{}` is assigned nowhere",
+                Term::Word(*name),
+            ),
+            DriverFault::NoValue(name) => return Phrase::one(
+                "the output `{}` is assigned nowhere",
+                Term::Word(*name),
+            ),
+            DriverFault::Itself(name) => return Phrase::one(
+                "`{}` is used in its own value",
+                Term::Word(*name),
+            ),
+            DriverFault::NoStart(name) => return Phrase::one(
+                "the register `{}` has no start value under `initial`",
+                Term::Word(*name),
+            ),
+            DriverFault::NoUpdate(name) => return Phrase::one(
+                "the register `{}` has no update under `always`",
+                Term::Word(*name),
+            ),
+            DriverFault::NoReset(name) => return Phrase::one(
+                "the register `{}` isn't in the reset list",
+                Term::Word(*name),
+            ),
+            DriverFault::NoFill(name) => return Phrase::one(
+                "the file `{}` has no `for` under `initial`",
+                Term::Word(*name),
+            ),
+            DriverFault::AssignedAgain { name, line } => return Phrase::two(
+                "`{}` is assigned already in line {}",
+                Term::Word(*name),
+                Term::Number(*line as u64),
+            ),
+            DriverFault::AssignedLate { name, line } => return Phrase::two(
+                "`{}` is assigned only in line {}, after this use",
+                Term::Word(*name),
+                Term::Number(*line as u64),
+            ),
+            DriverFault::StartedAgain { name, line } => return Phrase::two(
+                "`{}` has a start value already in line {}",
+                Term::Word(*name),
+                Term::Number(*line as u64),
+            ),
+            DriverFault::FilledLate(name) => return Phrase::one(
+                "the `for` of the file `{}` goes before its single words",
+                Term::Word(*name),
+            ),
+            DriverFault::FilledAgain { name, line } => return Phrase::two(
+                "the file `{}` has a `for` already in line {}",
+                Term::Word(*name),
+                Term::Number(*line as u64),
+            ),
+            DriverFault::ResetAgain { name, line } => return Phrase::two(
+                "`{}` is in the reset list already in line {}",
+                Term::Word(*name),
+                Term::Number(*line as u64),
+            ),
+            DriverFault::UpdatedAgain { name, line } => return Phrase::two(
+                "`{}` is updated already in line {}",
+                Term::Word(*name),
+                Term::Number(*line as u64),
+            ),
+            DriverFault::Wide(name) => return Phrase::one(
+                "`{}` has another width than `ext`",
+                Term::Word(*name),
+            ),
+            DriverFault::NoResetForm => return Phrase::plain(
+                "the module has the port `rst`, and no reset list",
+            ),
+            DriverFault::OtherStart { name, line } => return Phrase::two(
+                "`{}` has another value here than its start value in line {}",
+                Term::Word(*name),
+                Term::Number(*line as u64),
             ),
         }
+    }
+}
+
+impl<'m> Display for DriverFault<'m> {
+    fn fmt<W: fmt::Write>(&self, f: &mut fmt::Formatter<W>) -> fmt::Result {
+        self.phrase().fmt(f)
     }
 }
 
@@ -125,34 +153,50 @@ impl<'m> DriverFault<'m> {
     }
 }
 
-impl<'m> fmt::Display for DriverHelp<'m> {
-    fn fmt<W: fmt::Write>(&self, f: &mut fmt::Formatter<W>) -> fmt::Result {
+impl<'m> DriverHelp<'m> {
+    fn phrase(&self) -> Phrase<'m> {
         match self {
-            DriverHelp::Assign(name) => {
-                write!(f, "write `assign {name} = ..;`, or remove the declaration")
-            }
-            DriverHelp::AssignWire(name) => {
-                write!(f, "write `assign {name} = ..;`, with a wire")
-            }
-            DriverHelp::Start(name) => write!(f, "write `{name} = ..;` under `initial`"),
-            DriverHelp::Update(name) => write!(f, "write `{name} <= ..;` under `always`"),
-            DriverHelp::Fill(name) => write!(
-                f,
-                "write `for (i = 0; i < ..; i = i + 1) {name}[i] = ..;` under `initial`"
+            DriverHelp::Assign(name) => return Phrase::one(
+                "write `assign {} = ..;`, or remove the declaration",
+                Term::Word(*name),
             ),
-            DriverHelp::Choice => f.write_str("take one value by a choice: `n1 ? n2 : n3`"),
-            DriverHelp::MoveDown => f.write_str(
+            DriverHelp::AssignWire(name) => return Phrase::one(
+                "write `assign {} = ..;`, with a wire",
+                Term::Word(*name),
+            ),
+            DriverHelp::Start(name) => return Phrase::one(
+                "write `{} = ..;` under `initial`",
+                Term::Word(*name),
+            ),
+            DriverHelp::Update(name) => return Phrase::one(
+                "write `{} <= ..;` under `always`",
+                Term::Word(*name),
+            ),
+            DriverHelp::Fill(name) => return Phrase::one(
+                "write `for (i = 0; i < ..; i = i + 1) {}[i] = ..;` under `initial`",
+                Term::Word(*name),
+            ),
+            DriverHelp::Choice => return Phrase::plain(
+                "take one value by a choice: `n1 ? n2 : n3`",
+            ),
+            DriverHelp::MoveDown => return Phrase::plain(
                 "the assignments are in the order in which the values are computed: move this one down",
             ),
-            DriverHelp::FromRegister => {
-                f.write_str("a register has the value of the cycle before: `assign n0 = r_X;`")
-            }
-            DriverHelp::Stages => {
-                f.write_str("`ext`, `full` and `ue` have a bit for each stage")
-            }
-            DriverHelp::ResetForm => f.write_str(
+            DriverHelp::FromRegister => return Phrase::plain(
+                "a register has the value of the cycle before: `assign n0 = r_X;`",
+            ),
+            DriverHelp::Stages => return Phrase::plain(
+                "`ext`, `full` and `ue` have a bit for each stage",
+            ),
+            DriverHelp::ResetForm => return Phrase::plain(
                 "write `if (rst) begin`, the reset list, `end else begin`, the updates, `end`",
             ),
         }
+    }
+}
+
+impl<'m> Display for DriverHelp<'m> {
+    fn fmt<W: fmt::Write>(&self, f: &mut fmt::Formatter<W>) -> fmt::Result {
+        self.phrase().fmt(f)
     }
 }

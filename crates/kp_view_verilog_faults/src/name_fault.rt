@@ -1,6 +1,6 @@
 // A violated rule of names: V3.
-use kp_view_help::Word;
-use std::fmt;
+use kp_view_help::{Phrase, Term, Word};
+use std::fmt::{self, Display};
 
 /// What a name denotes.
 #[derive(Clone, Copy, PartialEq, Eq)]
@@ -13,16 +13,22 @@ pub enum Kind {
     Port,
 }
 
-impl fmt::Display for Kind {
-    fn fmt<W: fmt::Write>(&self, f: &mut fmt::Formatter<W>) -> fmt::Result {
-        f.write_str(match self {
+impl Kind {
+    fn text(self) -> &'static str {
+        match self {
             Kind::Register => "a register",
             Kind::File => "a file",
             Kind::Integer => "the integer",
             Kind::Wire => "a wire",
             Kind::Sample => "the port of a sample",
             Kind::Port => "a port",
-        })
+        }
+    }
+}
+
+impl Display for Kind {
+    fn fmt<W: fmt::Write>(&self, f: &mut fmt::Formatter<W>) -> fmt::Result {
+        f.write_str(self.text())
     }
 }
 
@@ -41,17 +47,38 @@ pub enum Wanted {
     Source,
 }
 
-impl fmt::Display for Wanted {
-    fn fmt<W: fmt::Write>(&self, f: &mut fmt::Formatter<W>) -> fmt::Result {
+impl Wanted {
+    fn text(self) -> &'static str {
         match self {
-            Wanted::Register => f.write_str("a register"),
-            Wanted::File => f.write_str("a file"),
-            Wanted::Integer => f.write_str("the integer `i`"),
-            Wanted::Wire => f.write_str("a wire"),
-            Wanted::Port(name) => write!(f, "`{name}`"),
-            Wanted::WireOrOutput => f.write_str("a wire or an output"),
-            Wanted::Source => f.write_str("a register, a sample or `ext`"),
+            Wanted::Register => "a register",
+            Wanted::File => "a file",
+            Wanted::Integer => "the integer `i`",
+            Wanted::Wire => "a wire",
+            Wanted::Port(name) => name,
+            Wanted::WireOrOutput => "a wire or an output",
+            Wanted::Source => "a register, a sample or `ext`",
         }
+    }
+
+    // What stands before and after the text.
+    fn quote(self) -> &'static str {
+        match self {
+            Wanted::Port(_) => "`",
+            Wanted::Register
+            | Wanted::File
+            | Wanted::Integer
+            | Wanted::Wire
+            | Wanted::WireOrOutput
+            | Wanted::Source => "",
+        }
+    }
+}
+
+impl Display for Wanted {
+    fn fmt<W: fmt::Write>(&self, f: &mut fmt::Formatter<W>) -> fmt::Result {
+        f.write_str(self.quote())?;
+        f.write_str(self.text())?;
+        f.write_str(self.quote())
     }
 }
 
@@ -66,16 +93,22 @@ pub enum Form {
     Wire,
 }
 
-impl fmt::Display for Form {
-    fn fmt<W: fmt::Write>(&self, f: &mut fmt::Formatter<W>) -> fmt::Result {
-        f.write_str(match self {
+impl Form {
+    fn text(self) -> &'static str {
+        match self {
             Form::Module => "the name of a module begins with `m_`",
             Form::Sample => "the port of a sample is `s_` and a name",
             Form::Register => "a register is `r_` or `q_` and a name",
             Form::File => "a file is `f_` and a name",
             Form::Integer => "the integer is `i`",
             Form::Wire => "a wire is `n` and decimal digits",
-        })
+        }
+    }
+}
+
+impl Display for Form {
+    fn fmt<W: fmt::Write>(&self, f: &mut fmt::Formatter<W>) -> fmt::Result {
+        f.write_str(self.text())
     }
 }
 
@@ -115,35 +148,68 @@ pub enum NameFault<'m> {
     NoPort(Word<'m>),
 }
 
-impl<'m> fmt::Display for NameFault<'m> {
-    fn fmt<W: fmt::Write>(&self, f: &mut fmt::Formatter<W>) -> fmt::Result {
+impl<'m> NameFault<'m> {
+    // The sentence. Each branch returns: branches that pass different texts don't join.
+    fn phrase(&self) -> Phrase<'m> {
         match self {
-            NameFault::WrongForm(form) => write!(f, "{form}"),
-            NameFault::Port { name, wanted } => write!(f, "this port is `{wanted}`, not `{name}`"),
-            NameFault::Again { name, line } => {
-                write!(f, "`{name}` is declared already in line {line}")
-            }
-            NameFault::Undeclared { name, wanted } => {
-                write!(f, "`{name}` is declared nowhere; {wanted} is wanted here")
-            }
-            NameFault::Below { name, line } => {
-                write!(
-                    f,
-                    "`{name}` is declared only in line {line}, after this use"
-                )
-            }
+            NameFault::WrongForm(form) => return Phrase::one("{}", Term::Text(form.text())),
+            NameFault::Port { name, wanted } => return Phrase::two(
+                "this port is `{}`, not `{}`",
+                Term::Text(*wanted),
+                Term::Word(*name),
+            ),
+            NameFault::Again { name, line } => return Phrase::two(
+                "`{}` is declared already in line {}",
+                Term::Word(*name),
+                Term::Number(*line as u64),
+            ),
+            NameFault::Undeclared { name, wanted } => return Phrase::many(
+                "`{}` is declared nowhere; {}{}{} is wanted here",
+                [
+                    Some(Term::Word(*name)),
+                    Some(Term::Text(wanted.quote())),
+                    Some(Term::Text(wanted.text())),
+                    Some(Term::Text(wanted.quote())),
+                    None,
+                    None,
+                ],
+            ),
+            NameFault::Below { name, line } => return Phrase::two(
+                "`{}` is declared only in line {}, after this use",
+                Term::Word(*name),
+                Term::Number(*line as u64),
+            ),
             NameFault::WrongKind {
                 name,
                 kind,
                 line,
                 wanted,
-            } => write!(
-                f,
-                "`{name}` is {kind} (line {line}); {wanted} is wanted here"
+            } => return Phrase::many(
+                "`{}` is {} (line {}); {}{}{} is wanted here",
+                [
+                    Some(Term::Word(*name)),
+                    Some(Term::Text(kind.text())),
+                    Some(Term::Number(*line as u64)),
+                    Some(Term::Text(wanted.quote())),
+                    Some(Term::Text(wanted.text())),
+                    Some(Term::Text(wanted.quote())),
+                ],
             ),
-            NameFault::NoWire(name) => write!(f, "the output `{name}` takes a wire alone"),
-            NameFault::NoPort(name) => write!(f, "the module has no port `{name}`"),
+            NameFault::NoWire(name) => return Phrase::one(
+                "the output `{}` takes a wire alone",
+                Term::Word(*name),
+            ),
+            NameFault::NoPort(name) => return Phrase::one(
+                "the module has no port `{}`",
+                Term::Word(*name),
+            ),
         }
+    }
+}
+
+impl<'m> Display for NameFault<'m> {
+    fn fmt<W: fmt::Write>(&self, f: &mut fmt::Formatter<W>) -> fmt::Result {
+        self.phrase().fmt(f)
     }
 }
 
@@ -174,25 +240,29 @@ impl<'m> NameFault<'m> {
     }
 }
 
-impl<'m> fmt::Display for NameHelp<'m> {
-    fn fmt<W: fmt::Write>(&self, f: &mut fmt::Formatter<W>) -> fmt::Result {
+impl<'m> NameHelp<'m> {
+    fn phrase(&self) -> Phrase<'m> {
         match self {
-            NameHelp::Ports => f.write_str(
+            NameHelp::Ports => return Phrase::plain(
                 "the ports are `clk`, then `rst` if there is one, `ext`, those of the samples, `full`, `ue` and `back`",
             ),
-            NameHelp::MoveUp => {
-                f.write_str("a name is declared before it is used: move the declaration up")
-            }
-            NameHelp::Itself(name) => {
-                write!(
-                    f,
-                    "no wire has the value of another wire alone: use `{name}` itself"
-                )
-            }
-            NameHelp::WireFirst(name) => write!(
-                f,
-                "assign the value to a wire, as `assign n0 = ..;`, and then write `assign {name} = n0;`"
+            NameHelp::MoveUp => return Phrase::plain(
+                "a name is declared before it is used: move the declaration up",
+            ),
+            NameHelp::Itself(name) => return Phrase::one(
+                "no wire has the value of another wire alone: use `{}` itself",
+                Term::Word(*name),
+            ),
+            NameHelp::WireFirst(name) => return Phrase::one(
+                "assign the value to a wire, as `assign n0 = ..;`, and then write `assign {} = n0;`",
+                Term::Word(*name),
             ),
         }
+    }
+}
+
+impl<'m> Display for NameHelp<'m> {
+    fn fmt<W: fmt::Write>(&self, f: &mut fmt::Formatter<W>) -> fmt::Result {
+        self.phrase().fmt(f)
     }
 }

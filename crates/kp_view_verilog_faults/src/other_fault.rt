@@ -1,6 +1,6 @@
 // How a netlist differs from those of a job: V6.
-use kp_view_help::{Bits, Word};
-use std::fmt;
+use kp_view_help::{Phrase, Term, Word};
+use std::fmt::{self, Display};
 
 /// How a netlist differs from those of a job.
 #[derive(Clone, Copy)]
@@ -29,58 +29,62 @@ pub enum OtherFault<'t> {
     Unknown,
 }
 
-impl<'t> fmt::Display for OtherFault<'t> {
-    fn fmt<W: fmt::Write>(&self, f: &mut fmt::Formatter<W>) -> fmt::Result {
+impl<'t> OtherFault<'t> {
+    // The sentence. Each branch returns: branches that pass different texts don't join.
+    fn phrase(&self) -> Phrase<'t> {
         match self {
-            OtherFault::Stages { found, wanted } => {
-                let bits = Bits(u64::from(*found));
-                write!(
-                    f,
-                    "`ext` of the module has {bits}, and the job has {wanted} stages"
-                )
-            }
-            OtherFault::NoSample { name, width } => {
-                let bits = Bits(*width);
-                write!(
-                    f,
-                    "the module has no port `s_{name}` of {bits} for the sample `{name}`"
-                )
-            }
-            OtherFault::NoRegister { name, width } => {
-                let bits = Bits(*width);
-                write!(
-                    f,
-                    "the module has no register `r_{name}` of {bits} for the register `{name}`"
-                )
-            }
+            OtherFault::Stages { found, wanted } => return Phrase::two(
+                "`ext` of the module has {}, and the job has {} stages",
+                Term::Bits(u64::from(*found)),
+                Term::Number(*wanted),
+            ),
+            OtherFault::NoSample { name, width } => return Phrase::three(
+                "the module has no port `s_{}` of {} for the sample `{}`",
+                Term::Word(*name),
+                Term::Bits(*width),
+                Term::Word(*name),
+            ),
+            OtherFault::NoRegister { name, width } => return Phrase::three(
+                "the module has no register `r_{}` of {} for the register `{}`",
+                Term::Word(*name),
+                Term::Bits(*width),
+                Term::Word(*name),
+            ),
             OtherFault::NoFile {
                 name,
                 width,
                 address,
-            } => {
-                let (bits, address) = (Bits(*width), Bits(*address));
-                write!(
-                    f,
-                    "the module has no file `f_{name}` with words of {bits} and addresses of {address} for the file `{name}`"
-                )
-            }
-            OtherFault::MoreSamples(name) => {
-                write!(
-                    f,
-                    "the port `{name}` of the module is of no sample of the job"
-                )
-            }
-            OtherFault::MoreRegisters(name) => {
-                write!(
-                    f,
-                    "the register `{name}` of the module is no register of the job"
-                )
-            }
-            OtherFault::MoreFiles(name) => {
-                write!(f, "the file `{name}` of the module is no file of the job")
-            }
-            OtherFault::Unknown => f.write_str("the module isn't one of the job"),
+            } => return Phrase::many(
+                "the module has no file `f_{}` with words of {} and addresses of {} for the file `{}`",
+                [
+                    Some(Term::Word(*name)),
+                    Some(Term::Bits(*width)),
+                    Some(Term::Bits(*address)),
+                    Some(Term::Word(*name)),
+                    None,
+                    None,
+                ],
+            ),
+            OtherFault::MoreSamples(name) => return Phrase::one(
+                "the port `{}` of the module is of no sample of the job",
+                Term::Word(*name),
+            ),
+            OtherFault::MoreRegisters(name) => return Phrase::one(
+                "the register `{}` of the module is no register of the job",
+                Term::Word(*name),
+            ),
+            OtherFault::MoreFiles(name) => return Phrase::one(
+                "the file `{}` of the module is no file of the job",
+                Term::Word(*name),
+            ),
+            OtherFault::Unknown => return Phrase::plain("the module isn't one of the job"),
         }
+    }
+}
+
+impl<'t> Display for OtherFault<'t> {
+    fn fmt<W: fmt::Write>(&self, f: &mut fmt::Formatter<W>) -> fmt::Result {
+        self.phrase().fmt(f)
     }
 }
 
@@ -88,7 +92,7 @@ impl<'t> fmt::Display for OtherFault<'t> {
 #[derive(Clone, Copy)]
 pub struct OtherHelp;
 
-impl fmt::Display for OtherHelp {
+impl Display for OtherHelp {
     fn fmt<W: fmt::Write>(&self, f: &mut fmt::Formatter<W>) -> fmt::Result {
         f.write_str(
             "the module has a register `r_X` for each register X of the job, a file `f_F` for each file F, and a port `s_Q` for each sample Q",

@@ -1,7 +1,7 @@
 // Why a text is no module of the subset: V1 and V2.
 use crate::class::Class;
-use kp_view_help::FoundToken;
-use std::fmt;
+use kp_view_help::{FoundToken, Phrase, Term};
+use std::fmt::{self, Display};
 
 /// Why a text is no module of the subset.
 #[derive(Clone, Copy)]
@@ -27,7 +27,7 @@ pub enum ReadingFault<'t> {
 #[derive(Clone, Copy)]
 pub struct Expected<'t>(pub &'t [Class]);
 
-impl<'t> fmt::Display for Expected<'t> {
+impl<'t> Display for Expected<'t> {
     fn fmt<W: fmt::Write>(&self, f: &mut fmt::Formatter<W>) -> fmt::Result {
         let count = self.0.len();
         if count == 0 {
@@ -52,30 +52,50 @@ fn separator(index: usize, count: usize) -> &'static str {
     }
 }
 
-impl<'t> fmt::Display for ReadingFault<'t> {
-    fn fmt<W: fmt::Write>(&self, f: &mut fmt::Formatter<W>) -> fmt::Result {
+impl<'t> ReadingFault<'t> {
+    // The sentence, up to the byte or the list that some end with. Each branch returns: branches that pass different texts don't join.
+    fn phrase(&self) -> Phrase<'t> {
         match self {
-            ReadingFault::NoToken(byte) => {
-                let (byte, shown) = (*byte, char::from(*byte));
-                if byte > 32 && byte < 127 {
-                    write!(f, "no word of the subset begins with `{shown}`")
-                } else {
-                    write!(f, "no word of the subset begins with the byte {byte}")
-                }
-            }
-            ReadingFault::LongName(length) => {
-                write!(f, "a name has at most 70 bytes; this has {length}")
-            }
-            ReadingFault::OpenComment => f.write_str("no `*/` closes this comment"),
-            ReadingFault::NoNumber => {
-                f.write_str("neither a number below 2^64 nor a literal such as 8'h1f")
-            }
-            ReadingFault::Unexpected { found, expected } => {
-                write!(f, "expected {expected}, found {found}")
-            }
-            ReadingFault::NoModule(found) => write!(f, "no module continues with {found}"),
-            ReadingFault::Unknown => f.write_str("this violates a rule (docs/VERILOG.md)"),
+            ReadingFault::NoToken(_) => return Phrase::plain("no word of the subset begins with "),
+            ReadingFault::LongName(length) => return Phrase::one(
+                "a name has at most 70 bytes; this has {}",
+                Term::Number(*length as u64),
+            ),
+            ReadingFault::OpenComment => return Phrase::plain("no `*/` closes this comment"),
+            ReadingFault::NoNumber => return Phrase::plain(
+                "neither a number below 2^64 nor a literal such as 8'h1f",
+            ),
+            ReadingFault::Unexpected { .. } => return Phrase::plain("expected "),
+            ReadingFault::NoModule(found) => return Phrase::one(
+                "no module continues with {}",
+                Term::Found(*found),
+            ),
+            ReadingFault::Unknown => return Phrase::plain("this violates a rule (docs/VERILOG.md)"),
         }
+    }
+}
+
+impl<'t> Display for ReadingFault<'t> {
+    fn fmt<W: fmt::Write>(&self, f: &mut fmt::Formatter<W>) -> fmt::Result {
+        self.phrase().fmt(f)?;
+        match self {
+            ReadingFault::NoToken(byte) => write_byte(f, *byte),
+            ReadingFault::Unexpected { found, expected } => write!(f, "{expected}, found {found}"),
+            ReadingFault::LongName(_)
+            | ReadingFault::OpenComment
+            | ReadingFault::NoNumber
+            | ReadingFault::NoModule(_)
+            | ReadingFault::Unknown => Ok(()),
+        }
+    }
+}
+
+fn write_byte<W: fmt::Write>(f: &mut fmt::Formatter<W>, byte: u8) -> fmt::Result {
+    let shown = char::from(byte);
+    if byte > 32 && byte < 127 {
+        write!(f, "`{shown}`")
+    } else {
+        write!(f, "the byte {byte}")
     }
 }
 
@@ -99,7 +119,7 @@ impl<'t> ReadingFault<'t> {
     }
 }
 
-impl fmt::Display for ReadingHelp {
+impl Display for ReadingHelp {
     fn fmt<W: fmt::Write>(&self, f: &mut fmt::Formatter<W>) -> fmt::Result {
         f.write_str(match self {
             ReadingHelp::Directive => "the subset has no compiler directives: remove the line",

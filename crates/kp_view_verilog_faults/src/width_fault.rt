@@ -1,9 +1,9 @@
 // A violated rule of widths: V4.
 use crate::class::mark_text;
 use kp_bits::BinOp;
-use kp_view_help::{Bits, Word};
+use kp_view_help::{Phrase, Term, Word};
 use kp_vlog::Mark;
-use std::fmt;
+use std::fmt::{self, Display};
 
 /// A name with its width and the line of its declaration.
 #[derive(Clone, Copy)]
@@ -13,10 +13,20 @@ pub struct Side<'m> {
     pub line: usize,
 }
 
-impl<'m> fmt::Display for Side<'m> {
+impl<'m> Side<'m> {
+    fn phrase(&self) -> Phrase<'m> {
+        Phrase::three(
+            "`{}` (line {}) has {}",
+            Term::Word(self.name),
+            Term::Number(self.line as u64),
+            Term::Bits(self.width),
+        )
+    }
+}
+
+impl<'m> Display for Side<'m> {
     fn fmt<W: fmt::Write>(&self, f: &mut fmt::Formatter<W>) -> fmt::Result {
-        let (name, bits, line) = (self.name, Bits(self.width), self.line);
-        write!(f, "`{name}` (line {line}) has {bits}")
+        self.phrase().fmt(f)
     }
 }
 
@@ -89,122 +99,166 @@ pub enum WidthFault<'m> {
     },
 }
 
-impl<'m> fmt::Display for WidthFault<'m> {
-    fn fmt<W: fmt::Write>(&self, f: &mut fmt::Formatter<W>) -> fmt::Result {
+impl<'m> WidthFault<'m> {
+    // The sentence, up to the names that some end with. Each branch returns: branches that pass different texts don't join.
+    fn phrase(&self) -> Phrase<'m> {
         match self {
-            WidthFault::Range => f.write_str("a range is `[h:0]`, where h is 63 at most"),
-            WidthFault::StallRange(name) => {
-                write!(f, "the range of `{name}` is `[h:0]`, where h is 1 to 11")
-            }
-            WidthFault::BackRange => f.write_str("the range of `back` is `[3:0]`"),
-            WidthFault::Words => f.write_str(
+            WidthFault::Range => return Phrase::plain("a range is `[h:0]`, where h is 63 at most"),
+            WidthFault::StallRange(name) => return Phrase::one(
+                "the range of `{}` is `[h:0]`, where h is 1 to 11",
+                Term::Word(*name),
+            ),
+            WidthFault::BackRange => return Phrase::plain("the range of `back` is `[3:0]`"),
+            WidthFault::Words => return Phrase::plain(
                 "the words of a file are `[0:w]`, where w + 1 is 2, 4, 8 or another power of 2 up to 65,536",
             ),
-            WidthFault::Files => f.write_str("a module has at most 16 files"),
-            WidthFault::Value { target, found } => {
-                let bits = Bits(*found);
-                write!(f, "{target}, and this value has {bits}")
-            }
-            WidthFault::Operands { op, a, b, target } => {
-                let op = Op(*op);
-                write!(
-                    f,
-                    "the target and the operands of `{op}` have different widths: {target}, {a} and {b}"
-                )
-            }
-            WidthFault::Compared { op, a, b } => {
-                let op = Op(*op);
-                write!(
-                    f,
-                    "the operands of `{op}` have different widths: {a} and {b}"
-                )
-            }
-            WidthFault::Comparison { op, target } => {
-                let op = Op(*op);
-                write!(f, "{target}, and `{op}` gives 1 bit")
-            }
-            WidthFault::Shifted { op, a, target } => {
-                let op = Op(*op);
-                write!(
-                    f,
-                    "the target and the left operand of `{op}` have different widths: {target} and {a}"
-                )
-            }
-            WidthFault::Test(test) => write!(f, "a test has 1 bit; {test}"),
-            WidthFault::Branches { a, b, target } => {
-                write!(
-                    f,
-                    "the target and the branches have different widths: {target}, {a} and {b}"
-                )
-            }
-            WidthFault::Slice { high, low, a } => write_slice(f, *high, *low, *a),
-            WidthFault::Address {
-                address,
-                file,
-                wanted,
-            } => {
-                let bits = Bits(*wanted);
-                write!(f, "an address of `{file}` has {bits}; {address}")
-            }
-            WidthFault::LiteralWidth(width) => {
-                write!(f, "a literal has 1 to 64 bits, not {width}")
-            }
-            WidthFault::LiteralValue { value, width } => {
-                let bits = Bits(*width);
-                write!(f, "{value} doesn't fit {bits}")
-            }
-            WidthFault::Index { file, words, found } => {
-                let last = words.saturating_sub(1);
-                write!(
-                    f,
-                    "the words of `{file}` are numbered 0 to {last}, and {found} isn't one of them"
-                )
-            }
-            WidthFault::Loop { file, words } => write!(
-                f,
-                "the `for` of `{file}` goes over all its {words} words"
+            WidthFault::Files => return Phrase::plain("a module has at most 16 files"),
+            WidthFault::Value { target, found } => return value(*target, *found),
+            WidthFault::Operands { op, .. } => return Phrase::one(
+                "the target and the operands of `{}` have different widths: ",
+                Term::Text(spelling(*op)),
+            ),
+            WidthFault::Compared { op, .. } => return Phrase::one(
+                "the operands of `{}` have different widths: ",
+                Term::Text(spelling(*op)),
+            ),
+            WidthFault::Comparison { op, target } => return comparison(*op, *target),
+            WidthFault::Shifted { op, .. } => return Phrase::one(
+                "the target and the left operand of `{}` have different widths: ",
+                Term::Text(spelling(*op)),
+            ),
+            WidthFault::Test(_) => return Phrase::plain("a test has 1 bit; "),
+            WidthFault::Branches { .. } => return Phrase::plain(
+                "the target and the branches have different widths: ",
+            ),
+            WidthFault::Slice { high, low, a } => return slice(*high, *low, a.width),
+            WidthFault::Address { file, wanted, .. } => return Phrase::two(
+                "an address of `{}` has {}; ",
+                Term::Word(*file),
+                Term::Bits(*wanted),
+            ),
+            WidthFault::LiteralWidth(width) => return Phrase::one(
+                "a literal has 1 to 64 bits, not {}",
+                Term::Number(*width),
+            ),
+            WidthFault::LiteralValue { value, width } => return Phrase::two(
+                "{} doesn't fit {}",
+                Term::Number(*value),
+                Term::Bits(*width),
+            ),
+            WidthFault::Index { file, words, found } => return Phrase::three(
+                "the words of `{}` are numbered 0 to {}, and {} isn't one of them",
+                Term::Word(*file),
+                Term::Number(words.saturating_sub(1)),
+                Term::Number(*found),
+            ),
+            WidthFault::Loop { file, words } => return Phrase::two(
+                "the `for` of `{}` goes over all its {} words",
+                Term::Word(*file),
+                Term::Number(*words),
             ),
         }
     }
 }
 
-// The message for the bits of a slice.
-fn write_slice<W: fmt::Write>(
-    f: &mut fmt::Formatter<W>,
-    high: u64,
-    low: u64,
-    a: Side<'_>,
-) -> fmt::Result {
-    let bits = Bits(a.width);
-    if high < low {
-        return write!(f, "the high number is written first: `[{low}:{high}]`");
-    }
-    let top = a.width.saturating_sub(1);
-    write!(
-        f,
-        "bits {high} to {low} of {bits}: the bits are numbered {top} to 0"
+fn value(target: Side<'_>, found: u64) -> Phrase<'_> {
+    Phrase::many(
+        "`{}` (line {}) has {}, and this value has {}",
+        [
+            Some(Term::Word(target.name)),
+            Some(Term::Number(target.line as u64)),
+            Some(Term::Bits(target.width)),
+            Some(Term::Bits(found)),
+            None,
+            None,
+        ],
     )
 }
 
-// How an operator is written.
-#[derive(Clone, Copy)]
-struct Op(BinOp);
+fn comparison(op: BinOp, target: Side<'_>) -> Phrase<'_> {
+    Phrase::many(
+        "`{}` (line {}) has {}, and `{}` gives 1 bit",
+        [
+            Some(Term::Word(target.name)),
+            Some(Term::Number(target.line as u64)),
+            Some(Term::Bits(target.width)),
+            Some(Term::Text(spelling(op))),
+            None,
+            None,
+        ],
+    )
+}
 
-impl fmt::Display for Op {
-    fn fmt<W: fmt::Write>(&self, f: &mut fmt::Formatter<W>) -> fmt::Result {
-        f.write_str(mark_text(match self.0 {
-            BinOp::And => Mark::Ampersand,
-            BinOp::Or => Mark::Bar,
-            BinOp::Xor => Mark::Caret,
-            BinOp::Add => Mark::Plus,
-            BinOp::Sub => Mark::Minus,
-            BinOp::Mul => Mark::Star,
-            BinOp::Eq => Mark::EqualsEquals,
-            BinOp::Lt => Mark::Less,
-            BinOp::Shl => Mark::ShiftLeft,
-            BinOp::Shr => Mark::ShiftRight,
-        }))
+// The sentence for the bits of a slice, of a name with this width.
+fn slice(high: u64, low: u64, width: u64) -> Phrase<'static> {
+    if high < low {
+        return Phrase::two(
+            "the high number is written first: `[{}:{}]`",
+            Term::Number(low),
+            Term::Number(high),
+        );
     }
+    return Phrase::many(
+        "bits {} to {} of {}: the bits are numbered {} to 0",
+        [
+            Some(Term::Number(high)),
+            Some(Term::Number(low)),
+            Some(Term::Bits(width)),
+            Some(Term::Number(width.saturating_sub(1))),
+            None,
+            None,
+        ],
+    );
+}
+
+impl<'m> Display for WidthFault<'m> {
+    fn fmt<W: fmt::Write>(&self, f: &mut fmt::Formatter<W>) -> fmt::Result {
+        self.phrase().fmt(f)?;
+        match self {
+            WidthFault::Operands { a, b, target, .. } | WidthFault::Branches { a, b, target } => {
+                target.fmt(f)?;
+                f.write_str(", ")?;
+                write_two(f, *a, *b)
+            }
+            WidthFault::Compared { a, b, .. } => write_two(f, *a, *b),
+            WidthFault::Shifted { a, target, .. } => write_two(f, *target, *a),
+            WidthFault::Test(side) | WidthFault::Address { address: side, .. } => side.fmt(f),
+            WidthFault::Range
+            | WidthFault::StallRange(_)
+            | WidthFault::BackRange
+            | WidthFault::Words
+            | WidthFault::Files
+            | WidthFault::Value { .. }
+            | WidthFault::Comparison { .. }
+            | WidthFault::Slice { .. }
+            | WidthFault::LiteralWidth(_)
+            | WidthFault::LiteralValue { .. }
+            | WidthFault::Index { .. }
+            | WidthFault::Loop { .. } => Ok(()),
+        }
+    }
+}
+
+fn write_two<W: fmt::Write>(f: &mut fmt::Formatter<W>, a: Side<'_>, b: Side<'_>) -> fmt::Result {
+    a.fmt(f)?;
+    f.write_str(" and ")?;
+    b.fmt(f)
+}
+
+// How an operator is written.
+fn spelling(op: BinOp) -> &'static str {
+    mark_text(match op {
+        BinOp::And => Mark::Ampersand,
+        BinOp::Or => Mark::Bar,
+        BinOp::Xor => Mark::Caret,
+        BinOp::Add => Mark::Plus,
+        BinOp::Sub => Mark::Minus,
+        BinOp::Mul => Mark::Star,
+        BinOp::Eq => Mark::EqualsEquals,
+        BinOp::Lt => Mark::Less,
+        BinOp::Shl => Mark::ShiftLeft,
+        BinOp::Shr => Mark::ShiftRight,
+    })
 }
 
 /// What helps where a rule of widths is violated.
@@ -231,17 +285,26 @@ impl<'m> WidthFault<'m> {
     }
 }
 
-impl<'m> fmt::Display for WidthHelp<'m> {
-    fn fmt<W: fmt::Write>(&self, f: &mut fmt::Formatter<W>) -> fmt::Result {
+impl<'m> WidthHelp<'m> {
+    fn phrase(&self) -> Phrase<'m> {
         match self {
-            WidthHelp::Literal { width, value } => {
-                let bits = Bits(*width);
-                write!(f, "it needs {bits}: `{width}'d{value}`")
-            }
-            WidthHelp::Loop { file, words } => write!(
-                f,
-                "write `for (i = 0; i < {words}; i = i + 1) {file}[i] = ..;`"
+            WidthHelp::Literal { width, value } => return Phrase::three(
+                "it needs {}: `{}'d{}`",
+                Term::Bits(*width),
+                Term::Number(*width),
+                Term::Number(*value),
+            ),
+            WidthHelp::Loop { file, words } => return Phrase::two(
+                "write `for (i = 0; i < {}; i = i + 1) {}[i] = ..;`",
+                Term::Number(*words),
+                Term::Word(*file),
             ),
         }
+    }
+}
+
+impl<'m> Display for WidthHelp<'m> {
+    fn fmt<W: fmt::Write>(&self, f: &mut fmt::Formatter<W>) -> fmt::Result {
+        self.phrase().fmt(f)
     }
 }
