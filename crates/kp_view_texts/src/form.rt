@@ -1,5 +1,4 @@
 // The forms of instructions.
-use std::fmt;
 
 /// A part of an instruction after its mnemonic.
 #[derive(Clone, Copy, PartialEq, Eq)]
@@ -19,9 +18,10 @@ pub(crate) enum Operand {
     End,
 }
 
-impl fmt::Display for Operand {
-    fn fmt<W: fmt::Write>(&self, f: &mut fmt::Formatter<W>) -> fmt::Result {
-        f.write_str(match self {
+impl Operand {
+    /// How a message names it.
+    pub fn text(self) -> &'static str {
+        match self {
             Operand::Register => "a register such as `r1`",
             Operand::Signed | Operand::Unsigned | Operand::Any => "a number",
             Operand::Label => "a label",
@@ -29,7 +29,7 @@ impl fmt::Display for Operand {
             Operand::Open => "`(`",
             Operand::Close => "`)`",
             Operand::End => "the end of the line",
-        })
+        }
     }
 }
 
@@ -154,9 +154,10 @@ impl Form {
     }
 }
 
-impl fmt::Display for Form {
-    fn fmt<W: fmt::Write>(&self, f: &mut fmt::Formatter<W>) -> fmt::Result {
-        f.write_str(match self {
+impl Form {
+    /// The text of what follows the mnemonic.
+    pub fn text(self) -> &'static str {
+        match self {
             Form::Registers => " rd, ra, rb",
             Form::Signed | Form::Unsigned => " rd, ra, number",
             Form::High => " rd, number",
@@ -166,6 +167,6 @@ impl fmt::Display for Form {
             Form::JumpRegister => " ra",
             Form::Alone => "",
             Form::Word => " number",
-        })
+        }
     }
 }

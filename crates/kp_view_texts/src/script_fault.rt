@@ -1,6 +1,6 @@
 // A way to violate a rule of scripts.
-use kp_view_help::{Bits, Kind, Word};
-use std::fmt;
+use kp_view_help::{Kind, Phrase, Term, Word};
+use std::fmt::{self, Display};
 
 /// The keyword of a command.
 #[derive(Clone, Copy, PartialEq, Eq)]
@@ -45,12 +45,6 @@ impl Verb {
     }
 }
 
-impl fmt::Display for Verb {
-    fn fmt<W: fmt::Write>(&self, f: &mut fmt::Formatter<W>) -> fmt::Result {
-        f.write_str(self.spelling())
-    }
-}
-
 /// A way to violate a rule of scripts, with the facts that it rests on.
 #[derive(Clone, Copy)]
 pub(crate) enum ScriptFault<'t> {
@@ -88,32 +82,41 @@ pub(crate) enum ScriptFault<'t> {
     Unknown,
 }
 
-impl<'t> fmt::Display for ScriptFault<'t> {
-    fn fmt<W: fmt::Write>(&self, f: &mut fmt::Formatter<W>) -> fmt::Result {
+impl<'t> ScriptFault<'t> {
+    // The sentence. Each branch returns: branches that pass different texts don't join.
+    fn phrase(&self) -> Phrase<'t> {
         match self {
-            ScriptFault::NoCommand(word) => write!(f, "a script has no command `{word}`"),
-            ScriptFault::Words(verb) => {
-                let rest = Rest(*verb);
-                write!(f, "`{verb}` is followed by {rest}")
-            }
-            ScriptFault::NoCount { verb, word } => write!(
-                f,
-                "the number of cycles of `{verb}` is decimal digits, not `{word}`"
+            ScriptFault::NoCommand(word) => return Phrase::one(
+                "a script has no command `{}`",
+                Term::Word(*word),
             ),
-            ScriptFault::NoLiteral(word) => write!(
-                f,
-                "the value of `until` is a literal such as 8'h1f, not `{word}`"
+            ScriptFault::Words(verb) => return Phrase::two(
+                "`{}` is followed by {}",
+                Term::Text(verb.spelling()),
+                Term::Text(rest(*verb)),
             ),
-            ScriptFault::ManyCycles(word) => {
-                write!(f, "a number of cycles is at most 100,000, not {word}")
-            }
-            ScriptFault::Undeclared(name) => write!(
-                f,
-                "`{name}` is declared nowhere; `until` watches a register"
+            ScriptFault::NoCount { verb, word } => return Phrase::two(
+                "the number of cycles of `{}` is decimal digits, not `{}`",
+                Term::Text(verb.spelling()),
+                Term::Word(*word),
             ),
-            ScriptFault::NoRegister { name, kind, line } => write!(
-                f,
-                "`{name}` is a {kind} (line {line}); `until` watches a register"
+            ScriptFault::NoLiteral(word) => return Phrase::one(
+                "the value of `until` is a literal such as 8'h1f, not `{}`",
+                Term::Word(*word),
+            ),
+            ScriptFault::ManyCycles(word) => return Phrase::one(
+                "a number of cycles is at most 100,000, not {}",
+                Term::Word(*word),
+            ),
+            ScriptFault::Undeclared(name) => return Phrase::one(
+                "`{}` is declared nowhere; `until` watches a register",
+                Term::Word(*name),
+            ),
+            ScriptFault::NoRegister { name, kind, line } => return Phrase::three(
+                "`{}` is a {} (line {}); `until` watches a register",
+                Term::Word(*name),
+                Term::Kind(*kind),
+                Term::Number(u64::from(*line)),
             ),
             ScriptFault::Width {
                 found,
@@ -121,34 +124,42 @@ impl<'t> fmt::Display for ScriptFault<'t> {
                 name,
                 line,
                 ..
-            } => {
-                let (found, wanted) = (Bits(*found), Bits(*wanted));
-                write!(
-                    f,
-                    "this value has {found}; the register `{name}` (line {line}) has {wanted}"
-                )
-            }
-            ScriptFault::Value { value, width } => {
-                let bits = Bits(*width);
-                write!(f, "{value} doesn't fit {bits}")
-            }
-            ScriptFault::LargeValue => f.write_str("a number of this literal is over 2^64-1"),
-            ScriptFault::Unknown => f.write_str("this violates a rule (docs/LANGUAGE.md)"),
+            } => return Phrase::many(
+                "this value has {}; the register `{}` (line {}) has {}",
+                [
+                    Some(Term::Bits(*found)),
+                    Some(Term::Word(*name)),
+                    Some(Term::Number(u64::from(*line))),
+                    Some(Term::Bits(*wanted)),
+                    None,
+                    None,
+                ],
+            ),
+            ScriptFault::Value { value, width } => return Phrase::two(
+                "{} doesn't fit {}",
+                Term::Number(*value),
+                Term::Bits(*width),
+            ),
+            ScriptFault::LargeValue => return Phrase::plain(
+                "a number of this literal is over 2^64-1",
+            ),
+            ScriptFault::Unknown => return Phrase::plain("this violates a rule (docs/LANGUAGE.md)"),
         }
     }
 }
 
-// What follows the keyword of a command.
-#[derive(Clone, Copy)]
-struct Rest(Verb);
-
-impl fmt::Display for Rest {
+impl<'t> Display for ScriptFault<'t> {
     fn fmt<W: fmt::Write>(&self, f: &mut fmt::Formatter<W>) -> fmt::Result {
-        f.write_str(match self.0 {
-            Verb::Step | Verb::Back => "a number of cycles alone",
-            Verb::Until => "a register, a value and a number of cycles",
-            Verb::Show | Verb::Row => "nothing",
-        })
+        self.phrase().fmt(f)
+    }
+}
+
+// What follows the keyword of a command.
+fn rest(verb: Verb) -> &'static str {
+    match verb {
+        Verb::Step | Verb::Back => "a number of cycles alone",
+        Verb::Until => "a register, a value and a number of cycles",
+        Verb::Show | Verb::Row => "nothing",
     }
 }
 
@@ -184,20 +195,29 @@ impl<'t> ScriptFault<'t> {
     }
 }
 
-impl fmt::Display for ScriptHelp {
-    fn fmt<W: fmt::Write>(&self, f: &mut fmt::Formatter<W>) -> fmt::Result {
+impl ScriptHelp {
+    fn phrase(&self) -> Phrase<'static> {
         match self {
-            ScriptHelp::Commands => f.write_str(
+            ScriptHelp::Commands => return Phrase::plain(
                 "a line is `step N`, `back N`, `until R LIT N`, `show` or `row`, or empty",
             ),
-            ScriptHelp::Example(verb) => {
-                let example = verb.example();
-                write!(f, "an example is `{example}`")
-            }
-            ScriptHelp::Literal { width, value } => {
-                write!(f, "give the literal {width} bits: `{width}'d{value}`")
-            }
-            ScriptHelp::Repeat => f.write_str("write the command in several lines"),
+            ScriptHelp::Example(verb) => return Phrase::one(
+                "an example is `{}`",
+                Term::Text(verb.example()),
+            ),
+            ScriptHelp::Literal { width, value } => return Phrase::three(
+                "give the literal {} bits: `{}'d{}`",
+                Term::Number(*width),
+                Term::Number(*width),
+                Term::Number(*value),
+            ),
+            ScriptHelp::Repeat => return Phrase::plain("write the command in several lines"),
         }
+    }
+}
+
+impl Display for ScriptHelp {
+    fn fmt<W: fmt::Write>(&self, f: &mut fmt::Formatter<W>) -> fmt::Result {
+        self.phrase().fmt(f)
     }
 }
