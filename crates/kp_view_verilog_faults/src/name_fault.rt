@@ -60,7 +60,7 @@ impl Wanted {
         }
     }
 
-    // What stands before and after the text.
+    // Printed before and after the text.
     fn quote(self) -> &'static str {
         match self {
             Wanted::Port(_) => "`",
