@@ -1,8 +1,8 @@
 #!/bin/bash
 # Whether the proofs reject more wrong programs: bash checks/edits.sh [CRATE ..]
 #
-# checks/edits/CRATE/WHAT.edit is a wrong program in the form of docs/CHANGING.md, of a crate whose edits would take the gate too long, under a clause
-# that is an equation, for some only where a hypothesis holds, or a mistake that the gate tries in another crate. The gate doesn't try
+# checks/edits/CRATE/WHAT.edit is a wrong program in the form of docs/CHANGING.md: one that would take the gate too long, one under a clause that is
+# an equation, for some only where a hypothesis holds, or a mistake that the gate tries in another crate. The gate doesn't try
 # these; here the proofs of each crate, or of those that are named, have to reject its edits. That takes a proof of the crate, and of those below it that are not built in this checkout.
 #
 # The last line is `N checked, M wrong`, and the status is 0 where M is 0.
