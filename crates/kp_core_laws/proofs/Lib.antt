@@ -1,2 +1,5 @@
 pub mod Occupants
 pub mod Showing
+pub mod Beginning
+mod Loading
+mod Memory

@@ -21,7 +21,7 @@ use Rattle.kp_synth.specs.Carrying.{Carries}
 use Rattle.kp_core_ports.specs.Ports.{Exists}
 use Rattle.kp_core_ports.specs.declared.port.Ask.TheVariants.{Show, Peek, Probe, Next, Commit}
 use Rattle.kp_core_text.proofs.Registers.{there}
-use Rattle.kp_core_runs.{specs.Beginning.Begins, proofs.Beginning.along, proofs.Beginning.shown_along}
+use Rattle.kp_core_laws.{specs.Beginning.Begins, proofs.Beginning.along, proofs.Beginning.shown_along}
 use Rattle.kp_core_laws.{specs.Values.port_value, specs.Values.state_in, specs.Values.moment_in, proofs.Occupants.held_instruction, proofs.Occupants.held_late}
 
 -- ---- registers and files

@@ -8,7 +8,7 @@ use Rattle.kp_net.specs.{Nodes.at, Netlist.Net, Netlist.Input, Netlist.State, Ne
 use Rattle.kp_synth_spec.specs.{Naming.value_of, Anew.trace_from, Traces.no_state, Traces.inputs_seen}
 use Rattle.kp_synth_tables.specs.{Keys.target_at, declared.key.Key.TheVariants.Pipe}
 use Rattle.kp_synth_registers.specs.Holding.{kept_in, word_bit}
-use Rattle.kp_core_runs.specs.Beginning.{taken_in}
+use Rattle.kp_core_laws.specs.Beginning.{taken_in}
 use Rattle.kp_core_ports.specs.declared.port.Ask.{Ask}
 use Rattle.kp_core_ports.specs.declared.port.Ask.TheVariants.{Show, Peek, Load, Probe, Next, Commit}
 use Rattle.kp_core_text.specs.Ports.{register_at}

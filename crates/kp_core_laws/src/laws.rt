@@ -15,10 +15,10 @@ ghost use Rattle.kp_synth_tables.specs.declared.key.Key.TheVariants.{Pipe};
 ghost use Rattle.kp_synth.specs.Carrying.{Carries};
 ghost use Rattle.kp_core_ports.specs.Ports.{Exists};
 ghost use Rattle.kp_core_ports.specs.declared.port.Ask.TheVariants.{Commit, Next, Peek, Probe, Show};
-ghost use Rattle.kp_core_runs.specs.Beginning.{Begins};
+ghost use Rattle.kp_core_laws.specs.Beginning.{Begins};
 ghost use Rattle.kp_core_laws.specs.Values.{port_value, state_in, moment_in, IsFull, NoneWrong, pipe_of_instruction};
 
-use kp_core_runs::laws::runs_are_legal_and_move;
+use crate::runs::runs_are_legal_and_move;
 use kp_machine::laws::a_design_is_accepted;
 use kp_stage::Design;
 

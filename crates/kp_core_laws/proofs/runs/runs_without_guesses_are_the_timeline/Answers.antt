@@ -1,8 +1,8 @@
 use Rattle.std.proofs.Common.{◌∙◌}
 use Rattle.kp_machine.specs.Machine.{start_hints}
 use Rattle.kp_synth_spec.specs.Traces.{inputs_seen}
-use Rattle.kp_core_runs.proofs.Beginning.{shown_along}
-use Rattle.kp_core_runs.proofs.laws.runs_without_guesses_are_the_timeline.Goals as goal
+use Rattle.kp_core_laws.proofs.Beginning.{shown_along}
+use Rattle.kp_core_laws.proofs.runs.runs_without_guesses_are_the_timeline.Goals as goal
 
 pub returns : goal.returns
 returns c net s v ins shows anew b q =

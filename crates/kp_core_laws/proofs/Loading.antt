@@ -12,8 +12,8 @@ use Rattle.kp_net.specs.Parts.{NetOk, no_file}
 use Rattle.kp_synth_tables.proofs.Apart.{targets_apart}
 use Rattle.kp_synth_spec.specs.{Naming.file_name, Naming.file_names, Naming.file_of, Naming.place_among, Naming.value_shown, Shows.Shows}
 use Rattle.kp_synth_spec.{specs.Anew.HasMemory, specs.Anew.left_by_reset, proofs.Anew.left_alike}
-use Rattle.kp_core_runs.specs.Loading.{Load, IsLoad, Cycle, LoadsIn, put_in, after_cycle, after_cycles, with_load, with_loads, all_loaded}
-use Rattle.kp_core_runs.proofs.Memory.{at_set, same_memory, memory_after}
+use Rattle.kp_core_laws.specs.Loading.{Load, IsLoad, Cycle, LoadsIn, put_in, after_cycle, after_cycles, with_load, with_loads, all_loaded}
+use Rattle.kp_core_laws.proofs.Memory.{at_set, same_memory, memory_after}
 
 -- the entry at the index that a name has is this name
 placed_at : (ns : List (List ℕ)) (n : List ℕ) → place_among ns n < length ns → get_or ns (place_among ns n) [] ≡ n

@@ -9,7 +9,7 @@ use Rattle.kp_net.specs.Netlist.{Net, Input, State, start_of as net_start, state
 use Rattle.kp_sched.specs.Runs.{ShowsAlike}
 use Rattle.kp_synth_spec.specs.{Naming.value_shown, Shows.Shows, Traces.trace_of, Traces.inputs_seen, Traces.AreQuiet}
 use Rattle.kp_synth_spec.specs.Anew.{trace_from, left_by_reset, HasMemory, BeginsAnew}
-use Rattle.kp_core_runs.{specs.Beginning.Begins, proofs.Loading.after_loading}
+use Rattle.kp_core_laws.{specs.Beginning.Begins, proofs.Loading.after_loading}
 
 module _ (net : Net) (job : Job) (shows : Shows net job) (names : Unbroken (widths_of job)) where
   pub along : (P : (ℕ → ℕ → ℕ) → State → Type 0) → P (state_of job (start_of job)) (net_start net)

@@ -1,8 +1,8 @@
 use Rattle.kp_machine.specs.Machine.{start_hints}
 use Rattle.kp_sched.proofs.Runs.{alike_moves, alike_stays}
 use Rattle.kp_synth_spec.{specs.Traces.inputs_seen, proofs.Legal.alike_is_legal_from}
-use Rattle.kp_core_runs.proofs.Beginning.{shown_along}
-use Rattle.kp_core_runs.proofs.laws.runs_are_legal_and_move.Goals as goal
+use Rattle.kp_core_laws.proofs.Beginning.{shown_along}
+use Rattle.kp_core_laws.proofs.runs.runs_are_legal_and_move.Goals as goal
 
 pub returns-clause-legal : goal.returns-clause-legal
 returns-clause-legal c net s v ins shows anew b q =

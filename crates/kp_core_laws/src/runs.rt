@@ -16,8 +16,8 @@ ghost use Rattle.kp_synth_spec.specs.Legal.{IsLegalFrom};
 ghost use Rattle.kp_synth_spec.specs.Traces.{inputs_seen, AreQuiet};
 ghost use Rattle.kp_synth_spec.specs.Anew.{trace_from, HasMemory, BeginsAnew};
 ghost use Rattle.kp_ast.specs.declared.tree.Job.{Job};
-ghost use Rattle.kp_core_runs.specs.Beginning.{Begins, taken_in};
-ghost use Rattle.kp_core_runs.specs.Loading.{IsLoad, Cycle, after_cycle};
+ghost use Rattle.kp_core_laws.specs.Beginning.{Begins, taken_in};
+ghost use Rattle.kp_core_laws.specs.Loading.{IsLoad, Cycle, after_cycle};
 
 use kp_machine::laws::{
     a_design_is_accepted, a_design_is_legal, a_design_moves, rows_of_a_design_are_the_timeline,

@@ -3,8 +3,8 @@ use Rattle.kp_pipeline.specs.{RightPath.NoWrongGuess, RightPath.WaitsOnlyWhereIt
 use Rattle.kp_pipeline.specs.{SpeculativeTimeline.timeline_rows as path_rows, Timeline.start_hold}
 use Rattle.kp_machine.specs.Machine.{machine_of, start_hints}
 use Rattle.kp_synth_spec.specs.Traces.{inputs_seen}
-use Rattle.kp_core_runs.proofs.Beginning.{shown_along}
-use Rattle.kp_core_runs.proofs.laws.runs_have_no_needless_stall.Goals as goal
+use Rattle.kp_core_laws.proofs.Beginning.{shown_along}
+use Rattle.kp_core_laws.proofs.runs.runs_have_no_needless_stall.Goals as goal
 
 pub returns-clause-waits : goal.returns-clause-waits
 returns-clause-waits c net s v ins shows anew b q =

@@ -1,3 +1,0 @@
-pub mod Beginning
-mod Loading
-mod Memory
