@@ -1,3 +1,10 @@
 pub mod Places
 pub mod Room
 pub mod Showing
+pub mod Spelled
+pub mod Numbers
+pub mod Parts
+pub mod Begins
+pub mod Visible
+pub mod Assembled
+pub mod Named

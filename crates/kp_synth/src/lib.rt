@@ -2,12 +2,17 @@
 //!
 //! `synth` combines the results of the lower crates: the tables of the design (kp_synth_tables), the nodes that read
 //! the registers (kp_synth_registers), the nodes of the stages (kp_synth_pipeline, kp_synth_stage), and the next
-//! values of registers and files (kp_synth_close), with names and start values (kp_synth_parts). What it means that a
-//! netlist shows (implements) the pipelined machine is defined in kp_synth_spec.
+//! values of registers and files (kp_synth_close). The other parts of the netlist, its registers, files and ports with
+//! their names and start values, are built here (`netlist`). What it means that a netlist shows (implements) the
+//! pipelined machine is defined in kp_synth_spec.
 #![tactic(auto)]
 
 mod bound;
+mod files;
+mod labels;
 mod making;
+mod netlist;
+mod registers;
 
 ghost use Rattle.std.specs.Prelude.{◌≡◌, ◌≤◌, length, IfOk};
 ghost use Rattle.kp_stage.specs.Counts.{summary_of};

@@ -12,11 +12,11 @@ ghost use Rattle.kp_synth_close.specs.Shows as place;
 ghost use Rattle.kp_synth.specs.inner.Rooms.{reading_room, inside_room, closing_room};
 
 use crate::bound::enough_nodes;
+use crate::netlist::close;
 use kp_base::NoMemory;
 use kp_net::Netlist;
 use kp_pool::Pool;
 use kp_stage::{Design, Start};
-use kp_synth_parts::close;
 use kp_synth_pipeline::run_stages;
 use kp_synth_registers::{Outcome, Reads, read_cells};
 use kp_synth_stage::Slots;
