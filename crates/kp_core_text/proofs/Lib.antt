@@ -1,2 +1,3 @@
 pub mod Extending
 pub mod Registers
+pub mod Steps

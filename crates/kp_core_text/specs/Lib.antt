@@ -1,3 +1,4 @@
 pub mod Core
 pub mod Extended
 pub mod Ports
+pub mod Names

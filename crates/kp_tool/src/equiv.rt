@@ -13,7 +13,7 @@ use kp_base::{NoMemory, Sink, SinkFault, write_all};
 use kp_equiv::{Verdict, compare, verdict_line};
 use kp_frontend::{Head, judge_head};
 use kp_net::Netlist;
-use kp_vread_split::first_module_end;
+use kp_vlog::first_module_end;
 use std::alloc::Global;
 
 /// `equiv`: compares the netlists of the two Verilog texts after a job, and writes the line of the verdict.

@@ -12,8 +12,8 @@ use kp_base::{NoMemory, Sink, SinkFault};
 use kp_frontend::Accepted;
 use kp_net::Netlist;
 use kp_synth::synth;
+use kp_vlog::round_trip::a_canonical_text_denotes_its_netlist;
 use kp_vwrite::write_verilog;
-use kp_vwrite_roundtrip::laws::a_canonical_text_denotes_its_netlist;
 use std::alloc::Global;
 
 /// `pipe`: synthesises the pipelined machine of a job, and writes its netlist as a Verilog module.

@@ -5,7 +5,7 @@ use Rattle.kp_ast.specs.declared.tree.Job.{Job}
 use Rattle.kp_net.specs.{Names.IsNamed, Netlist.Net, Parts.NetOk}
 use Rattle.kp_lex.specs.Text.{gap_length}
 use Rattle.kp_vlog.{specs.Denote.Denotes, proofs.Sound.denoted_named, proofs.Sound.denoted_right}
-use Rattle.kp_vwrite_roundtrip.proofs.Round.{round_from}
+use Rattle.kp_vlog.proofs.Round.{round_from}
 use Rattle.kp_frontend.specs.Judging.{most_bytes}
 use Rattle.kp_tool_spec.{specs.Written.IsVerilogOf, proofs.Heads.EndsLine, proofs.Heads.ends_after, proofs.Skips.skip_gap}
 

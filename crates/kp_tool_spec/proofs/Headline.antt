@@ -32,7 +32,7 @@ use Rattle.kp_tool_spec.specs.{Due.DueFor, Due.DueOfTiming, Read.ReadsVerilog}
 use Rattle.kp_tool_spec.specs.{Watched.agrees, Watched.differs, Watched.DueOfNetlist, Watched.of_other, Watched.of_job, Compared.jobs, Compared.DueOfModules}
 use Rattle.kp_tool_spec.{specs.Scripted.DueOfScript, proofs.Pairs.first_right, proofs.Pairs.second_right, proofs.Pairs.comparable_pair}
 use Rattle.kp_net.specs.Netlist.{Net, Input, State, start_of as begin_of, state_after, last_of}
-use Rattle.kp_vread_split.specs.Splitting.{FirstEnds}
+use Rattle.kp_vlog.specs.Splitting.{FirstEnds}
 use Rattle.kp_equiv.specs.{declared.verdict.Verdict.TheVariants.Same, declared.verdict.Verdict.TheVariants.Differs, Showing.renamed}
 use Rattle.kp_equiv.proofs.{Running.theorem, Shown.states_same, Shown.rows_same, Shown.first_shows, Shown.second_shows, Anew.first_begins, Anew.second_begins}
 use Rattle.kp_debug_script.specs.{declared.command.Command.Command, Scripts.script_of}

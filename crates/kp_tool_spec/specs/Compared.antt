@@ -4,7 +4,7 @@ use Rattle.kp_base.specs.declared.refusal.Refusal.{Refusal}
 use Rattle.kp_ast.specs.declared.tree.Job.{Job}
 use Rattle.kp_net.specs.Netlist.{Net}
 use Rattle.kp_synth_spec.specs.Shows.{IsOfJob}
-use Rattle.kp_vread_split.specs.Splitting.{FirstEnds}
+use Rattle.kp_vlog.specs.Splitting.{FirstEnds}
 use Rattle.kp_equiv.specs.declared.verdict.Verdict.{Verdict, TheVariants.Same, TheVariants.Differs}
 use Rattle.kp_equiv.specs.{Roots.IsVerdict, Texts.verdict_line}
 use Rattle.kp_frontend.specs.Judging.{JudgesHead}

@@ -16,7 +16,7 @@ use Rattle.kp_sched.specs.Runs.{due_value}
 use Rattle.kp_synth_spec.specs.{Naming.module_name, Naming.value_shown, Traces.trace_of, Traces.inputs_seen, Traces.AreQuiet, Shows.IsOfJob, Shows.HasOutputs}
 use Rattle.kp_synth_spec.specs.Anew.{trace_from, left_by_reset, HasMemory, BeginsAnew}
 use Rattle.kp_vlog.specs.Denote.{Denotes}
-use Rattle.kp_vread_split.specs.Splitting.{FirstEnds}
+use Rattle.kp_vlog.specs.Splitting.{FirstEnds}
 use Rattle.kp_equiv.specs.{declared.verdict.Verdict.TheVariants.Same, Runs.RunAlike, Showing.renamed, Showing.ShowsButName, Texts.verdict_line}
 use Rattle.kp_frontend.specs.Judging.{Judges, JudgesHead, broken_in}
 use Rattle.kp_debug_script.specs.{declared.command.Command.Command, Scripts.script_of}

@@ -11,4 +11,5 @@ pub mod Fronts
 pub mod Canon
 pub mod Examples
 pub mod Wrong
+pub mod Splitting
 pub mod inner

@@ -1,14 +1,20 @@
-//! The Verilog subset: its tokens, its grammar and rules, the netlist that a module denotes, and the canonical text of a netlist.
+//! The Verilog subset: its tokens, its grammar and rules, the netlist that a module denotes, and the canonical text of a netlist, which denotes it
+//! (`round_trip`); and where the first of two modules in one text ends.
 #![tactic(auto)]
 
 mod front;
 pub mod laws;
+mod lead;
 mod lexer;
+pub mod module_ends;
+pub mod round_trip;
+mod splitting;
 mod token;
 mod tree;
 
 pub use front::{Front, read_front};
 pub use lexer::vlex;
+pub use splitting::first_module_end;
 pub use token::{Keyword, Mark, VKind, VToken};
 pub use tree::{
     Fill, Init, Item, Lit, Named, Num, Range, ResetList, ResetValue, Right, Update, VModule, VPort,
