@@ -6,7 +6,7 @@ use Rattle.kp_ast.specs.declared.tree.Job.{Job}
 use Rattle.kp_pipeline.specs.{Pipeline.Inputs, Rows.Row, Rows.Trace}
 use Rattle.kp_machine.specs.{Machine.pipe_of, Machine.inputs_from, Slots.targets_of, Words.target}
 use Rattle.kp_net.specs.Netlist.{Net}
-use Rattle.kp_debug.specs.Sessions.{Debugged}
+use Rattle.kp_debug_report.specs.Sessions.{Debugged}
 use Rattle.kp_run.specs.Cycles.{inputs_to, own_trace}
 use Rattle.kp_sched.specs.Runs.{ShowsAlike}
 use Rattle.kp_debug_script.specs.declared.command.Command.{Command}

@@ -10,7 +10,7 @@ use Rattle.kp_width.specs.Widths.{widths_of}
 use Rattle.kp_image.specs.{Feeds.Fed, Feeds.row_in, Sections.sections_of, Spans.Pattern, Spans.word_in}
 use Rattle.kp_net.specs.Netlist.{Net, Input}
 use Rattle.kp_cycle.specs.Steps.{SamplesFit, given}
-use Rattle.kp_debug.specs.Sessions.{inputs_of, SamplesFitCycles}
+use Rattle.kp_debug_report.specs.Sessions.{inputs_of, SamplesFitCycles}
 use Rattle.kp_run.{proofs.Given.rows_fed, proofs.Samples.fits_ports, specs.Cycles.inputs_to}
 use Rattle.kp_synth_spec.specs.Naming.{sample_ports}
 use Rattle.kp_debug_report.specs.{Inspecting.all_cycles, inner.Lists.words_to, inner.Lists.rows_to}

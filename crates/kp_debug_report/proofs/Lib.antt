@@ -4,3 +4,6 @@ pub mod Places
 pub mod Standing
 pub mod Alike
 pub mod Scripts
+pub mod Feeding
+pub mod Passing
+pub mod AtCycle

@@ -7,7 +7,7 @@ use Rattle.kp_bits.specs.Word.{Word}
 use Rattle.kp_ast.specs.declared.tree.Job.{Job}
 use Rattle.kp_pipeline.specs.Rows.{Trace}
 use Rattle.kp_net.specs.Netlist.{Net, Input, run}
-use Rattle.kp_debug.specs.Sessions.{Debugged, no_state, row_there, forward}
+use Rattle.kp_debug_report.specs.Sessions.{Debugged, no_state, row_there, forward}
 use Rattle.kp_run.{specs.Cycles.inputs_to, proofs.Prefixes.rows_many}
 use Rattle.kp_sched.{specs.Rows.row_seen, proofs.Counting.seen_length}
 use Rattle.kp_debug_script.specs.declared.command.Command.{Command}

@@ -1,2 +1,3 @@
 pub mod Inspecting
+pub mod Sessions
 pub mod inner

@@ -11,12 +11,12 @@ ghost use Rattle.kp_debug_report.specs.inner.Standing.{IsUnderWay, IsRegisterOf,
 
 use crate::inputs::all_cycles;
 use crate::numbers::register_at;
+use crate::session::Session;
 use crate::states::write_state;
 use crate::values::register_shown;
 use itoa::Buffer;
 use kp_base::{Row, Sink, SinkFault, write_all, write_pieces};
 use kp_bits::Bits;
-use kp_debug::Session;
 use kp_debug_script::Command;
 use kp_frontend::Accepted;
 use kp_net::Netlist;

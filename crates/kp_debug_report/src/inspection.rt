@@ -8,8 +8,8 @@ ghost use Rattle.kp_debug_report.specs.Inspecting.{all_cycles, whole_run, printe
 
 use crate::commands::run_commands;
 use crate::inputs::{all_cycles, rows_to, words_to};
+use crate::session::Session;
 use kp_base::{NoMemory, Sink, SinkFault};
-use kp_debug::Session;
 use kp_debug_script::Command;
 use kp_frontend::Accepted;
 use kp_net::Netlist;

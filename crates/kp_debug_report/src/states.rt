@@ -11,10 +11,10 @@ ghost use Rattle.kp_tool_report.specs.inner.Targets.{StandsAt, HasWords, IsSmall
 ghost use Rattle.kp_debug_report.specs.inner.Standing.{IsFileOf, HasAddresses, state_seen};
 
 use crate::numbers::{file_named, register_named};
+use crate::session::Session;
 use crate::values::{register_shown, word_shown};
 use kp_ast::Decl;
 use kp_base::{Sink, SinkFault};
-use kp_debug::Session;
 use kp_frontend::Accepted;
 use kp_net::Netlist;
 use kp_tool_report::{targets_in, write_register, write_word};

@@ -5,8 +5,8 @@ ghost use Rattle.kp_machine.specs.Words.{HasWord, target};
 ghost use Rattle.kp_synth_spec.specs.Shows.{IsOfJob};
 ghost use Rattle.kp_debug_report.specs.inner.Standing.{IsRegisterOf, IsFileOf, state_seen};
 
+use crate::session::Session;
 use kp_bits::Bits;
-use kp_debug::Session;
 use kp_frontend::Accepted;
 
 /// The value of the register of a target, which is register `number` of the netlist.

@@ -6,7 +6,7 @@ use Rattle.kp_ast.specs.declared.tree.Decl.TheVariants as decls
 use Rattle.kp_pipeline.specs.Rows.{Trace}
 use Rattle.kp_machine.specs.{Slots.targets_of, Slots.is_register, Words.target}
 use Rattle.kp_net.specs.Netlist.{Net}
-use Rattle.kp_debug.specs.Sessions.{Debugged, state_there}
+use Rattle.kp_debug_report.specs.Sessions.{Debugged, state_there}
 use Rattle.kp_run.specs.Cycles.{inputs_to, own_trace}
 use Rattle.kp_tool_report.specs.States.{State}
 use Rattle.kp_synth_spec.specs.{Naming.register_of, Naming.file_of, Naming.value_shown, Shows.IsOfJob, Shows.Shows}

@@ -2,7 +2,7 @@ use Rattle.std.proofs.Common.{◌∙◌, ◌≤◌, ℕ, List, ap, sym, subst, a
 use Rattle.std.specs.Prelude.{option_map}
 use Rattle.kp_base.specs.Bytes.{Writes}
 use Rattle.kp_ast.specs.declared.tree.Job.{Job}
-use Rattle.kp_debug.specs.Sessions.{Debugged}
+use Rattle.kp_debug_report.specs.Sessions.{Debugged}
 use Rattle.kp_run.proofs.Machines.{stages_fit}
 use Rattle.kp_sched.specs.Rows.{row_seen}
 use Rattle.kp_debug_report.{specs.Inspecting.row_or_end, proofs.Standing.row_is}

@@ -1,5 +1,5 @@
 use Rattle.std.proofs.Common.{◌∙◌}
-use Rattle.kp_debug.specs.Sessions.{state_there}
+use Rattle.kp_debug_report.specs.Sessions.{state_there}
 use Rattle.kp_debug_report.proofs.Places.{register_there, register_value}
 use Rattle.kp_debug_report.proofs.values.register_shown.Goals as goal
 

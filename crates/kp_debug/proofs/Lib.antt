@@ -1,3 +1,0 @@
-pub mod Feeding
-pub mod Passing
-pub mod Standing
