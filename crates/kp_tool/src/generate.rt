@@ -1,7 +1,7 @@
 // `gen G N`: a run of the pipelined machine of a generated job.
 ghost use Rattle.std.specs.Prelude.{◌≡◌, IfOk};
 ghost use Rattle.kp_gen.specs.Generated.{gen_job};
-ghost use Rattle.kp_gen_report.specs.Line.{totals_line, gen_text};
+ghost use Rattle.kp_tool_report.specs.Line.{totals_line, gen_text};
 ghost use Rattle.kp_tool_spec.specs.Saying.{Says};
 ghost use Rattle.kp_tool.specs.Ends.{Ends};
 
@@ -9,7 +9,7 @@ use crate::failure::Failure;
 use crate::outcome::{Outcome, finish};
 use kp_base::{NoMemory, Sink, SinkFault};
 use kp_frontend::Accepted;
-use kp_gen_report::{Totals, totals_of, write_totals};
+use kp_tool_report::{Totals, totals_of, write_totals};
 use kp_gen_valid::generated;
 use kp_run::board_shown;
 use kp_run::laws::a_run_shows_the_pipeline;

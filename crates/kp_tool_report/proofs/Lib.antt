@@ -3,3 +3,5 @@ pub mod Lines
 pub mod Numbers
 pub mod Sims
 pub mod Reported
+mod Sums
+pub mod Generated

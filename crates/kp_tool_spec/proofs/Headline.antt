@@ -23,7 +23,7 @@ use Rattle.kp_tool_words.specs.declared.words.Command.TheVariants.{OnJob, Watch,
 use Rattle.kp_tool_report.{specs.Runs.sim_text, proofs.Sims.rows_many}
 use Rattle.kp_gen.specs.Generated.{gen_job}
 use Rattle.kp_gen_valid.proofs.Unbroken.{generated_unbroken}
-use Rattle.kp_gen_report.specs.Line.{gen_text, totals_of, totals_line}
+use Rattle.kp_tool_report.specs.Line.{gen_text, totals_of, totals_line}
 use Rattle.kp_vcd.{specs.Held.held, specs.Held.Changes, proofs.Holding.recorded_held, proofs.Holding.recorded_new}
 use Rattle.kp_vcd_run.{specs.Dumps.own_run, specs.Dumps.values_at, specs.Dumps.vcd_dump, proofs.Lasting.run_lasts}
 use Rattle.kp_timing.{specs.Unfit.untimed, proofs.Plain.has_timeline}

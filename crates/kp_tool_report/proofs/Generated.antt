@@ -8,7 +8,7 @@ use Rattle.kp_sched.{specs.Rows.rows_seen, specs.Runs.due_value, proofs.Counting
 use Rattle.kp_run.specs.Boards.{due_behind}
 use Rattle.kp_tool_report.proofs.Sims.{rows_many}
 use Rattle.kp_gen.specs.Generated.{gen_job}
-use Rattle.kp_gen_report.specs.Line.{totals_of, totals_line, gen_text}
+use Rattle.kp_tool_report.specs.Line.{totals_of, totals_line, gen_text}
 
 pub run_is_generated : (number n : ℕ) (rows : List Row) → rows_seen (gen_job number).stages.value rows ≡ (pipe_of (gen_job number) (inputs_from (gen_job number) 0 n)).rows
     → totals_line number (totals_of (gen_job number) (rows_seen (gen_job number).stages.value rows) (due_behind (gen_job number) rows)) ≡ gen_text number n

@@ -2,7 +2,7 @@ use Rattle.std.proofs.Common.{◌≤◌, ℕ, length, arith, subst, sym}
 use Rattle.kp_sched.specs.Rows.{rows_seen}
 use Rattle.kp_pipeline.proofs.Counts.{passed-bound}
 use Rattle.kp_run.proofs.Machines.{stages_fit}
-use Rattle.kp_gen_report.proofs.totals.totals_of.Goals as goal
+use Rattle.kp_tool_report.proofs.totals.totals_of.Goals as goal
 
 pub overflow_sub-stages : goal.overflow_sub-stages
 overflow_sub-stages c =

@@ -1,7 +1,7 @@
 // The line of a run.
 ghost use Rattle.kp_base.specs.Bytes.{Writes};
 ghost use Rattle.kp_base.specs.Causes.{HasCause};
-ghost use Rattle.kp_gen_report.specs.Line.{machine_words, run_words, totals_line};
+ghost use Rattle.kp_tool_report.specs.Line.{machine_words, run_words, totals_line};
 
 use itoa::Buffer;
 use kp_base::{Sink, SinkFault, write_pieces};

@@ -1,8 +1,8 @@
 use Rattle.std.proofs.Common.{◌≡◌, ◌≤◌, ◌+◌, ◌%◌, ◌^◌, drop}
 use Rattle.kp_machine.specs.Slots.{targets_of}
 use Rattle.kp_run.specs.Boards.{due_behind}
-use Rattle.kp_gen_report.specs.Line.{registers_sum}
-use Rattle.kp_gen_report.proofs.totals.sum_of.Given as goal
+use Rattle.kp_tool_report.specs.Line.{registers_sum}
+use Rattle.kp_tool_report.proofs.totals.sum_of.Given as goal
 
 abbrev pub invariant-loop-decl : goal.invariant-loop-decl
 invariant-loop-decl l = record {

@@ -5,7 +5,7 @@ ghost use Rattle.kp_sched.specs.Rows.{rows_seen};
 ghost use Rattle.kp_run.specs.Boards.{due_behind};
 ghost use Rattle.kp_tool_report.specs.States.{targets_in};
 ghost use Rattle.kp_tool_report.specs.inner.Targets.{StandsAt, IsSmall};
-ghost use Rattle.kp_gen_report.specs.Line.{summand, registers_sum, totals_of};
+ghost use Rattle.kp_tool_report.specs.Line.{summand, registers_sum, totals_of};
 
 use crate::line::Totals;
 use kp_ast::Decl;
