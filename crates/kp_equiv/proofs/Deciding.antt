@@ -7,11 +7,11 @@ use Rattle.kp_net.specs.declared.{node.NodeId.NodeId, netlist.NetReg.NetReg, net
 use Rattle.kp_net.specs.{Names.same, Netlist.Net, Parts.NetOk, Parts.RegOk, Parts.FileOk, Parts.WriteOk, Parts.no_reg, Parts.no_file}
 use Rattle.kp_equiv.specs.declared.verdict.Verdict.{Verdict, TheVariants.Same, TheVariants.Differs}
 use Rattle.kp_equiv.specs.Roots.{IsComparable, IsVerdict}
-use Rattle.kp_equiv_trees.specs.Roots.{Root, Ports, Register, File, Full, Ue, Back, roots, RegsAlike, WritesAlike, FilesAlike, PortsAgree, RegisterAgrees, FileAgrees, Agrees}
-use Rattle.kp_equiv_trees.specs.{Alike.Alike, Named.HasNames, Classes.place, Classes.class_in, Sections.Differing, Sections.FirstOf}
-use Rattle.kp_equiv_trees.proofs.{Determined.alike_found, Inputs.port_decides}
-use Rattle.kp_equiv_trees.proofs.Places.{Things, registers, memories, namesake, missing}
-use Rattle.kp_equiv_trees.proofs.Ordered.{register_found, file_found, agree_more, differ_more}
+use Rattle.kp_equiv_classes.specs.Roots.{Root, Ports, Register, File, Full, Ue, Back, roots, RegsAlike, WritesAlike, FilesAlike, PortsAgree, RegisterAgrees, FileAgrees, Agrees}
+use Rattle.kp_equiv_classes.specs.{Alike.Alike, Named.HasNames, Classes.place, Classes.class_in, Sections.Differing, Sections.FirstOf}
+use Rattle.kp_equiv_classes.proofs.{Determined.alike_found, Inputs.port_decides}
+use Rattle.kp_equiv_classes.proofs.Places.{Things, registers, memories, namesake, missing}
+use Rattle.kp_equiv_classes.proofs.Ordered.{register_found, file_found, agree_more, differ_more}
 use Rattle.kp_equiv_classes.proofs.Determining.{SomeDetermines, some_determines}
 
 -- a fact that a test decides

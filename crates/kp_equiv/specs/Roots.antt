@@ -1,7 +1,7 @@
 -- WHICH NETLISTS ARE COMPARED, and the meaning of a verdict on their roots.
 use Rattle.std.specs.Prelude.{ℕ, ◌<◌, ◌≡◌, List, length, get_or}
 use Rattle.kp_net.specs.{declared.netlist.NetFile.NetFile, Netlist.Net, Parts.no_file}
-use Rattle.kp_equiv_trees.specs.{Named.HasNames, Roots.AllAgree, Roots.IsFirstDifference}
+use Rattle.kp_equiv_classes.specs.{Named.HasNames, Roots.AllAgree, Roots.IsFirstDifference}
 use Rattle.kp_equiv.specs.declared.verdict.Verdict.{Verdict, TheVariants.Same, TheVariants.Differs}
 
 -- THE MEANING OF A VERDICT

@@ -1,16 +1,17 @@
 // The comparison.
 ghost use Rattle.std.specs.Prelude.{◌≡◌, ◌+◌, ◌^◌, ◌<◌, ◌≤◌, ◌∷◌, [], length, map, None, IfOk, IfSome};
-ghost use Rattle.kp_equiv_trees.specs.Named.{reg_names, file_names, HasNames};
-ghost use Rattle.kp_equiv_trees.specs.Roots.{Register, File, Full, Ue, Back, names_of_second};
+ghost use Rattle.kp_equiv_classes.specs.Named.{reg_names, file_names, HasNames};
+ghost use Rattle.kp_equiv_classes.specs.Roots.{Register, File, Full, Ue, Back, names_of_second};
 ghost use Rattle.kp_equiv.specs.Roots.{IsComparable, IsVerdict};
-ghost use Rattle.kp_equiv_trees.specs.Classes.{Determines};
-ghost use Rattle.kp_equiv_trees.specs.Sections.{FirstNew, FirstOf, behind_ports, joined};
+ghost use Rattle.kp_equiv_classes.specs.Classes.{Determines};
+ghost use Rattle.kp_equiv_classes.specs.Sections.{FirstNew, FirstOf, behind_ports, joined};
 
 use crate::parts::{file_agrees, reg_at, register_agrees};
 use crate::verdict::Verdict;
 use kp_base::NoMemory;
-use kp_equiv_classes::{Names, classes_of};
-use kp_equiv_trees::{Classes, file_count, first_of_second, first_output, ports_agree, reg_count};
+use kp_equiv_classes::{
+    Classes, Names, classes_of, file_count, first_of_second, first_output, ports_agree, reg_count,
+};
 use kp_net::Netlist;
 use std::alloc::Global;
 

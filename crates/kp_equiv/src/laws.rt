@@ -7,7 +7,7 @@ ghost use Rattle.kp_net.specs.Parts.{NetOk};
 ghost use Rattle.kp_synth_spec.specs.Shows.{IsOfJob};
 ghost use Rattle.kp_equiv.specs.declared.verdict.Verdict.{Verdict};
 ghost use Rattle.kp_equiv.specs.declared.verdict.Verdict.TheVariants.{Same};
-ghost use Rattle.kp_equiv_trees.specs.Roots.{AllAgree};
+ghost use Rattle.kp_equiv_classes.specs.Roots.{AllAgree};
 ghost use Rattle.kp_equiv.specs.Roots.{IsComparable, IsVerdict};
 ghost use Rattle.kp_equiv.specs.Runs.{RunAlike};
 ghost use Rattle.kp_equiv.specs.Showing.{renamed, ShowsButName};

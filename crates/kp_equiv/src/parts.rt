@@ -2,13 +2,12 @@
 ghost use Rattle.std.specs.Prelude.{◌≡◌, ◌<◌, length, get_or};
 ghost use Rattle.std.specs.Bool.{Decides};
 ghost use Rattle.kp_net.specs.Parts.{WriteOk, no_reg, no_file};
-ghost use Rattle.kp_equiv_trees.specs.Alike.{reg_name, file_name};
-ghost use Rattle.kp_equiv_trees.specs.Named.{reg_names, file_names, HasNames};
-ghost use Rattle.kp_equiv_trees.specs.Classes.{Determines};
-ghost use Rattle.kp_equiv_trees.specs.Roots.{RegisterAgrees, FileAgrees};
+ghost use Rattle.kp_equiv_classes.specs.Alike.{reg_name, file_name};
+ghost use Rattle.kp_equiv_classes.specs.Named.{reg_names, file_names, HasNames};
+ghost use Rattle.kp_equiv_classes.specs.Classes.{Determines};
+ghost use Rattle.kp_equiv_classes.specs.Roots.{RegisterAgrees, FileAgrees};
 
-use kp_equiv_classes::Names;
-use kp_equiv_trees::{Classes, files_are_alike, regs_are_alike};
+use kp_equiv_classes::{Classes, Names, files_are_alike, regs_are_alike};
 use kp_net::{NetFile, NetReg, Netlist};
 
 /// Register `i` of a netlist.

@@ -4,7 +4,7 @@ use Rattle.std.{proofs.lemmas.List.get_or_default, specs.List.position_or_len}
 use Rattle.indexmap.specs.IndexSet.{insert_key}
 use Rattle.kp_net.specs.{declared.node.NodeId.NodeId, declared.node.Node.Node, Netlist.Net, Parts.NetOk, Widths.Distinct, Widths.no_node}
 use Rattle.kp_net.proofs.Found.{is}
-use Rattle.kp_equiv_trees.specs.Classes.{class_in, Determines}
+use Rattle.kp_equiv_classes.specs.Classes.{class_in, Determines}
 use Rattle.kp_equiv_classes.specs.inner.Shapes.{Known, known_of, shape, Grown}
 use Rattle.kp_equiv_classes.proofs.{Tables.put, Tables.none_distinct, Growing.none_grown, Growing.one_grown, Growing.classes_stay, Exactness.determines}
 

@@ -1,7 +1,7 @@
 -- Two nodes have the same class exactly if they are equivalent.
 use Rattle.std.proofs.Common.{◌≡◌, ◌∙◌, ℕ, zero, suc, ◌<◌, List, length, get_or, sym, ap, arith}
 use Rattle.kp_net.specs.{declared.node.NodeId.NodeId, declared.node.Node.Node, Netlist.Net, Parts.NetOk, Widths.Distinct, Widths.no_node}
-use Rattle.kp_equiv_trees.{specs.Alike.AlikeWithin, specs.Classes.class_in, specs.Classes.Determines, proofs.Determined.id_is}
+use Rattle.kp_equiv_classes.{specs.Alike.AlikeWithin, specs.Classes.class_in, specs.Classes.Determines, proofs.Determined.id_is}
 use Rattle.kp_equiv_classes.specs.inner.Shapes.{known_of, shape, AreClasses}
 use Rattle.kp_equiv_classes.proofs.Operations.{kinds_from, kinds_to}
 

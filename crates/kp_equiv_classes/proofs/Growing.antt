@@ -6,8 +6,8 @@ use Rattle.kp_net.specs.declared.node.{NodeId.NodeId, Kind.Kind}
 use Rattle.kp_net.specs.declared.node.Kind.TheVariants.{Word, Not, Binary, Mux, Concat, Slice}
 use Rattle.kp_net.specs.declared.{node.Node.Node, netlist.NetFile.NetFile, netlist.NetReg.NetReg, netlist.Parts.Parts, netlist.Port.Port}
 use Rattle.kp_net.specs.{Netlist.Net, Parts.NetOk, Parts.CellOk, Parts.no_file, Widths.Distinct, Widths.KindOk, Widths.NodeOk, Widths.no_node}
-use Rattle.kp_equiv_trees.specs.{Alike.commutes, Classes.place, Classes.no_class, Classes.class_in, Classes.Determines}
-use Rattle.kp_equiv_trees.proofs.Places.{reg_count, file_count, sample_count}
+use Rattle.kp_equiv_classes.specs.{Alike.commutes, Classes.place, Classes.no_class, Classes.class_in, Classes.Determines}
+use Rattle.kp_equiv_classes.proofs.Places.{reg_count, file_count, sample_count}
 use Rattle.kp_equiv_classes.specs.inner.Shapes.{Known, known_of, AreFew, first_of_pair, second_of_pair, shape_kind, shape, AreClasses, Extends, Grown}
 use Rattle.kp_equiv_classes.proofs.Exactness.{determines}
 

@@ -4,3 +4,9 @@ pub mod Naming
 pub mod Operations
 pub mod Tables
 pub mod Determining
+pub mod Counting
+pub mod Inputs
+pub mod NamedAlike
+pub mod Ordered
+pub mod Places
+pub mod Determined

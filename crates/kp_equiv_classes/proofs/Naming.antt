@@ -6,7 +6,7 @@ use Rattle.std.specs.{Prelude.if◌then◌else◌, Prelude.nat_eq, Prelude.nat_l
 use Rattle.std.specs.List.{list_any, position, position_or_len}
 use Rattle.indexmap.specs.IndexSet.{insert_key}
 use Rattle.kp_net.specs.Names.{same, among, Differ}
-use Rattle.kp_equiv_trees.proofs.Naming.{among_at}
+use Rattle.kp_equiv_classes.proofs.NamedAlike.{among_at}
 
 either : (b c : Bool) → b ≡ false → c ≡ false → (b || c) ≡ false
 either true c e f = absurd (false≢true (sym e))

@@ -5,8 +5,8 @@ use Rattle.kp_bits.specs.declared.operator.BinOp.{BinOp}
 use Rattle.kp_net.specs.declared.node.{NodeId.NodeId, Kind.Kind}
 use Rattle.kp_net.specs.declared.node.Kind.TheVariants.{Const, Ext, Sample, Reg, Word, Not, Binary, Mux, Concat, Slice}
 use Rattle.kp_net.specs.{Netlist.Net, Parts.CellOk, Widths.KindOk}
-use Rattle.kp_equiv_trees.specs.{Alike.commutes, Alike.Relation, Alike.AllRelated, Alike.PairRelated, Alike.KindAlike, Classes.place}
-use Rattle.kp_equiv_trees.proofs.{Places.registers, Places.memories, Places.ports, Places.one_name, Determined.id_is}
+use Rattle.kp_equiv_classes.specs.{Alike.commutes, Alike.Relation, Alike.AllRelated, Alike.PairRelated, Alike.KindAlike, Classes.place}
+use Rattle.kp_equiv_classes.proofs.{Places.registers, Places.memories, Places.ports, Places.one_name, Determined.id_is}
 use Rattle.kp_equiv_classes.specs.inner.Shapes.{Known, known_of, least, greatest, first_of_pair, second_of_pair, shape_kind}
 
 -- two numbers in order are two others in order

@@ -2,14 +2,14 @@
 ghost use Rattle.std.specs.Prelude.{◌≡◌, ◌+◌, ◌<◌, ◌≤◌, [], length, IfOk, OnOk};
 ghost use Rattle.kp_net.specs.Parts.{NetOk};
 ghost use Rattle.kp_net.specs.Widths.{Distinct};
-ghost use Rattle.kp_equiv_trees.specs.Classes.{Determines};
-ghost use Rattle.kp_equiv_trees.specs.Named.{HasNames};
+ghost use Rattle.kp_equiv_classes.specs.Classes.{Determines};
+ghost use Rattle.kp_equiv_classes.specs.Named.{HasNames};
 ghost use Rattle.kp_equiv_classes.specs.inner.Shapes.{known_of, AreFew, AreClasses, Extends};
 
+use crate::classes::Classes;
 use crate::known::Known;
 use crate::table::Table;
 use kp_base::NoMemory;
-use kp_equiv_trees::Classes;
 use kp_net::{Netlist, NodeId};
 use std::alloc::Global;
 

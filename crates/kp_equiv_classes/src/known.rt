@@ -2,15 +2,16 @@
 ghost use Rattle.std.specs.Prelude.{◌≡◌, ◌<◌, ◌≤◌, length, map, All, IfOk};
 ghost use Rattle.kp_net.specs.Parts.{CellOk};
 ghost use Rattle.kp_net.specs.Widths.{KindOk, NodeOk};
-ghost use Rattle.kp_equiv_trees.specs.Alike.{commutes};
-ghost use Rattle.kp_equiv_trees.specs.Named.{HasNames};
-ghost use Rattle.kp_equiv_trees.specs.Classes.{class_in};
+ghost use Rattle.kp_equiv_classes.specs.Alike.{commutes};
+ghost use Rattle.kp_equiv_classes.specs.Named.{HasNames};
+ghost use Rattle.kp_equiv_classes.specs.Classes.{class_in};
 ghost use Rattle.kp_equiv_classes.specs.inner.Shapes.{known_of, AreFew, shape, shape_kind, least, greatest, first_of_pair, second_of_pair};
 
+use crate::classes::class_of;
 use crate::names::Names;
+use crate::operators::commutes;
 use kp_base::NoMemory;
 use kp_bits::BinOp;
-use kp_equiv_trees::{class_of, commutes};
 use kp_net::{Kind, Netlist, Node, NodeId, Operands};
 use std::alloc::Global;
 use std::marker::Model;

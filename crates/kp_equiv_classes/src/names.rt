@@ -1,7 +1,7 @@
 // Names that are looked up in about constant time.
 ghost use Rattle.std.specs.Prelude.{◌≡◌, ◌++◌, ◌∷◌, ◌<◌, ◌≤◌, [], map, length, false, IfOk, OnOk, MatchOption};
 ghost use Rattle.kp_net.specs.Names.{among, Differ};
-ghost use Rattle.kp_equiv_trees.specs.Classes.{place};
+ghost use Rattle.kp_equiv_classes.specs.Classes.{place};
 
 use indexmap::IndexSet;
 use kp_base::NoMemory;

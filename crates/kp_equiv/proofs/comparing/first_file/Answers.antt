@@ -1,5 +1,5 @@
 use Rattle.std.proofs.{Common.◌∙◌, Common.sym, Common.arith, lemmas.Bool.false≢true}
-use Rattle.kp_equiv_trees.{specs.Roots.File, proofs.Ordered.roots_differ, proofs.Ordered.roots_all, proofs.Places.memories}
+use Rattle.kp_equiv_classes.{specs.Roots.File, proofs.Ordered.roots_differ, proofs.Ordered.roots_all, proofs.Places.memories}
 use Rattle.kp_equiv.proofs.comparing.first_file.Goals as goal
 
 pub returns-then-not-file_agrees-clause-first : goal.returns-then-not-file_agrees-clause-first

@@ -1,5 +1,5 @@
 use Rattle.std.proofs.{Common.◌∙◌, Common.sym, Common.arith, lemmas.Bool.false≢true}
-use Rattle.kp_equiv_trees.{specs.Roots.Register, proofs.Ordered.roots_differ, proofs.Ordered.roots_all, proofs.Places.registers}
+use Rattle.kp_equiv_classes.{specs.Roots.Register, proofs.Ordered.roots_differ, proofs.Ordered.roots_all, proofs.Places.registers}
 use Rattle.kp_equiv.proofs.comparing.first_register.Goals as goal
 
 pub returns-then-not-register_agrees-clause-first : goal.returns-then-not-register_agrees-clause-first

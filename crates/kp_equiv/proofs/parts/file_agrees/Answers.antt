@@ -1,7 +1,7 @@
 use Rattle.std.proofs.Common.{ap}
 use Rattle.kp_net.specs.declared.netlist.NetFile.{NetFile}
-use Rattle.kp_equiv_trees.specs.{Alike.file_name, Roots.FilesAlike, Roots.FileAgrees}
-use Rattle.kp_equiv_trees.proofs.{Ordered.file_found, Ordered.looked_up, Ordered.not_found, Places.memories}
+use Rattle.kp_equiv_classes.specs.{Alike.file_name, Roots.FilesAlike, Roots.FileAgrees}
+use Rattle.kp_equiv_classes.proofs.{Ordered.file_found, Ordered.looked_up, Ordered.not_found, Places.memories}
 use Rattle.kp_equiv.proofs.parts.file_agrees.Goals as goal
 
 pub returns-in-None : goal.returns-in-None

@@ -1,7 +1,7 @@
 use Rattle.std.proofs.Common.{ap}
 use Rattle.kp_net.specs.declared.netlist.NetReg.{NetReg}
-use Rattle.kp_equiv_trees.specs.{Alike.reg_name, Roots.RegsAlike, Roots.RegisterAgrees}
-use Rattle.kp_equiv_trees.proofs.{Ordered.register_found, Ordered.looked_up, Ordered.not_found, Places.registers}
+use Rattle.kp_equiv_classes.specs.{Alike.reg_name, Roots.RegsAlike, Roots.RegisterAgrees}
+use Rattle.kp_equiv_classes.proofs.{Ordered.register_found, Ordered.looked_up, Ordered.not_found, Places.registers}
 use Rattle.kp_equiv.proofs.parts.register_agrees.Goals as goal
 
 pub returns-in-None : goal.returns-in-None

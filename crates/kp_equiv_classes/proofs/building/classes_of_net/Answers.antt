@@ -1,6 +1,6 @@
 use Rattle.std.proofs.Common.{◌∙◌, List, length, sym, ap, subst, arith}
 use Rattle.kp_net.specs.declared.node.NodeId.{NodeId}
-use Rattle.kp_equiv_trees.specs.Classes.{class_in}
+use Rattle.kp_equiv_classes.specs.Classes.{class_in}
 use Rattle.kp_equiv_classes.{specs.inner.Shapes.shape, specs.inner.Shapes.Grown, proofs.Growing.none_grown, proofs.Growing.one_grown, proofs.Growing.node_right}
 use Rattle.kp_equiv_classes.proofs.building.classes_of_net.Goals as goal
 

@@ -4,8 +4,8 @@ use Rattle.std.proofs.{Math.ListN.get_or-map, lemmas.Bool.cases_lt, lemmas.Bool.
 use Rattle.std.{proofs.lemmas.List.Sums.fails_before_first, proofs.lemmas.List.Sums.passes_at_first, specs.Cmp.Lexicographic.bytes_decides}
 use Rattle.kp_net.specs.{declared.netlist.NetFile.NetFile, declared.netlist.NetReg.NetReg, declared.netlist.Port.Port, Names.same, Names.Differ, Netlist.Net}
 use Rattle.kp_net.specs.Parts.{no_file, no_port, no_reg}
-use Rattle.kp_equiv_trees.specs.{Alike.reg_name, Alike.file_name, Named.reg_names, Named.file_names, Named.sample_names, Classes.place}
-use Rattle.kp_equiv_trees.proofs.Naming.{one_number}
+use Rattle.kp_equiv_classes.specs.{Alike.reg_name, Alike.file_name, Named.reg_names, Named.file_names, Named.sample_names, Classes.place}
+use Rattle.kp_equiv_classes.proofs.NamedAlike.{one_number}
 
 -- the name at the index of a name is this one
 pub at_place : (names : List (List ℕ)) (n : List ℕ) → place names n < length names → n ≡ get_or names (place names n) []

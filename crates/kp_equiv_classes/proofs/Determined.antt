@@ -2,7 +2,7 @@
 use Rattle.std.proofs.Common.{◌≡◌, ◌∙◌, ℕ, ◌==◌, ◌<◌, Bool, List, length, sym, ap}
 use Rattle.std.{proofs.lemmas.Bool.Decides.Decides-eqb, specs.Bool.Decides}
 use Rattle.kp_net.specs.{declared.node.NodeId.NodeId, Netlist.Net}
-use Rattle.kp_equiv_trees.specs.{Alike.Alike, Classes.class_in, Classes.Determines}
+use Rattle.kp_equiv_classes.specs.{Alike.Alike, Classes.class_in, Classes.Determines}
 
 pub id_is : (x y : NodeId) → x.0 ≡ y.0 → x ≡ y
 id_is x y e = ap (λ (n : ℕ). let z : NodeId = record { 0 = n } in z) e

@@ -3,7 +3,7 @@ use Rattle.std.specs.Prelude.{ℕ, ◌<◌, ◌≡◌, not, List, [], ◌∷◌,
 use Rattle.std.specs.List.{filter}
 use Rattle.kp_net.specs.{declared.netlist.NetReg.NetReg, declared.netlist.NetFile.NetFile, declared.netlist.WritePort.WritePort, Names.among, Netlist.Net}
 use Rattle.kp_net.specs.Parts.{no_reg, no_file}
-use Rattle.kp_equiv_trees.specs.{Alike.Alike, Alike.reg_name, Alike.file_name, Named.reg_names, Named.file_names}
+use Rattle.kp_equiv_classes.specs.{Alike.Alike, Alike.reg_name, Alike.file_name, Named.reg_names, Named.file_names}
 
 -- what is compared: the inputs, a register or a file by name, and the three outputs
 pub data Root : Type 0 where

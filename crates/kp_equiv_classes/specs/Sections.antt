@@ -1,8 +1,8 @@
 -- The first of a list of roots that does not agree.
 use Rattle.std.specs.Prelude.{ℕ, ◌+◌, ◌<◌, ◌≡◌, true, false, List, [], ◌∷◌, ◌++◌, length, map, get_or, Option, None, Some}
 use Rattle.kp_net.specs.{Names.among, Netlist.Net}
-use Rattle.kp_equiv_trees.specs.{Alike.reg_name, Named.reg_names, Named.file_names}
-use Rattle.kp_equiv_trees.specs.Roots.{Root, Agrees, Ports, Register, File, Full, Ue, Back, names_of_second}
+use Rattle.kp_equiv_classes.specs.{Alike.reg_name, Named.reg_names, Named.file_names}
+use Rattle.kp_equiv_classes.specs.Roots.{Root, Agrees, Ports, Register, File, Full, Ue, Back, names_of_second}
 
 abbrev pub AgreeUpTo : Net → Net → List Root → ℕ → Type 0
 AgreeUpTo a b rs n = (k : ℕ) → k < n → Agrees a b (get_or rs k Ports)

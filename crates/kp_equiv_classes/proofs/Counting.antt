@@ -3,11 +3,11 @@ use Rattle.std.proofs.Common.{◌≡◌, ◌∙◌, ℕ, zero, suc, ◌+◌, ◌
 use Rattle.std.proofs.{Math.ListN.get_or-append, Math.Seq.get_or-append-add, lemmas.Bool.cases_lt, lemmas.List.length-map, lemmas.List.get_or-map}
 use Rattle.std.specs.List.{filter}
 use Rattle.kp_net.specs.{Names.among, Netlist.Net}
-use Rattle.kp_equiv_trees.specs.Roots.{Root, Ports, Register, File, Full, Ue, Back, names_of_second, roots, root, Agrees, AllAgree, IsFirstDifference}
-use Rattle.kp_equiv_trees.specs.{Alike.reg_name, Alike.file_name, Named.reg_names, Named.file_names}
-use Rattle.kp_equiv_trees.specs.Sections.{Differing, FirstNew, IsFirstNew, behind_regs}
-use Rattle.kp_equiv_trees.proofs.Places.{registers, memories, reg_names_are, reg_count, file_count}
-use Rattle.kp_equiv_trees.proofs.Ordered.{root_is, roots_count, is_new, filter_some, second_never, second_differs, none_of_second}
+use Rattle.kp_equiv_classes.specs.Roots.{Root, Ports, Register, File, Full, Ue, Back, names_of_second, roots, root, Agrees, AllAgree, IsFirstDifference}
+use Rattle.kp_equiv_classes.specs.{Alike.reg_name, Alike.file_name, Named.reg_names, Named.file_names}
+use Rattle.kp_equiv_classes.specs.Sections.{Differing, FirstNew, IsFirstNew, behind_regs}
+use Rattle.kp_equiv_classes.proofs.Places.{registers, memories, reg_names_are, reg_count, file_count}
+use Rattle.kp_equiv_classes.proofs.Ordered.{root_is, roots_count, is_new, filter_some, second_never, second_differs, none_of_second}
 
 -- what was found among the names of the first
 pub new_of : (a b : Net) (names : List (List ℕ)) (i : ℕ) → names ≡ reg_names a → IsFirstNew names b i → IsFirstNew (reg_names a) b i

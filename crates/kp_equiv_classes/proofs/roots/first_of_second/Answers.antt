@@ -1,5 +1,5 @@
-use Rattle.kp_equiv_trees.proofs.{Counting.new_differs, Counting.none_new, Ordered.second_agrees}
-use Rattle.kp_equiv_trees.proofs.roots.first_of_second.Goals as goal
+use Rattle.kp_equiv_classes.proofs.{Counting.new_differs, Counting.none_new, Ordered.second_agrees}
+use Rattle.kp_equiv_classes.proofs.roots.first_of_second.Goals as goal
 
 pub returns-in-Some-clause-first : goal.returns-in-Some-clause-first
 returns-in-Some-clause-first c = λ a b h. new_differs a b c.args.found _ c.in-Some.is h

@@ -1,7 +1,7 @@
 use Rattle.std.proofs.Common.{List, ap, ◌∙◌}
 use Rattle.kp_net.specs.declared.node.NodeId.{NodeId}
-use Rattle.kp_equiv_trees.{specs.Classes.class_in, proofs.Determined.alike_found}
-use Rattle.kp_equiv_trees.proofs.classes.Classes.alike.Goals as goal
+use Rattle.kp_equiv_classes.{specs.Classes.class_in, proofs.Determined.alike_found}
+use Rattle.kp_equiv_classes.proofs.classes.Classes.alike.Goals as goal
 
 pub returns : goal.returns
 returns c =

@@ -1,6 +1,6 @@
 use Rattle.std.proofs.Common.{arith}
-use Rattle.kp_equiv_trees.proofs.Inputs.{none_same, one_more, ports_equal, ports_unequal, lengths_differ}
-use Rattle.kp_equiv_trees.proofs.parts.are_same_ports.Goals as goal
+use Rattle.kp_equiv_classes.proofs.Inputs.{none_same, one_more, ports_equal, ports_unequal, lengths_differ}
+use Rattle.kp_equiv_classes.proofs.parts.are_same_ports.Goals as goal
 
 pub returns-then-xs-ys : goal.returns-then-xs-ys
 returns-then-xs-ys c = lengths_differ c.args.xs.now c.args.ys.now c.if-xs-ys.true

@@ -4,7 +4,7 @@ use Rattle.std.proofs.{Math.Seq.ext_get_or, lemmas.Bool.false≢true}
 use Rattle.std.proofs.lemmas.{Bool.Decides.Decides-and, Bool.Decides.Decides-eqb, Bool.Decides.Decides-like, List.get_or_default}
 use Rattle.std.specs.{Bool.Decides, Cmp.Lexicographic.bytes_decides}
 use Rattle.kp_net.specs.{declared.netlist.Port.Port, Names.same, Parts.no_port}
-use Rattle.kp_equiv_trees.specs.inner.Inputs.{same_port}
+use Rattle.kp_equiv_classes.specs.inner.Inputs.{same_port}
 
 -- two lists of the same length have the same first n ports
 pub record SameFront (xs ys : List Port) (n : ℕ) : Type 0 where

@@ -3,11 +3,11 @@ use Rattle.std.proofs.Common.{◌≡◌, ◌∙◌, ℕ, zero, suc, ◌+◌, ◌
 use Rattle.std.proofs.{Math.ListN.get_or-append, Math.Seq.get_or-append_right, lemmas.Bool.cases_lt, lemmas.Bool.false≢true}
 use Rattle.std.{proofs.lemmas.List.length-map, proofs.lemmas.List.get_or-map, specs.Bool.Decides, specs.List.filter}
 use Rattle.kp_net.specs.{declared.netlist.Parts.Parts, Names.same, Names.among, Names.Differ, Netlist.Net, Parts.no_reg, Parts.no_file}
-use Rattle.kp_equiv_trees.specs.Roots.{Root, Ports, Register, File, Full, Ue, Back, names_of_second, roots, RegsAlike, FilesAlike, PortsAgree, RegisterAgrees, FileAgrees, Agrees, AllAgree, IsFirstDifference}
-use Rattle.kp_equiv_trees.specs.{Alike.reg_name, Alike.file_name, Named.reg_names, Named.file_names, Classes.place}
-use Rattle.kp_equiv_trees.specs.Sections.{AgreeUpTo, Differing, FirstOf, behind_ports, joined}
-use Rattle.kp_equiv_trees.proofs.Naming.{among_at}
-use Rattle.kp_equiv_trees.proofs.Places.{Things, registers, memories, name_is, namesake, missing, related, at_place, reg_names_are, reg_count, file_count}
+use Rattle.kp_equiv_classes.specs.Roots.{Root, Ports, Register, File, Full, Ue, Back, names_of_second, roots, RegsAlike, FilesAlike, PortsAgree, RegisterAgrees, FileAgrees, Agrees, AllAgree, IsFirstDifference}
+use Rattle.kp_equiv_classes.specs.{Alike.reg_name, Alike.file_name, Named.reg_names, Named.file_names, Classes.place}
+use Rattle.kp_equiv_classes.specs.Sections.{AgreeUpTo, Differing, FirstOf, behind_ports, joined}
+use Rattle.kp_equiv_classes.proofs.NamedAlike.{among_at}
+use Rattle.kp_equiv_classes.proofs.Places.{Things, registers, memories, name_is, namesake, missing, related, at_place, reg_names_are, reg_count, file_count}
 
 -- one list of roots after another
 before_joins : (a b : Net) (xs ys : List Root) (m : ℕ) → AgreeUpTo a b xs (length xs) → AgreeUpTo a b ys m → AgreeUpTo a b (xs ++ ys) (length xs + m)

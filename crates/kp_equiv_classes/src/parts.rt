@@ -2,10 +2,10 @@
 ghost use Rattle.std.specs.Prelude.{◌≡◌, ◌<◌, length};
 ghost use Rattle.std.specs.Bool.{Decides};
 ghost use Rattle.kp_net.specs.Parts.{WriteOk};
-ghost use Rattle.kp_equiv_trees.specs.Alike.{Alike};
-ghost use Rattle.kp_equiv_trees.specs.Classes.{Determines};
-ghost use Rattle.kp_equiv_trees.specs.Roots.{RegsAlike, WritesAlike, FilesAlike};
-ghost use Rattle.kp_equiv_trees.specs.inner.Inputs.{same_port};
+ghost use Rattle.kp_equiv_classes.specs.Alike.{Alike};
+ghost use Rattle.kp_equiv_classes.specs.Classes.{Determines};
+ghost use Rattle.kp_equiv_classes.specs.Roots.{RegsAlike, WritesAlike, FilesAlike};
+ghost use Rattle.kp_equiv_classes.specs.inner.Inputs.{same_port};
 
 use crate::classes::Classes;
 use kp_net::{NetFile, NetReg, Netlist, Parts, Port, WritePort};

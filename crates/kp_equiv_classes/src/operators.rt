@@ -1,6 +1,6 @@
 // Commutative operators.
 ghost use Rattle.std.specs.Prelude.{◌≡◌};
-ghost use Rattle.kp_equiv_trees.specs.Alike.{commutes};
+ghost use Rattle.kp_equiv_classes.specs.Alike.{commutes};
 
 use kp_bits::BinOp;
 

@@ -1,7 +1,7 @@
 -- CLASSES of the nodes of two netlists, and names by their indices.
 use Rattle.std.specs.{Prelude.ℕ, Prelude.◌<◌, Prelude.◌≡◌, Prelude.List, Prelude.length, Prelude.get_or, List.position_or_len}
 use Rattle.kp_net.specs.{declared.node.NodeId.NodeId, Names.same, Netlist.Net}
-use Rattle.kp_equiv_trees.specs.Alike.{Alike}
+use Rattle.kp_equiv_classes.specs.Alike.{Alike}
 
 -- the index of a name; for all others the number of names
 abbrev pub place : List (List ℕ) → List ℕ → ℕ

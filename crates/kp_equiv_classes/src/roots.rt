@@ -1,10 +1,10 @@
 // The roots of two netlists, counted, and those that are not compared by name.
 ghost use Rattle.std.specs.Prelude.{◌≡◌, ◌<◌, ◌≤◌, ◌∷◌, [], length, map, None, IfSome};
 ghost use Rattle.kp_net.specs.Netlist.{Net};
-ghost use Rattle.kp_equiv_trees.specs.Classes.{Determines};
-ghost use Rattle.kp_equiv_trees.specs.Named.{reg_names};
-ghost use Rattle.kp_equiv_trees.specs.Roots.{Register, Full, Ue, Back, names_of_second, roots, AllAgree};
-ghost use Rattle.kp_equiv_trees.specs.Sections.{FirstNew, FirstOf};
+ghost use Rattle.kp_equiv_classes.specs.Classes.{Determines};
+ghost use Rattle.kp_equiv_classes.specs.Named.{reg_names};
+ghost use Rattle.kp_equiv_classes.specs.Roots.{Register, Full, Ue, Back, names_of_second, roots, AllAgree};
+ghost use Rattle.kp_equiv_classes.specs.Sections.{FirstNew, FirstOf};
 
 use crate::classes::Classes;
 use kp_net::Netlist;

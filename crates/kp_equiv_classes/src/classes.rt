@@ -1,8 +1,8 @@
 // Classes of nodes, one for all nodes with equivalent trees.
 ghost use Rattle.std.specs.Prelude.{◌≡◌, ◌<◌, length};
 ghost use Rattle.std.specs.Bool.{Decides};
-ghost use Rattle.kp_equiv_trees.specs.Alike.{Alike};
-ghost use Rattle.kp_equiv_trees.specs.Classes.{class_in, Determines};
+ghost use Rattle.kp_equiv_classes.specs.Alike.{Alike};
+ghost use Rattle.kp_equiv_classes.specs.Classes.{class_in, Determines};
 
 use kp_net::{Netlist, NodeId};
 
