@@ -7,3 +7,6 @@ pub mod Jobs
 pub mod Reporting
 pub mod Values
 pub mod Naming
+pub mod Agreeing
+pub mod Sizes
+pub mod GuessSteps

@@ -1,3 +1,4 @@
 pub mod Claims
+pub mod Guessed
 pub mod Runs
 pub mod inner

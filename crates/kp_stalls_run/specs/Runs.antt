@@ -10,7 +10,7 @@ use Rattle.kp_diagram.specs.Claims.{stalls_of}
 use Rattle.kp_stalls.specs.declared.cause.{Cause.Cause, Cause.TheVariants.Squashed, Guess.Guess, Line.Line}
 use Rattle.kp_stalls.specs.{Claims.read_site, Occupants.report, Cycles.lines_from}
 use Rattle.kp_sites.specs.Sites.{sited}
-use Rattle.kp_stalls_guess.specs.Guessed.{guessed_word}
+use Rattle.kp_stalls_run.specs.Guessed.{guessed_word}
 
 -- Sample x, if it is one of stage k, has in cycle T the value that instruction i takes.
 abbrev pub settles : Job → (ℕ → ℕ → ℕ) → (T k i x : ℕ) → Bool

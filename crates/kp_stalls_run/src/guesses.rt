@@ -8,6 +8,7 @@ ghost use Rattle.kp_synth_tables.specs.Keys.{keys_of};
 ghost use Rattle.kp_stalls_run.specs.Runs.{cause_with as cause_with_in, guess_with as guess_with_in, guessed_in, line_with as line_with_in, wrong_with as wrong_with_in};
 ghost use Rattle.kp_stalls_run.specs.inner.Replays.{HoldsState, names_guess as names_guess_in, names_one, run_at};
 
+use crate::guess_registers::guessed;
 use kp_base::NoMemory;
 use kp_bits::Bits;
 use kp_cycle::Sim;
@@ -17,7 +18,6 @@ use kp_run::laws::a_job_gives_its_own_inputs;
 use kp_run::step;
 use kp_sites::Sites;
 use kp_stalls::{Cause, Guess, Line, Wrong};
-use kp_stalls_guess::guessed;
 use kp_synth::synth;
 use kp_synth_tables::Layout;
 use std::alloc::Global;

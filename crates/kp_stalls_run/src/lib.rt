@@ -4,6 +4,7 @@
 //! allocated before anything is written, and out of memory is the only error.
 #![tactic(auto)]
 
+mod guess_registers;
 mod guesses;
 pub mod laws;
 mod reach;

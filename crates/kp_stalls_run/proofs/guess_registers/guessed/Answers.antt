@@ -1,7 +1,7 @@
 use Rattle.std.proofs.Common.{◌∙◌, sym}
 use Rattle.kp_net.specs.Netlist.{cells_of, stalled}
-use Rattle.kp_stalls_guess.proofs.Steps.{disputed, undisputed}
-use Rattle.kp_stalls_guess.proofs.guessed.Goals as goal
+use Rattle.kp_stalls_run.proofs.GuessSteps.{disputed, undisputed}
+use Rattle.kp_stalls_run.proofs.guess_registers.guessed.Goals as goal
 
 pub returns-then-is_disputed : goal.returns-then-is_disputed
 returns-then-is_disputed c = λ st i h.

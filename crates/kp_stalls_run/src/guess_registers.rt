@@ -1,7 +1,6 @@
 //! The values that were guessed, read from the registers of a netlist that runs.
 //!
 //! `specs/Guessed.antt` defines the value that was guessed for a register, by the guesses that are pending in a stage of the pipeline.
-#![tactic(auto)]
 
 ghost use Rattle.std.specs.Prelude.{◌≡◌, ◌<◌, ◌≤◌, ◌^◌, ◌%◌, true, length};
 ghost use Rattle.std.specs.List.{list_any};
@@ -10,15 +9,20 @@ ghost use Rattle.kp_net.specs.Netlist.{cells_of, stalled};
 ghost use Rattle.kp_pipeline.specs.Pipeline.{Inputs, PipelineState};
 ghost use Rattle.kp_synth_registers.specs.Holding.{Holds, kept_in};
 ghost use Rattle.kp_synth_tables.specs.Keys.{HasKey, guess_at, guesses_of, is_carried, key_width, keys_of};
-ghost use Rattle.kp_stalls_guess.specs.Guessed.{guessed_word, is_other_guess};
-ghost use Rattle.kp_stalls_guess.specs.inner.Held.{first_word, held_from, is_disputed as is_disputed_in, is_other_value, word_of};
+ghost use Rattle.kp_stalls_run.specs.Guessed.{guessed_word, is_other_guess};
+ghost use Rattle.kp_stalls_run.specs.inner.Held.{first_word, held_from, is_disputed as is_disputed_in, is_other_value, word_of};
 
 use kp_bits::Bits;
 use kp_cycle::Sim;
 use kp_synth_tables::{GuessSlot, Key, Layout};
 
 /// The value that was guessed for a register, by the guesses that a stage holds in a netlist whose registers hold the state of the pipeline.
-pub fn guessed(layout: &Layout<'_>, sim: &Sim<'_>, stage: usize, register: usize) -> Option<Bits>
+pub(crate) fn guessed(
+    layout: &Layout<'_>,
+    sim: &Sim<'_>,
+    stage: usize,
+    register: usize,
+) -> Option<Bits>
     requires registers { length sim.now.net.parts.regs ≡ length (keys_of layout.now) }
     requires few { length (guesses_of layout.now) ≤ 8 }
     requires stage { stage < layout.now.stages.value }
@@ -53,7 +57,7 @@ fn is_disputed(
 }
 
 // The first guess of a register that is pending in a stage.
-#[tactic(auto, using(crate::proofs::Steps::first_here, crate::proofs::Steps::first_next, crate::proofs::Steps::first_end))]
+#[tactic(auto, using(crate::proofs::GuessSteps::first_here, crate::proofs::GuessSteps::first_next, crate::proofs::GuessSteps::first_end))]
 fn first(layout: &Layout<'_>, sim: &Sim<'_>, stage: usize, register: usize) -> Option<Bits>
     requires registers { length sim.now.net.parts.regs ≡ length (keys_of layout.now) }
     requires few { length (guesses_of layout.now) ≤ 8 }
@@ -70,7 +74,7 @@ fn first(layout: &Layout<'_>, sim: &Sim<'_>, stage: usize, register: usize) -> O
 }
 
 // Whether a guess of a register that is pending in a stage has another value.
-#[tactic(auto, using(crate::proofs::Steps::other_here, crate::proofs::Steps::other_next, crate::proofs::Steps::other_end))]
+#[tactic(auto, using(crate::proofs::GuessSteps::other_here, crate::proofs::GuessSteps::other_next, crate::proofs::GuessSteps::other_end))]
 fn differs(layout: &Layout<'_>, sim: &Sim<'_>, stage: usize, register: usize, value: Bits) -> bool
     requires registers { length sim.now.net.parts.regs ≡ length (keys_of layout.now) }
     requires few { length (guesses_of layout.now) ≤ 8 }

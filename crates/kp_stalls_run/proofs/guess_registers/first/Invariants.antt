@@ -1,8 +1,8 @@
 use Rattle.std.proofs.Common.{◌≡◌, drop}
 use Rattle.kp_net.specs.Netlist.{cells_of, stalled}
 use Rattle.kp_synth_tables.specs.Keys.{guesses_of}
-use Rattle.kp_stalls_guess.specs.inner.Held.{first_word}
-use Rattle.kp_stalls_guess.proofs.first.Given as goal
+use Rattle.kp_stalls_run.specs.inner.Held.{first_word}
+use Rattle.kp_stalls_run.proofs.guess_registers.first.Given as goal
 
 abbrev pub invariant-loop-g : goal.invariant-loop-g
 invariant-loop-g l =

@@ -3,8 +3,8 @@ use Rattle.kp_bits.specs.Word.{Word, word}
 use Rattle.kp_net.specs.Netlist.{cells_of, stalled}
 use Rattle.kp_synth_registers.specs.Holding.{kept_in}
 use Rattle.kp_synth_tables.specs.{declared.key.GuessSlot.GuessSlot, declared.key.Key.TheVariants.Guess, Keys.guess_at, Keys.is_carried}
-use Rattle.kp_stalls_guess.proofs.{Sizes.guess_sized, Steps.is_pending}
-use Rattle.kp_stalls_guess.proofs.pending.Goals as goal
+use Rattle.kp_stalls_run.proofs.{Sizes.guess_sized, GuessSteps.is_pending}
+use Rattle.kp_stalls_run.proofs.guess_registers.pending.Goals as goal
 
 pub returns-then-slot-register : goal.returns-then-slot-register
 returns-then-slot-register c =

@@ -3,7 +3,7 @@ use Rattle.std.proofs.Common.{◌≡◌, ◌∙◌, ℕ, List, [], ◌∷◌, Op
 use Rattle.std.proofs.lemmas.{Bool.eqb-true, Bool.eqb-false, Bool.ne_eqb, Bool.false≢true, Option.same_Some}
 use Rattle.std.specs.{Prelude.◌==◌, List.list_any}
 use Rattle.kp_pipeline.specs.Sequential.{PendingGuess}
-use Rattle.kp_stalls_guess.specs.Guessed.{agreed, first_guess, guessed_value, is_other_guess}
+use Rattle.kp_stalls_run.specs.Guessed.{agreed, first_guess, guessed_value, is_other_guess}
 use Rattle.kp_machine.proofs.Cases.{by_test}
 
 -- a guess of register t with the value v

@@ -9,9 +9,9 @@ use Rattle.kp_pipeline.specs.{Sequential.PendingGuess, Pipeline.Inputs, Pipeline
 use Rattle.kp_synth_tables.specs.declared.key.{Key.TheVariants.Pending, Key.TheVariants.Guess, GuessSlot.GuessSlot}
 use Rattle.kp_synth_tables.specs.Keys.{guesses_of, is_carried, target_at}
 use Rattle.kp_synth_registers.specs.Holding.{Holds, guess_passes, kept_in, pending_guess, some_guess, some_of}
-use Rattle.kp_stalls_guess.specs.Guessed.{agreed, as_word, first_guess, guessed_value, guessed_word, is_other_guess}
-use Rattle.kp_stalls_guess.specs.inner.Held.{first_word, held_from, is_disputed, is_other_value, value_of, word_of}
-use Rattle.kp_stalls_guess.proofs.Agreeing.{same_value}
+use Rattle.kp_stalls_run.specs.Guessed.{agreed, as_word, first_guess, guessed_value, guessed_word, is_other_guess}
+use Rattle.kp_stalls_run.specs.inner.Held.{first_word, held_from, is_disputed, is_other_value, value_of, word_of}
+use Rattle.kp_stalls_run.proofs.Agreeing.{same_value}
 use Rattle.kp_machine.proofs.Cases.{by_test}
 
 abbrev or_else : {X : Type 0} → Option X → Option X → Option X

@@ -1,2 +1,0 @@
-pub mod Guessed
-pub mod inner
