@@ -3,7 +3,8 @@ ghost use Rattle.std.specs.Prelude.{◌≡◌};
 ghost use Rattle.kp_vlog.specs.Tokens.{front};
 ghost use Rattle.kp_vlog.specs.inner.Leads.{is_closing, lead_of};
 
-use kp_vlog::{Front, Keyword, VKind, read_front};
+use crate::front::{Front, read_front};
+use crate::token::{Keyword, VKind};
 
 /// What the front of a text means for the end of its first module.
 #[derive(Clone, Copy)]
