@@ -1,3 +1,3 @@
 pub mod Folds
-pub mod Front
+pub mod Chains
 pub mod Unfolded

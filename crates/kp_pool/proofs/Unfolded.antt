@@ -4,7 +4,7 @@ use Rattle.std.proofs.{Math.ListN.get_or-append, Math.Seq.get_or-append_seam, le
 use Rattle.std.{proofs.lemmas.List.Elements.All-head, proofs.lemmas.List.Elements.All-tail, specs.List.list_all}
 use Rattle.kp_bits.specs.Operators.{is_shift}
 use Rattle.kp_net.specs.declared.node.{NodeId.NodeId, Kind.Kind}
-use Rattle.kp_net.specs.declared.node.Kind.TheVariants.{Const, Ext, Sample, Reg, Word, Not, Binary, Mux, Concat, Slice}
+use Rattle.kp_net.specs.declared.node.Kind.TheVariants.{Not, Binary, Mux, Concat, Slice}
 use Rattle.kp_net.specs.{declared.node.Node.Node, Widths.no_node, Widths.KindOk, Widths.NodeOk, Widths.AllRight}
 use Rattle.kp_pool.specs.Folding.{is_const, is_not, is_masking, is_plain, is_past, folds, foldable, NoneFoldable}
 

@@ -1,3 +1,4 @@
 -- Definitions for private contracts and proofs of this crate only: no public clause depends on them.
+pub mod Chains
 pub mod Folds
-pub mod Front
+pub mod Hashes

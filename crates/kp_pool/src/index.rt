@@ -1,64 +1,79 @@
 // A hash index of nodes.
-ghost use Rattle.std.specs.Prelude.{◌≡◌, ◌<◌, ◌++◌, ◌∷◌, ◌⊎◌, [], length, get_or, MatchOption};
+ghost use Rattle.std.specs.Prelude.{◌≡◌, ◌<◌, ◌≤◌, ◌++◌, ◌∷◌, [], length, get_or, IfOk, MatchOption, vec_capacity};
 ghost use Rattle.kp_net.specs.Widths.{no_node};
 ghost use Rattle.kp_net.specs.inner.Lookup.{LacksBelow};
+ghost use Rattle.kp_pool.specs.inner.Chains.{bucket_of, Chains};
 
-use indexmap::IndexSet;
+use crate::hash::hash;
+use kp_base::NoMemory;
 use kp_net::Node;
 use std::alloc::Global;
-use std::marker::Model;
 
-/// Nodes by their numbers, from 0 on, and the number of each node, looked up in about constant time.
+/// A hash table of the nodes of a list, which is kept elsewhere. Each bucket has a chain of nodes, from the last one back.
+///
+/// A link is one more than the number of a node, or 0 at the end of a chain.
 pub(crate) struct Index {
-    nodes: IndexSet<Node>,
+    // The first link of each bucket.
+    heads: Vec<u32>,
+    // The link after each node.
+    links: Vec<u32>,
 }
 
 impl Drop for Index {
     fn drop(self) {
-        let Index { nodes } = self;
-        drop(nodes);
+        let Index { heads, links } = self;
+        drop(heads);
+        drop(links);
     }
-}
-
-impl Model for Index {
-    ghost use Rattle.std.specs.Prelude.{List};
-    ghost use Rattle.kp_net.specs.declared.node.Node.{Node};
-
-    ghost Value = { List Node };
-
-    ghost view = { λ x. x.nodes.keys };
 }
 
 impl Index {
-    /// An empty index; memory is allocated as nodes are added.
-    pub fn new(alloc: Global) -> Index
-        ensures { result ≡ [] }
+    /// The index of an empty list, with capacity for this many nodes. Error: out of memory.
+    pub fn reserve(alloc: Global, nodes: u32) -> Result<Index, NoMemory>
+        ensures indexes { IfOk result (λ x. Chains x.heads.items x.links.items []) }
+        ensures room { IfOk result (λ x. nodes ≤ vec_capacity x.links) }
     {
-        Index {
-            nodes: IndexSet::new(alloc),
+        let heads = vec![in alloc; 0; nodes as usize / 8 + 1]?;
+        let links = Vec::with_capacity(alloc, nodes as usize)?;
+        Ok(Index { heads, links })
+    }
+
+    /// The number of the node in the list, or `None` if the list lacks it.
+    pub fn number(&self, nodes: &[Node], n: &Node) -> Option<usize>
+        requires { Chains self.now.heads.items self.now.links.items nodes.now }
+        ensures { MatchOption result (LacksBelow nodes.now n.now (length nodes.now)) (λ i. (i < length nodes.now) × (get_or nodes.now i no_node ≡ n.now)) }
+    {
+        let mut link = self.heads[self.bucket(n)];
+        while link > 0 {
+            let i = link as usize - 1;
+            if nodes[i] == *n {
+                return Some(i);
+            }
+            link = self.links[i];
         }
+        None
     }
 
-    /// The number of nodes.
-    pub fn len(&self) -> usize
-        ensures { result ≡ length self.now }
+    /// The node is appended to these, for which there is capacity.
+    pub fn append(&mut self, nodes: &[Node], n: &Node)
+        requires indexes { Chains self.old.heads.items self.old.links.items nodes.now }
+        requires room { length nodes.now < vec_capacity self.old.links }
+        requires few { length nodes.now < 16777216 }
+        ensures indexes { Chains self.new.heads.items self.new.links.items (nodes.now ++ n.now ∷ []) }
+        ensures room { vec_capacity self.old.links ≤ vec_capacity self.new.links }
     {
-        self.nodes.len()
+        let bucket = self.bucket(n);
+        let _ = self.links.push(self.heads[bucket]);
+        self.heads[bucket] = nodes.len() as u32 + 1;
     }
 
-    /// The number of a node, or `None` if it is not in the index.
-    pub fn number(&self, n: &Node) -> Option<usize>
-        ensures { MatchOption result (LacksBelow self.now n.now (length self.now)) (λ i. (i < length self.now) × (get_or self.now i no_node ≡ n.now)) }
+    // The bucket of a node.
+    #[tactic(auto, unfolding(crate::specs::inner::Chains::bucket_of))]
+    fn bucket(&self, n: &Node) -> usize
+        requires { 1 ≤ length self.now.heads.items }
+        ensures bucket { result ≡ bucket_of (length self.now.heads.items) n.now }
+        ensures below { result < length self.now.heads.items }
     {
-        self.nodes.get_index_of(n)
-    }
-
-    /// Adds a node under the next number, unless out of memory.
-    pub fn add(&mut self, n: &Node)
-        requires { LacksBelow self.old n.now (length self.old) }
-        ensures { (self.new ≡ self.old) ⊎ (self.new ≡ self.old ++ n.now ∷ []) }
-    {
-        let copy = n.copied();
-        let _ = self.nodes.insert_full(copy);
+        hash(n) as usize % self.heads.len()
     }
 }

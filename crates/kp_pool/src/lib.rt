@@ -2,6 +2,7 @@
 #![tactic(auto)]
 
 mod fold;
+mod hash;
 mod index;
 mod pool;
 

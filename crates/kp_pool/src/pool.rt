@@ -1,13 +1,12 @@
 // The pool in which nodes are built: no node is added twice, and foldable ones are folded.
-ghost use Rattle.std.specs.Prelude.{◌≡◌, ◌+◌, ◌<◌, ◌≤◌, ◌++◌, ◌∷◌, [], length, IfOk, false, get_or, MatchOption, vec_len, vec_capacity};
+ghost use Rattle.std.specs.Prelude.{◌≡◌, ◌+◌, ◌<◌, ◌≤◌, ◌++◌, ◌∷◌, [], length, IfOk, false, get_or, vec_len, vec_capacity};
 ghost use Rattle.kp_net.specs.Nodes.{Cells, word_at, word_of_kind, word_of_node};
 ghost use Rattle.kp_net.specs.Widths.{NodeOk, AllRight, Distinct, is_cell, no_node, wide};
 ghost use Rattle.kp_net.specs.Depth.{depth, depth_of};
 ghost use Rattle.kp_pool.specs.Folding.{foldable, NoneFoldable};
 ghost use Rattle.kp_net.specs.Parts.{PartsOk};
 ghost use Rattle.kp_net.specs.Growth.{Held, Wire, Kept, Grown, AddsOnly};
-ghost use Rattle.kp_net.specs.inner.Lookup.{LacksBelow};
-ghost use Rattle.kp_pool.specs.inner.Front.{IsFront};
+ghost use Rattle.kp_pool.specs.inner.Chains.{Chains};
 
 use crate::fold::{Folded, fold};
 use crate::index::Index;
@@ -20,7 +19,6 @@ use std::marker::Model;
 pub struct Pool {
     nodes: Vec<Node>,
     spare: u32,
-    // An index of the first nodes: of all of them, unless an allocation failed.
     index: Index,
 }
 
@@ -41,13 +39,13 @@ impl Model for Pool {
     ghost use Rattle.kp_net.specs.Widths.{AllRight, Distinct};
     ghost use Rattle.kp_pool.specs.Folding.{NoneFoldable};
     ghost use Rattle.kp_net.specs.Growth.{Held};
-    ghost use Rattle.kp_pool.specs.inner.Front.{IsFront};
+    ghost use Rattle.kp_pool.specs.inner.Chains.{Chains};
 
     ghost Value = { Held };
 
     ghost view = { λ p. record { nodes = p.nodes.items; spare = p.spare } };
 
-    ghost invariant = { λ p. (vec_len p.nodes + p.spare ≤ vec_capacity p.nodes) × (vec_len p.nodes + p.spare ≤ 16777216) × AllRight p.nodes.items × Distinct p.nodes.items × NoneFoldable p.nodes.items × IsFront p.index p.nodes.items };
+    ghost invariant = { λ p. (vec_len p.nodes + p.spare ≤ vec_capacity p.nodes) × (vec_len p.nodes + p.spare ≤ 16777216) × AllRight p.nodes.items × Distinct p.nodes.items × NoneFoldable p.nodes.items × Chains p.index.heads.items p.index.links.items p.nodes.items × (vec_len p.nodes + p.spare ≤ vec_capacity p.index.links) };
 }
 
 impl Pool {
@@ -57,10 +55,11 @@ impl Pool {
         ensures { IfOk result (λ p. p ≡ record { nodes = []; spare = nodes }) }
     {
         let room = Vec::with_capacity(alloc, nodes as usize)?;
+        let index = Index::reserve(alloc, nodes)?;
         Ok(Pool {
             nodes: room,
             spare: nodes,
-            index: Index::new(alloc),
+            index,
         })
     }
 
@@ -155,11 +154,11 @@ impl Pool {
         ensures distinct { Distinct self.new.nodes }
         ensures folded { NoneFoldable self.new.nodes }
     {
-        match find(self.nodes.as_slice(), &self.index, &n) {
+        match self.index.number(self.nodes.as_slice(), &n) {
             Some(i) => NodeId(i as u32),
             None => {
                 let i = self.nodes.len() as u32;
-                note(&mut self.index, self.nodes.as_slice(), &n);
+                self.index.append(self.nodes.as_slice(), &n);
                 add(&mut self.nodes, n);
                 self.spare -= 1;
                 NodeId(i)
@@ -176,40 +175,4 @@ fn add(nodes: &mut Vec<Node>, n: Node)
     ensures capacity { vec_capacity nodes.old ≤ vec_capacity nodes.new }
 {
     let _ = nodes.push(n);
-}
-
-// Adds the node after these to the index. After the first failed allocation the index isn't extended any more.
-fn note(index: &mut Index, nodes: &[Node], n: &Node)
-    requires front { IsFront index.old nodes.now }
-    requires lacks { LacksBelow nodes.now n.now (length nodes.now) }
-    ensures { IsFront index.new (nodes.now ++ n.now ∷ []) }
-{
-    if index.len() == nodes.len() {
-        index.add(n);
-    }
-}
-
-// The first node that equals `n`: found by the index, or by a search of the nodes that the index lacks.
-fn find(nodes: &[Node], index: &Index, n: &Node) -> Option<usize>
-    requires { IsFront index.now nodes.now }
-    ensures { MatchOption result (LacksBelow nodes.now n.now (length nodes.now)) (λ i. (i < length nodes.now) × (get_or nodes.now i no_node ≡ n.now)) }
-{
-    match index.number(n) {
-        Some(i) => Some(i),
-        None => search(nodes, index.len(), n),
-    }
-}
-
-// The first node from this number on that equals `n`.
-fn search(nodes: &[Node], from: usize, n: &Node) -> Option<usize>
-    requires within { from ≤ length nodes.now }
-    requires lacks { LacksBelow nodes.now n.now from }
-    ensures { MatchOption result (LacksBelow nodes.now n.now (length nodes.now)) (λ i. (i < length nodes.now) × (get_or nodes.now i no_node ≡ n.now)) }
-{
-    for i in from..nodes.len() {
-        if nodes[i] == *n {
-            return Some(i);
-        }
-    }
-    None
 }

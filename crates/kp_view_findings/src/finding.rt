@@ -73,7 +73,7 @@ impl<'t> Findings<'t> {
     ) -> Result<(), NoMemory>
         ensures noted { OnOk result (noted self.new ≡ with_finding (noted self.old) (record { place = place; message = message.entry })) }
         ensures unchanged { OnErr result (noted self.new ≡ noted self.old) }
-        ensures doubtful { OnOk result (self.new.doubtful ≡ with_first self.old.doubtful name.now true) }
+        ensures doubtful { OnOk result (value_of self.new.doubtful ≡ with_first (value_of self.old.doubtful) name.now true) }
     {
         self.doubtful.set_first(name, true)?;
         self.add(place, message)

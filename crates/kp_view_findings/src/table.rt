@@ -2,15 +2,15 @@
 ghost use Rattle.std.specs.Prelude.{◌≡◌, [], OnOk};
 ghost use Rattle.kp_view_findings.specs.Tables.{value_of, with_first, with_value};
 
-use indexmap::IndexMap;
 use kp_ast::Name;
 use kp_base::NoMemory;
 use std::alloc::Global;
+use std::collections::HashMap;
 use std::marker::Model;
 
-/// Names with what is known of each, which contracts see as the list of them, in the order in which they were noted.
+/// Names with what is known of each. Contracts see a list of them, and say what it has for each name.
 pub struct Table<V> {
-    values: IndexMap<Name, V>,
+    values: HashMap<Name, V>,
 }
 
 impl<V: Drop> Drop for Table<V> {
@@ -34,7 +34,7 @@ impl<V: Copy> Table<V> {
         ensures { result ≡ [] }
     {
         Table {
-            values: IndexMap::new(alloc),
+            values: HashMap::new(alloc),
         }
     }
 
@@ -47,7 +47,7 @@ impl<V: Copy> Table<V> {
 
     /// Notes a value in the place of an earlier one.
     pub fn set(&mut self, name: &Name, value: V) -> Result<(), NoMemory>
-        ensures { OnOk result (self.new ≡ with_value self.old name.now value) }
+        ensures { OnOk result (value_of self.new ≡ with_value (value_of self.old) name.now value) }
     {
         self.values.insert(name.clone()?, value)?;
         Ok(())
@@ -55,7 +55,7 @@ impl<V: Copy> Table<V> {
 
     /// Notes a value where none is noted yet.
     pub fn set_first(&mut self, name: &Name, value: V) -> Result<(), NoMemory>
-        ensures { OnOk result (self.new ≡ with_first self.old name.now value) }
+        ensures { OnOk result (value_of self.new ≡ with_first (value_of self.old) name.now value) }
     {
         if self.get(name).is_some() {
             return Ok(());

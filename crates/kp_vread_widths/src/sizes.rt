@@ -4,11 +4,11 @@ ghost use Rattle.kp_vlog.specs.Scope.{address_width as address_width_of, or_zero
 ghost use Rattle.kp_vread_widths.specs.Tables.{AlikeSizes};
 ghost use Rattle.kp_vread_widths.specs.inner.Sizing.{with_item};
 
-use indexmap::IndexMap;
 use kp_base::NoMemory;
 use kp_net::{Key, Label};
 use kp_vlog::{Item, VModule, VPort};
 use std::alloc::Global;
+use std::collections::HashMap;
 use std::marker::Model;
 
 /// The number of the highest bit, and for a file that of its last word; otherwise 0.
@@ -22,7 +22,7 @@ pub struct Size {
 ///
 /// Contracts see the names with their sizes.
 pub struct Sizes<'m> {
-    table: IndexMap<Key<'m>, Size>,
+    table: HashMap<Key<'m>, Size>,
 }
 
 impl Drop for Sizes<'_> {
@@ -61,7 +61,7 @@ impl<'m> Sizes<'m> {
         ensures { result ≡ [] }
     {
         Sizes {
-            table: IndexMap::new(alloc),
+            table: HashMap::new(alloc),
         }
     }
 

@@ -4,19 +4,19 @@ ghost use Rattle.kp_vlog.specs.Occurrences.{start_in};
 ghost use Rattle.kp_vread_widths.specs.Tables.{found};
 ghost use Rattle.kp_vread_widths.specs.inner.Starting.{StartsAt};
 
-use indexmap::IndexMap;
 use kp_base::NoMemory;
 use kp_bits::Literal;
 use kp_net::{Key, Label};
 use kp_vlog::Init;
 use std::alloc::Global;
+use std::collections::HashMap;
 use std::marker::Model;
 
 /// The literals that the registers of a module start with, looked up in about constant time.
 ///
 /// Contracts see the names with their literals.
 pub struct Starts<'m> {
-    table: IndexMap<Key<'m>, Literal>,
+    table: HashMap<Key<'m>, Literal>,
 }
 
 impl Drop for Starts<'_> {
@@ -41,7 +41,7 @@ impl<'m> Starts<'m> {
         ensures { IfOk result (λ s. (n : List ℕ) → found s n ≡ start_in inits.now n) }
     {
         let mut starts = Starts {
-            table: IndexMap::new(alloc),
+            table: HashMap::new(alloc),
         };
         let mut left = inits.len();
         'inits: while left > 0 {
