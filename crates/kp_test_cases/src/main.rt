@@ -85,7 +85,7 @@ fn print_case(rt: &impl Print, alloc: Global, line: &[u8], input: &[u8]) -> Resu
 fn print_call(rt: &impl Print, alloc: Global, line: &str, input: &[u8]) -> io::Result<()> {
     let words = words_in(alloc, line)?;
     let mut streams = Options::of(alloc, line)?.streams(alloc, input)?;
-    let status = run(alloc, &words, &mut streams)?;
+    let status = run(alloc, &words, &mut streams);
     print_result(rt, alloc, line, status, &streams)
 }
 

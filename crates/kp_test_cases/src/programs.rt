@@ -7,40 +7,38 @@ use kp_tool::tool;
 use kp_view::view;
 use kp_view_explain::{HELP, Order, asks_help, explain_source};
 use kp_view_words::Request as ViewRequest;
-use std::alloc::{AllocError, Global};
+use std::alloc::Global;
 
 /// Calls the program that the words begin with. Without one of the four programs nothing is called, and the status is 1.
-pub fn run(alloc: Global, words: &[String], streams: &mut Streams) -> Result<u8, AllocError> {
+pub fn run(alloc: Global, words: &[String], streams: &mut Streams) -> u8 {
     let Some((program, rest)) = words.split_first() else {
-        return Ok(1);
+        return 1;
     };
     match program.as_str() {
-        "kp" => Ok(tool(alloc, rest, &mut streams.source, &mut streams.out)),
-        "kpview" => run_view(alloc, rest, streams),
-        "kpcore" => {
-            let request = CoreRequest::of(rest);
-            Ok(run_core(
+        "kp" => tool(alloc, rest, &mut streams.source, &mut streams.out),
+        "kpview" => {
+            let request = ViewRequest::of(rest);
+            view(
                 alloc,
                 &request,
                 &mut streams.source,
                 &mut streams.out,
                 &mut streams.err,
-            ))
+            )
         }
-        "explain" => Ok(explain(alloc, words, &mut streams.source, &mut streams.out)),
-        _ => Ok(1),
+        "kpcore" => {
+            let request = CoreRequest::of(rest);
+            run_core(
+                alloc,
+                &request,
+                &mut streams.source,
+                &mut streams.out,
+                &mut streams.err,
+            )
+        }
+        "explain" => explain(alloc, words, &mut streams.source, &mut streams.out),
+        _ => 1,
     }
-}
-
-fn run_view(alloc: Global, words: &[String], streams: &mut Streams) -> Result<u8, AllocError> {
-    let request = ViewRequest::of(alloc, words).map_err(|_| AllocError)?;
-    Ok(view(
-        alloc,
-        &request,
-        &mut streams.source,
-        &mut streams.out,
-        &mut streams.err,
-    ))
 }
 
 fn explain(alloc: Global, words: &[String], source: &mut MemSource, sink: &mut MemSink) -> u8 {

@@ -8,7 +8,7 @@ use kp_base::{NoMemory, Refusal, Refused, SinkFault};
 use kp_view_words::Topic;
 
 /// Why there is no specified outcome: the three failures.
-#[derive(Clone, Copy, PartialEq, Eq)]
+#[derive(Clone, Copy)]
 pub enum Stop {
     ReadFault,
     WriteFault,
@@ -29,7 +29,7 @@ impl Stop {
 }
 
 /// What is to be printed on standard error.
-#[derive(Clone, Copy, PartialEq, Eq)]
+#[derive(Clone, Copy)]
 pub enum Complaint {
     /// The words aren't accepted.
     BadWords(Topic),
@@ -40,7 +40,7 @@ pub enum Complaint {
 }
 
 /// Why a call ends early. A complaint is still to be printed.
-#[derive(Clone, Copy, PartialEq, Eq)]
+#[derive(Clone, Copy)]
 pub enum Failure {
     Complained(Complaint),
     Stopped(Stop),

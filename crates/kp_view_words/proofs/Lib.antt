@@ -1,2 +1,2 @@
-pub mod Parses
+pub mod Asking
 pub mod Rests

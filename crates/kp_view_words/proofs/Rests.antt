@@ -1,11 +1,9 @@
--- The words after a number: names of stages and a file; and what all words ask for.
-use Rattle.std.proofs.Common.{◌≡◌, ◌∙◌, ℕ, ◌+◌, ◌-◌, ◌<◌, Bool, cond, true, false, ◌||◌, List, [], ◌∷◌, ◌++◌, map, length, take, drop, Option, Some, None, refl, sym, ap, ap₂, arith}
-use Rattle.std.proofs.lemmas.{Option.slice_get-get_or, List.map-append, List.length-drop, List.length-map, List.length-append, List.take_all}
+-- The words after a number: names of stages and a file.
+use Rattle.std.proofs.Common.{◌≡◌, ◌∙◌, ℕ, ◌+◌, ◌-◌, ◌<◌, Bool, cond, true, false, List, [], ◌∷◌, ◌++◌, map, length, take, Option, Some, None, refl, sym, ap, ap₂, arith}
+use Rattle.std.proofs.lemmas.{Option.slice_get-get_or, List.map-append, List.length-map, List.length-append}
 use Rattle.std.proofs.Math.Seq.{take-append_seam, get_or-append_seam}
-use Rattle.std.specs.{Prelude.slice_get, Prelude.nat_lt, Prelude.option_and_then, List.IsLastAndRest, List.list_all, List.list_any, Option.option_map_or}
-use Rattle.kp_command_line.specs.Programs.{begins_with_dash}
-use Rattle.kp_view_words.specs.Words.{Task, Text, asked_for, asked_or, asks_help, file_in, flagged_task, help, is_file_after, help_place, is_help_flag, is_help_word, is_name, is_version_flag, names_in, run_with, task_named, task_of, task_with, topic_of, version, word_named}
-use Rattle.kp_view_words.specs.{inner.Matching.word_of, declared.words.Word.Word}
+use Rattle.std.specs.{Prelude.slice_get, Prelude.option_and_then, List.IsLastAndRest, List.list_all, Option.option_map_or}
+use Rattle.kp_view_words.specs.Words.{Text, file_in, is_file_after, is_name, names_in, run_with}
 
 -- some names, and a last word
 module _ (names : List Text) (last : Text) where
@@ -68,44 +66,3 @@ pub run_some : (count : ℕ) (rest names : List Text) (file : Option Text) → n
 run_some count rest names file n f h =
     ap₂ (λ (ns : List Text) (o : Option Text). Some (record { run = record { count = count; names = ns }; file = o })) n f
     ∙ sym (ap (λ b. cond b (Some (record { run = record { count = count; names = names_in rest }; file = file_in rest })) None) h)
-
--- what is asked for where a word begins with `-`
-pub dash_flagged : (all : List Text) → list_any begins_with_dash all ≡ true → flagged_task all ≡ task_of all
-dash_flagged all h = sym (rw h refl)
-
--- what a word asks for, with the words after it
-with_word : (word : Word) (name : Text) (rest : List Text) (many : Bool) → nat_lt 14 (length rest) ≡ many
-    → Some word ≡ cond many None (word_named name) → cond many None (option_and_then (λ w. task_with w rest) (word_named name)) ≡ task_with word rest
-with_word word name rest true e h = cc h
-with_word word name rest false e h = ap (option_and_then (λ w. task_with w rest)) (sym h)
-
-pub task_of_word : (all : List Text) (word : Word) → list_any begins_with_dash all ≡ false → Some word ≡ word_of all → task_of all ≡ task_with word (drop 1 all)
-task_of_word [] word free h = cc h
-task_of_word (name ∷ rest) word free h =
-    let named : task_named (name ∷ rest) ≡ task_with word rest = with_word word name rest (nat_lt 14 (length rest)) refl h in
-    rw free named
-
--- the rest of a list from a place on
-pub rest_is : {X : Type 0} (rest words : List X) (n : ℕ) → rest ≡ take (length words - n) (drop n words) → rest ≡ drop n words
-rest_is rest words n is = is ∙ take_all (length words - n) (drop n words) (let e = length-drop n words in omega (arith, e))
-
--- what the words ask for
-pub asked_version : (all : List Text) → asks_help all ≡ false → list_any is_version_flag all ≡ true → version ≡ asked_for all
-asked_version all h v = sym (ap₂ (λ (b c : Bool). cond b (help (topic_of all)) (cond c version (asked_or (topic_of all) (task_of all)))) h v)
-
-pub asked_task : (all : List Text) (task : Option Task) → asks_help all ≡ false → list_any is_version_flag all ≡ false → task ≡ task_of all
-    → asked_or (topic_of all) task ≡ asked_for all
-asked_task all task h v is =
-    ap (asked_or (topic_of all)) is
-    ∙ sym (ap₂ (λ (b c : Bool). cond b (help (topic_of all)) (cond c version (asked_or (topic_of all) (task_of all)))) h v)
-
--- the first word isn't `help`
-abbrev place_by : Bool → ℕ
-place_by first = cond first 1 0
-
-asks_by : (first flag b : Bool) → (place_by first ≡ 1 → ⊥) → b ≡ flag → b ≡ (first || flag)
-asks_by true flag b h e = absurd (h refl)
-asks_by false flag b h e = e
-
-pub asks_flag : (all : List Text) (b : Bool) → (help_place all ≡ 1 → ⊥) → b ≡ list_any is_help_flag all → b ≡ asks_help all
-asks_flag all b h e = asks_by (option_map_or is_help_word (slice_get all 0) false) (list_any is_help_flag all) b h e

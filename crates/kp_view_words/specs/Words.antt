@@ -3,7 +3,6 @@ use Rattle.std.specs.Prelude.{◌==◌, ◌||◌, ◌&&◌, ◌-◌, not, ℕ, B
 use Rattle.std.specs.{List.list_all, List.list_any, Option.option_map_or, Str.bytes_eq}
 use Rattle.kp_base.specs.Characters.{is_word}
 use Rattle.kp_bits.specs.Literals.{number_of}
-use Rattle.kp_command_line.specs.Programs.{begins_with_dash}
 use Rattle.kp_view_words.specs.declared.words.{Topic.Topic, Word.Word}
 use Rattle.kp_view_words.specs.declared.words.Topic.TheVariants as topics
 use Rattle.kp_view_words.specs.declared.words.Word.TheVariants as words
@@ -66,6 +65,10 @@ is_help_flag word = bytes_eq word (codes "--help") || bytes_eq word (codes "-h")
 
 abbrev pub is_version_flag : Text → Bool
 is_version_flag word = bytes_eq word (codes "--version") || bytes_eq word (codes "-V")
+
+abbrev pub begins_with_dash : Text → Bool
+begins_with_dash [] = false
+begins_with_dash (c ∷ cs) = c == 45
 
 -- help is about the first word, or about the second after `help`
 abbrev pub help_place : List Text → ℕ

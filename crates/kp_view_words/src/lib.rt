@@ -1,10 +1,9 @@
 //! The words of a command line of `kpview`: what they ask for, and the texts of help, usage and version.
 //!
-//! A word is a variant of `Word`, a line in `named`, its texts, a line in `program`, and a line in `task_with`, which says what the words after it mean.
+//! A word is a variant of `Word`, a line in `named`, its texts, and a line in `task_with`, which says what the words after it mean.
 //! What it takes is in its variant of `Order`.
 #![tactic(auto)]
 
-mod matching;
 mod task;
 mod texts;
 mod words;

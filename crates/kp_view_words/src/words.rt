@@ -1,19 +1,14 @@
 // The words of a command line, and what they ask for.
-ghost use Rattle.std.specs.Prelude.{◌≡◌, ◌&&◌, ltb, leb, ◌≤◌, IfSome, map, string_bytes, option_map, Ok, None, Some, IfOk, true, false, length, drop, slice_get};
+ghost use Rattle.std.specs.Prelude.{◌≡◌, ◌&&◌, ltb, leb, ◌≤◌, IfSome, map, string_bytes, option_map, length};
 ghost use Rattle.std.specs.List.{list_any, list_all};
-ghost use Rattle.std.specs.Option.{option_map_or};
 ghost use Rattle.kp_view_words.specs.Asked.{asked, file_asked, order_seen, task_seen};
 ghost use Rattle.kp_base.specs.Characters.{is_word};
-ghost use Rattle.kp_view_words.specs.Words.{asked_for, names_for, topic_of, topic_named, help_place, is_help_word, is_help_flag, is_version_flag, asks_help, task_of, task_with, stalls_with, with_file, flagged_task, asks_picture, run_in, run_with, word_named, count_of, names_in, file_in, is_file_after, is_name, is_path};
-ghost use Rattle.kp_command_line.specs.Programs.{begins_with_dash};
+ghost use Rattle.kp_view_words.specs.Words.{asked_for, names_for, topic_of, topic_named, help_place, is_help_word, is_help_flag, is_version_flag, asks_help, begins_with_dash, task_of, task_named, task_with, stalls_with, with_file, flagged_task, asks_picture, run_in, run_with, word_named, count_of, names_in, file_in, is_file_after, is_name, is_path};
 ghost use Rattle.kp_view_words.specs.inner.Asking.{run_asked};
 
-use crate::matching::word_of;
 use crate::task::{Cycles, Order, Run, Task};
-use kp_base::{NoMemory, is_word};
+use kp_base::is_word;
 use kp_bits::read_number;
-use kp_command_line::begins_with_dash;
-use std::alloc::Global;
 
 /// The greatest number of cycles that are drawn.
 const MOST_DRAWN: u32 = 1_000;
@@ -21,11 +16,14 @@ const MOST_DRAWN: u32 = 1_000;
 /// The greatest number of cycles that are listed.
 const MOST_LISTED: u32 = 100_000;
 
+/// The greatest number of words after a word.
+const MOST_REST: usize = 14;
+
 /// The greatest length of a stage's name, in bytes.
 const MOST_NAME: usize = 8;
 
 /// A word, which says what is to be written about a job.
-#[derive(Clone, Copy, PartialEq, Eq)]
+#[derive(Clone, Copy)]
 pub enum Word {
     /// `diagram`: the pipeline diagram as text.
     Diagram,
@@ -40,7 +38,7 @@ pub enum Word {
 }
 
 /// What help and usage are about: the program or one of its words.
-#[derive(Clone, Copy, PartialEq, Eq)]
+#[derive(Clone, Copy)]
 pub enum Topic {
     Program,
     Of(Word),
@@ -57,20 +55,20 @@ pub enum Request<'w> {
 }
 
 impl<'w> Request<'w> {
-    /// What the words after the program's name ask for. The only error is out of memory.
-    pub fn of(alloc: Global, words: &'w [String]) -> Result<Self, NoMemory>
-        ensures { IfOk result (λ request. asked request ≡ asked_for (map string_bytes words.now)) }
+    /// What the words after the program's name ask for.
+    pub fn of(words: &'w [String]) -> Self
+        ensures { asked result ≡ asked_for (map string_bytes words.now) }
     {
         let topic = topic_of(words);
         if asks_help(words) {
-            return Ok(Request::Help(topic));
+            return Request::Help(topic);
         }
         if has_version_flag(words) {
-            return Ok(Request::Version);
+            return Request::Version;
         }
-        match task_of(alloc, words)? {
-            Some(task) => Ok(Request::Show(task)),
-            None => Ok(Request::BadWords(topic)),
+        match task_of(words) {
+            Some(task) => Request::Show(task),
+            None => Request::BadWords(topic),
         }
     }
 
@@ -177,11 +175,17 @@ fn has_version_flag(words: &[String]) -> bool
     words.iter().any(|word| is_version_flag(word.as_str()))
 }
 
+fn begins_with_dash(word: &[u8]) -> bool
+    ensures { result ≡ begins_with_dash word.now }
+{
+    matches!(word, [b'-', ..])
+}
+
 // One of the words begins with `-`.
 fn has_dash(words: &[String]) -> bool
     ensures { result ≡ list_any (λ word. begins_with_dash (string_bytes word)) words.now }
 {
-    words.iter().any(|word| begins_with_dash(word.as_str()))
+    words.iter().any(|word| begins_with_dash(word.as_bytes()))
 }
 
 // The words ask for help: the first is `help`, or one is a flag for help.
@@ -192,18 +196,28 @@ fn asks_help(words: &[String]) -> bool
 }
 
 // What the words ask for. `None` if the first is no word, or if those after it aren't words for it.
-fn task_of<'w>(alloc: Global, words: &'w [String]) -> Result<Option<Task<'w>>, NoMemory>
-    ensures { IfOk result (λ task. option_map task_seen task ≡ task_of (map string_bytes words.now)) }
+fn task_of<'w>(words: &'w [String]) -> Option<Task<'w>>
+    ensures { option_map task_seen result ≡ task_of (map string_bytes words.now) }
 {
     if has_dash(words) {
-        return Ok(flagged_task(words));
+        flagged_task(words)
+    } else {
+        task_named(words)
     }
-    let Some(rest) = words.get(1..) else {
-        return Ok(None);
-    };
-    match word_of(alloc, words)? {
-        Some(word) => Ok(task_with(word, rest)),
-        None => Ok(None),
+}
+
+// What words ask for none of which begins with `-`: a word, with at most 14 further words.
+fn task_named<'w>(words: &'w [String]) -> Option<Task<'w>>
+    ensures { option_map task_seen result ≡ task_named (map string_bytes words.now) }
+{
+    match words {
+        [name, rest @ ..] => {
+            if rest.len() > MOST_REST {
+                return None;
+            }
+            task_with(Word::named(name.as_str())?, rest)
+        }
+        [] => None,
     }
 }
 

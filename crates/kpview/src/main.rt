@@ -4,7 +4,7 @@
 
 mod output;
 
-use kp_base::{NoMemory, StdSink, StdSource};
+use kp_base::{StdSink, StdSource};
 use kp_view::view;
 use kp_view_explain::{HELP, Order, asks_help, explain_source};
 use kp_view_words::Request;
@@ -59,12 +59,10 @@ fn run(rt: &HostRuntime, words: &[String]) -> u8 {
     if let Some(order) = Order::of(words) {
         return explain(rt, &order);
     }
-    match Request::of(rt.alloc(), words) {
-        Ok(request) => match request.file() {
-            Some(file) => on_file(rt, &request, file.as_str()),
-            None => on_source(rt, &request, rt.reader()),
-        },
-        Err(NoMemory) => NO_MEMORY,
+    let request = Request::of(words);
+    match request.file() {
+        Some(file) => on_file(rt, &request, file.as_str()),
+        None => on_source(rt, &request, rt.reader()),
     }
 }
 
