@@ -1,4 +1,4 @@
-use Rattle.std.proofs.Common.{◌≡◌, ℕ, suc, ◌+◌, ◌<◌, ◌≤◌, Bool, true, false, cond, not, ◌&&◌, ◌||◌, leb, ltb, Some, None, refl, sym, ap, ap₂, ◌∙◌, ⊎_elim, arith, le-leb}
+use Rattle.std.proofs.Common.{◌≡◌, ℕ, suc, ◌+◌, ◌<◌, ◌≤◌, Bool, true, false, cond, not, ◌&&◌, ◌||◌, leb, ltb, Option, Some, None, refl, sym, ap, ap₂, ◌∙◌, ⊎_elim, arith, le-leb}
 use Rattle.std.proofs.lemmas.Bool.{cases_lt, lt-leb, lt-ltb, le-ltb, cond-true, cond-false}
 use Rattle.kp_base.specs.declared.row.Row.{Row}
 use Rattle.kp_pipeline.{specs.Rows.bit, proofs.Lists.bit-at}
@@ -73,17 +73,20 @@ pub place_stays : (n : ℕ) (r : Row) (k : ℕ) → k < n → ltb k r.back ≡ f
     → Some k ≡ next_place n (row_seen n r) k
 place_stays n r k b s u = sym (place_is n r k false false b (swept n r k false s) u)
 
-pub place_moves : (n : ℕ) (r : Row) (k : ℕ) → ltb k r.back ≡ false → bit_of r.ue k ≡ true → k + 1 < n
-    → Some (k + 1) ≡ next_place n (row_seen n r) k
-place_moves n r k s u b =
-    let e : k + 1 ≡ suc k = omega arith in
-    ap (λ (x : ℕ). Some x) e
-    ∙ sym (place_is n r k false true (omega arith) (swept n r k false s) u ∙ cond-false (leb n (suc k)) _ _ (lt-leb n (suc k) (omega arith)))
+one_more : (k : ℕ) → k + 1 ≡ suc k
+one_more k = omega arith
 
-pub place_leaves : (n : ℕ) (r : Row) (k : ℕ) → k < n → ltb k r.back ≡ false → bit_of r.ue k ≡ true → n ≤ k + 1
-    → None ≡ next_place n (row_seen n r) k
-place_leaves n r k b s u a =
-    sym (place_is n r k false true b (swept n r k false s) u ∙ cond-true (leb n (suc k)) _ _ (le-leb n (suc k) (omega arith)))
+after_is : (n k : ℕ) → cond (ltb (k + 1) n) (Some (k + 1)) None ≡ cond (leb n (suc k)) None (Some (suc k))
+after_is n k = ⊎_elim
+    (λ (h : k + 1 < n). cond-true (ltb (k + 1) n) (Some (k + 1)) None (lt-ltb (k + 1) n h) ∙ ap (λ (x : ℕ). Some x) (one_more k)
+    ∙ sym (cond-false (leb n (suc k)) None (Some (suc k)) (lt-leb n (suc k) (omega arith))))
+    (λ (h : n ≤ k + 1). cond-false (ltb (k + 1) n) (Some (k + 1)) None (le-ltb (k + 1) n h)
+    ∙ sym (cond-true (leb n (suc k)) None (Some (suc k)) (le-leb n (suc k) (omega arith))))
+    (cases_lt (k + 1) n)
+
+pub place_after : (n : ℕ) (r : Row) (k : ℕ) (j : Option ℕ) → k < n → ltb k r.back ≡ false → bit_of r.ue k ≡ true
+    → j ≡ cond (ltb (k + 1) n) (Some (k + 1)) None → j ≡ next_place n (row_seen n r) k
+place_after n r k j b s u is = is ∙ after_is n k ∙ sym (place_is n r k false true b (swept n r k false s) u)
 
 pub fetches_seen : (n : ℕ) (r : Row) → 2 ≤ n → fetches_next (row_seen n r) ≡ (bit_of r.ue 0 || ltb 0 r.back)
 fetches_seen n r b = ap₂ (λ (x y : Bool). x || y) (ue_seen n r 0 (omega arith)) (sym (squashed_seen n r 0))

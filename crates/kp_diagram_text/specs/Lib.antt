@@ -3,3 +3,4 @@ pub mod Losses
 pub mod Figures
 pub mod Text
 pub mod Charts
+pub mod inner

@@ -11,7 +11,7 @@ use kp_base::Row;
 
 /// The instructions that retired, and the cycles lost to the filling of the pipeline, to data hazards, to wrong guesses and to stalls from
 /// outside.
-#[derive(Clone, Copy, PartialEq, Eq)]
+#[derive(Clone, Copy)]
 pub struct Account {
     pub retired: u64,
     pub filling: u64,
@@ -20,7 +20,7 @@ pub struct Account {
     pub outside: u64,
 }
 
-#[derive(Clone, Copy, PartialEq, Eq)]
+#[derive(Clone, Copy)]
 enum Loss {
     Filling,
     DataHazard,
@@ -67,7 +67,6 @@ fn add(account: &mut Account, lost: Option<Loss>)
 }
 
 // What the cycle was lost to, in the last stage.
-#[tactic(auto, using(crate::proofs::Losses::lost_none, crate::proofs::Losses::lost_waiting, crate::proofs::Losses::lost_empty))]
 fn lost_to(last: u8, word: u16, row: Row, losses: &[Loss; 12]) -> Option<Loss>
     requires few { last < 12 }
     ensures { option_map loss_shown result
@@ -97,7 +96,6 @@ fn losses_after(last: u8, word: u16, row: Row, losses: &[Loss; 12]) -> [Loss; 12
 }
 
 // Why the stage above stage k is empty after the cycle, if it is.
-#[tactic(auto, using(crate::proofs::Losses::above_squashed, crate::proofs::Losses::above_waiting, crate::proofs::Losses::above_empty))]
 fn loss_above(last: u8, word: u16, row: Row, losses: &[Loss; 12], k: u8) -> Loss
     requires below { k < last }
     requires few { last < 12 }

@@ -1,5 +1,5 @@
 // One cycle of a stage, by its row and its stall word.
-ghost use Rattle.std.specs.Prelude.{◌≡◌, ◌<◌, ◌≤◌, ltb, IfSome};
+ghost use Rattle.std.specs.Prelude.{◌≡◌, ◌+◌, ◌<◌, ◌≤◌, cond, ltb, IfSome, None, Some};
 ghost use Rattle.kp_sched.specs.Rows.{bit_of, row_seen};
 ghost use Rattle.kp_diagram.specs.Diagram.{fetches_next as does_fetch, is_waiting as waiting, mark, next_place as place_after};
 ghost use Rattle.kp_diagram_text.specs.Marks.{shown};
@@ -7,7 +7,7 @@ ghost use Rattle.kp_diagram_text.specs.Marks.{shown};
 use kp_base::Row;
 
 /// What the instruction in a stage does in a cycle.
-#[derive(Clone, Copy, PartialEq, Eq)]
+#[derive(Clone, Copy)]
 pub enum Mark {
     Moves,
     WaitsForValue,
@@ -17,7 +17,7 @@ pub enum Mark {
 }
 
 /// The mark of a full stage k of n, in a cycle with this row and this stall word.
-#[tactic(auto, using(crate::proofs::Marks::mark_squashed, crate::proofs::Marks::mark_moves, crate::proofs::Marks::mark_held, crate::proofs::Marks::mark_ahead, crate::proofs::Marks::mark_value, crate::proofs::Marks::mark_value_last))]
+#[tactic(auto, using(crate::proofs::Marks::mark_ahead, crate::proofs::Marks::mark_value, crate::proofs::Marks::mark_value_last))]
 pub fn mark_of(n: u8, word: u16, row: Row, k: u8) -> Mark
     requires stage { k < n }
     requires few { n ≤ 12 }
@@ -37,7 +37,6 @@ pub fn mark_of(n: u8, word: u16, row: Row, k: u8) -> Mark
 }
 
 /// The stage after the cycle of the instruction in stage k of n, if it is still in one.
-#[tactic(auto, using(crate::proofs::Marks::place_none, crate::proofs::Marks::place_stays, crate::proofs::Marks::place_moves, crate::proofs::Marks::place_leaves))]
 pub fn next_place(n: u8, row: Row, k: u8) -> Option<u8>
     requires stage { k < n }
     requires few { n ≤ 12 }
@@ -46,13 +45,20 @@ pub fn next_place(n: u8, row: Row, k: u8) -> Option<u8>
 {
     if is_squashed(row, k) {
         None
-    } else if !is_set(row.ue, k) {
-        Some(k)
-    } else if k + 1 < n {
-        Some(k + 1)
+    } else if is_set(row.ue, k) {
+        stage_after(n, k)
     } else {
-        None
+        Some(k)
     }
+}
+
+// The stage after stage k of n, if there is one.
+fn stage_after(n: u8, k: u8) -> Option<u8>
+    requires { k < n }
+    ensures place { result ≡ cond (ltb (k + 1) n) (Some (k + 1)) None }
+    ensures within { IfSome result (λ j. j < n) }
+{
+    if k + 1 < n { Some(k + 1) } else { None }
 }
 
 /// Whether stage 0 of n has a new instruction after the cycle.

@@ -5,9 +5,11 @@ ghost use Rattle.kp_base.specs.Bytes.{Writes};
 ghost use Rattle.kp_base.specs.Causes.{HasCause};
 ghost use Rattle.kp_diagram_text.specs.Charts.{IsDrawable, are_names as are_names_for, is_name as is_a_name, names_of};
 ghost use Rattle.kp_diagram_text.specs.Text.{column, longest, stage_name};
+ghost use Rattle.kp_diagram_text.specs.inner.Pieces.{piece_text};
 
+use crate::pieces::{Piece, write_piece};
 use itoa::Buffer;
-use kp_base::{Row, Sink, SinkFault, word_length, write_all};
+use kp_base::{Row, Sink, SinkFault, word_length};
 
 /// A run of a machine: its name, how many stages it has, the row and the stall word of each cycle, and the names of its stages. A stage past
 /// the end of the names is named by its number.
@@ -61,11 +63,17 @@ impl<'a> Chart<'a> {
         ensures text { Writes (K.held sink.old) (K.held sink.new) (stage_name (names_of self.now) k) result }
         ensures cause { HasCause (K.faults sink.old) (K.faults sink.new) result }
     {
+        write_piece(sink, self.name(k))
+    }
+
+    // The name of stage k as a piece of a text.
+    pub(crate) fn name(&self, k: u8) -> Piece<'_>
+        ensures { piece_text result ≡ stage_name (names_of self.now) k }
+    {
         if usize::from(k) < self.names.len() {
-            write_all(sink, self.names[usize::from(k)].as_bytes())
+            Piece::Text(self.names[usize::from(k)].as_bytes())
         } else {
-            let mut buffer = Buffer::new();
-            write_all(sink, buffer.format(k).as_bytes())
+            Piece::Number(u64::from(k))
         }
     }
 

@@ -1,16 +1,16 @@
 // The lines of a diagram.
-ghost use Rattle.std.specs.Prelude.{◌≡◌, ◌+◌, ◌<◌, ◌≤◌, ◌++◌, cond, length, [], drop, codes, Some};
+ghost use Rattle.std.specs.Prelude.{◌≡◌, ◌+◌, ◌<◌, ◌≤◌, ◌++◌, cond, length, [], drop, Some};
 ghost use Rattle.kp_base.specs.Bytes.{Writes};
 ghost use Rattle.kp_base.specs.Causes.{HasCause};
 ghost use Rattle.kp_sched.specs.Rows.{rows_seen};
 ghost use Rattle.kp_diagram.specs.Diagram.{cells_from, diagram};
 ghost use Rattle.kp_diagram_text.specs.Charts.{IsDrawable, ext_of, names_of, rows_of};
 ghost use Rattle.kp_diagram_text.specs.Marks.{shown};
-ghost use Rattle.kp_diagram_text.specs.Text.{cells_text, in_column, line_at, line_start, lines_text, sign, spaces, stage_name};
+ghost use Rattle.kp_diagram_text.specs.Text.{cells_text, in_column, line_at, line_start, lines_text, sign, stage_name};
 
 use crate::cells::{Mark, fetches_next, mark_of, next_place};
 use crate::chart::Chart;
-use crate::pieces::{write_number, write_spaces};
+use crate::pieces::{Piece, write_parts};
 use kp_base::{Sink, SinkFault, write_all};
 use kp_sched::Monitor;
 
@@ -62,7 +62,6 @@ fn write_fetch<K: Sink>(
     }
 }
 
-#[tactic(auto, using(kp_base::proofs::Bytes::writes_next, kp_base::proofs::Bytes::part_more))]
 fn write_line<K: Sink>(
     chart: &Chart<'_>,
     width: usize,
@@ -79,11 +78,11 @@ fn write_line<K: Sink>(
     ensures cause { HasCause (K.faults sink.old) (K.faults sink.new) result }
 {
     write_start(width, number, cycle, sink)?;
-    write_rest(chart, width, cycle, sink)
+    write_cells(chart, width, cycle, sink)?;
+    write_all(sink, b"\n")
 }
 
 // The number of an instruction, up to the column of the cycle in which it enters.
-#[tactic(auto, using(kp_base::proofs::Bytes::writes_next, kp_base::proofs::Bytes::part_more))]
 fn write_start<K: Sink>(
     width: usize,
     number: u64,
@@ -95,34 +94,12 @@ fn write_start<K: Sink>(
     ensures text { Writes (K.held sink.old) (K.held sink.new) (line_start width number cycle) result }
     ensures cause { HasCause (K.faults sink.old) (K.faults sink.new) result }
 {
-    write_number(11, number, sink)?;
-    write_indent(cycle * width, sink)
-}
-
-#[tactic(auto, using(kp_base::proofs::Bytes::writes_next, kp_base::proofs::Bytes::part_more))]
-fn write_indent<K: Sink>(count: usize, sink: &mut K) -> Result<(), SinkFault>
-    ensures text { Writes (K.held sink.old) (K.held sink.new) (codes " " ++ spaces count) result }
-    ensures cause { HasCause (K.faults sink.old) (K.faults sink.new) result }
-{
-    write_all(sink, b" ")?;
-    write_spaces(count, sink)
-}
-
-#[tactic(auto, using(kp_base::proofs::Bytes::writes_next, kp_base::proofs::Bytes::part_more))]
-fn write_rest<K: Sink>(
-    chart: &Chart<'_>,
-    width: usize,
-    cycle: usize,
-    sink: &mut K,
-) -> Result<(), SinkFault>
-    requires drawable { IsDrawable chart.now }
-    ensures text { Writes (K.held sink.old) (K.held sink.new)
-        (cells_text width (names_of chart.now) (cells_from chart.now.stages (ext_of chart.now) cycle
-        (rows_seen chart.now.stages (drop cycle chart.now.rows.now)) (Some 0)) ++ codes "\n") result }
-    ensures cause { HasCause (K.faults sink.old) (K.faults sink.new) result }
-{
-    write_cells(chart, width, cycle, sink)?;
-    write_all(sink, b"\n")
+    let pieces = [
+        Piece::Column(11, number),
+        Piece::Text(b" "),
+        Piece::Spaces(cycle * width),
+    ];
+    write_parts(sink, &pieces)
 }
 
 // The cells of an instruction that enters in this cycle: it is followed through the rows.
@@ -153,7 +130,6 @@ fn write_cells<K: Sink>(
     Ok(())
 }
 
-#[tactic(auto, using(kp_base::proofs::Bytes::writes_next, kp_base::proofs::Bytes::part_more))]
 fn write_cell<K: Sink>(
     chart: &Chart<'_>,
     width: usize,
@@ -167,27 +143,9 @@ fn write_cell<K: Sink>(
     ensures cause { HasCause (K.faults sink.old) (K.faults sink.new) result }
 {
     let sign = sign_of(mark);
-    write_spaces(
-        width.saturating_sub(chart.name_length(k) + sign.len()),
-        sink,
-    )?;
-    write_label(chart, k, sign, sink)
-}
-
-// The name of a stage, and a mark.
-#[tactic(auto, using(kp_base::proofs::Bytes::writes_next, kp_base::proofs::Bytes::part_more))]
-fn write_label<K: Sink>(
-    chart: &Chart<'_>,
-    k: u8,
-    sign: &[u8],
-    sink: &mut K,
-) -> Result<(), SinkFault>
-    requires drawable { IsDrawable chart.now }
-    ensures text { Writes (K.held sink.old) (K.held sink.new) (stage_name (names_of chart.now) k ++ sign.now) result }
-    ensures cause { HasCause (K.faults sink.old) (K.faults sink.new) result }
-{
-    chart.write_name(k, sink)?;
-    write_all(sink, sign)
+    let room = width.saturating_sub(chart.name_length(k) + sign.len());
+    let pieces = [Piece::Spaces(room), chart.name(k), Piece::Text(sign)];
+    write_parts(sink, &pieces)
 }
 
 fn sign_of(mark: Mark) -> &'static [u8]

@@ -1,30 +1,64 @@
-// Pieces of a text, at the right end of a column.
-ghost use Rattle.std.specs.Prelude.{◌≡◌, ◌+◌, ◌≤◌, ◌++◌, length, decimal, if◌then◌else◌, ◌==◌};
+// Pieces of a text.
+ghost use Rattle.std.specs.Prelude.{◌≡◌, ◌+◌, ◌≤◌, ◌++◌, length, flat_map, if◌then◌else◌, ◌==◌};
 ghost use Rattle.kp_base.specs.Bytes.{Writes};
 ghost use Rattle.kp_base.specs.Causes.{HasCause};
 ghost use Rattle.kp_diagram_text.specs.Text.{counted as counted_text, in_column, spaces};
+ghost use Rattle.kp_diagram_text.specs.inner.Pieces.{piece_text};
 
 use itoa::Buffer;
 use kp_base::{Sink, SinkFault, write_all};
 
-// A number at the right end of a column.
-#[tactic(auto, using(kp_base::proofs::Bytes::writes_next, kp_base::proofs::Bytes::part_more))]
-pub(crate) fn write_number<K: Sink>(
-    width: usize,
-    number: u64,
-    sink: &mut K,
-) -> Result<(), SinkFault>
-    ensures text { Writes (K.held sink.old) (K.held sink.new) (in_column width (decimal number)) result }
+/// A piece of a text.
+#[derive(Clone, Copy)]
+pub(crate) enum Piece<'a> {
+    Text(&'a [u8]),
+    Number(u64),
+    /// A number at the right end of a column of this width.
+    Column(usize, u64),
+    Spaces(usize),
+}
+
+// Appends the pieces in order, or a prefix of their concatenation if the sink fails.
+pub(crate) fn write_parts<K: Sink>(sink: &mut K, pieces: &[Piece<'_>]) -> Result<(), SinkFault>
+    ensures text { Writes (K.held sink.old) (K.held sink.new) (flat_map piece_text pieces.now) result }
     ensures cause { HasCause (K.faults sink.old) (K.faults sink.new) result }
 {
-    let mut buffer = Buffer::new();
-    let digits = buffer.format(number);
-    write_spaces(width.saturating_sub(digits.len()), sink)?;
-    write_all(sink, digits.as_bytes())
+    for piece in pieces {
+        write_piece(sink, *piece)?;
+    }
+    Ok(())
+}
+
+pub(crate) fn write_piece<K: Sink>(sink: &mut K, piece: Piece<'_>) -> Result<(), SinkFault>
+    ensures text { Writes (K.held sink.old) (K.held sink.new) (piece_text piece.entry) result }
+    ensures cause { HasCause (K.faults sink.old) (K.faults sink.new) result }
+{
+    match piece {
+        Piece::Text(text) => write_all(sink, text),
+        Piece::Number(number) => {
+            let mut buffer = Buffer::new();
+            write_all(sink, buffer.format(number).as_bytes())
+        }
+        Piece::Column(width, number) => {
+            let mut buffer = Buffer::new();
+            write_column(width, buffer.format(number).as_bytes(), sink)
+        }
+        Piece::Spaces(count) => write_spaces(count, sink),
+    }
+}
+
+// A text at the right end of a column.
+fn write_column<K: Sink>(width: usize, text: &[u8], sink: &mut K) -> Result<(), SinkFault>
+    ensures text { Writes (K.held sink.old) (K.held sink.new) (in_column width text.now) result }
+    ensures cause { HasCause (K.faults sink.old) (K.faults sink.new) result }
+{
+    let room = width.saturating_sub(text.len());
+    write_spaces(room, sink)?;
+    write_all(sink, text)
 }
 
 // `count` spaces.
-pub(crate) fn write_spaces<K: Sink>(count: usize, sink: &mut K) -> Result<(), SinkFault>
+fn write_spaces<K: Sink>(count: usize, sink: &mut K) -> Result<(), SinkFault>
     ensures text { Writes (K.held sink.old) (K.held sink.new) (spaces count) result }
     ensures cause { HasCause (K.faults sink.old) (K.faults sink.new) result }
 {

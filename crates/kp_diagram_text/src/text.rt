@@ -1,18 +1,17 @@
 // The diagram as text.
-ghost use Rattle.std.specs.Prelude.{◌≡◌, ◌++◌, ◌-◌, ◌≤◌, codes, length};
+ghost use Rattle.std.specs.Prelude.{◌≡◌, ◌++◌, ◌-◌, ◌≤◌, length};
 ghost use Rattle.kp_base.specs.Bytes.{Writes};
 ghost use Rattle.kp_base.specs.Causes.{HasCause};
 ghost use Rattle.kp_diagram.specs.Diagram.{account, diagram};
 ghost use Rattle.kp_diagram_text.specs.Charts.{IsDrawable, ext_of, figure_of, names_of, rows_of};
-ghost use Rattle.kp_diagram_text.specs.Text.{account_text, cycle_numbers, diagram_text, head, legend as legend_text, lines_text, size_text, title};
+ghost use Rattle.kp_diagram_text.specs.Text.{account_text, cycle_numbers, diagram_text, head, legend as legend_text, lines_text, title};
 
 use crate::account::account_of;
 use crate::chart::Chart;
 use crate::lines::write_lines;
-use crate::pieces::{counted, write_number};
+use crate::pieces::{Piece, counted, write_parts, write_piece};
 use crate::summary::write_account;
-use itoa::Buffer;
-use kp_base::{Sink, SinkFault, write_all, write_pieces};
+use kp_base::{Sink, SinkFault, write_all};
 
 /// Writes the diagram of a chart as text: a line for each fetch, and the account below. A fault comes only from the sink, which then has a
 /// prefix of the text.
@@ -24,7 +23,6 @@ pub fn write_text<K: Sink>(chart: &Chart<'_>, sink: &mut K) -> Result<(), SinkFa
     write_all_parts(chart, chart.width(), sink)
 }
 
-#[tactic(auto, using(kp_base::proofs::Bytes::writes_next, kp_base::proofs::Bytes::part_more))]
 fn write_all_parts<K: Sink>(chart: &Chart<'_>, width: usize, sink: &mut K) -> Result<(), SinkFault>
     requires drawable { IsDrawable chart.now }
     requires width { width ≤ 42 }
@@ -35,29 +33,7 @@ fn write_all_parts<K: Sink>(chart: &Chart<'_>, width: usize, sink: &mut K) -> Re
     ensures cause { HasCause (K.faults sink.old) (K.faults sink.new) result }
 {
     write_head(chart, width, sink)?;
-    write_body(chart, width, sink)
-}
-
-#[tactic(auto, using(kp_base::proofs::Bytes::writes_next, kp_base::proofs::Bytes::part_more))]
-fn write_body<K: Sink>(chart: &Chart<'_>, width: usize, sink: &mut K) -> Result<(), SinkFault>
-    requires drawable { IsDrawable chart.now }
-    requires width { width ≤ 42 }
-    ensures text { Writes (K.held sink.old) (K.held sink.new)
-        (lines_text width (names_of chart.now) (diagram chart.now.stages (ext_of chart.now) (rows_of chart.now))
-        ++ (legend_text ++ account_text (length chart.now.rows.now) (account (chart.now.stages - 1) (ext_of chart.now) (rows_of chart.now)))) result }
-    ensures cause { HasCause (K.faults sink.old) (K.faults sink.new) result }
-{
     write_lines(chart, width, sink)?;
-    write_end(chart, sink)
-}
-
-#[tactic(auto, using(kp_base::proofs::Bytes::writes_next, kp_base::proofs::Bytes::part_more))]
-fn write_end<K: Sink>(chart: &Chart<'_>, sink: &mut K) -> Result<(), SinkFault>
-    requires { IsDrawable chart.now }
-    ensures text { Writes (K.held sink.old) (K.held sink.new)
-        (legend_text ++ account_text (length chart.now.rows.now) (account (chart.now.stages - 1) (ext_of chart.now) (rows_of chart.now))) result }
-    ensures cause { HasCause (K.faults sink.old) (K.faults sink.new) result }
-{
     write_legend(sink)?;
     write_account(chart.rows.len() as u64, account_of(chart), sink)
 }
@@ -74,49 +50,32 @@ fn write_legend<K: Sink>(sink: &mut K) -> Result<(), SinkFault>
 }
 
 // The first line, and the line of the cycles' numbers.
-#[tactic(auto, using(kp_base::proofs::Bytes::writes_next, kp_base::proofs::Bytes::part_more))]
 fn write_head<K: Sink>(chart: &Chart<'_>, width: usize, sink: &mut K) -> Result<(), SinkFault>
     ensures text { Writes (K.held sink.old) (K.held sink.new)
         (head chart.now.name.now chart.now.stages (length chart.now.rows.now) width) result }
     ensures cause { HasCause (K.faults sink.old) (K.faults sink.new) result }
 {
-    write_title(chart.name, chart.stages, chart.rows.len() as u64, sink)?;
-    write_cycles(chart.rows.len(), width, sink)
+    let count = chart.rows.len();
+    write_title(chart.name, chart.stages, count as u64, sink)?;
+    write_numbers(count, width, sink)?;
+    write_all(sink, b"\n")
 }
 
-#[tactic(auto, using(kp_base::proofs::Bytes::writes_next, kp_base::proofs::Bytes::part_more), unfolding(crate::specs::Text::title))]
+#[tactic(auto, unfolding(crate::specs::Text::title, crate::specs::Text::size_text))]
 fn write_title<K: Sink>(name: &[u8], stages: u8, count: u64, sink: &mut K) -> Result<(), SinkFault>
     ensures text { Writes (K.held sink.old) (K.held sink.new) (title name.now stages count) result }
     ensures cause { HasCause (K.faults sink.old) (K.faults sink.new) result }
 {
-    write_size(name, stages, count, sink)?;
-    write_all(sink, b"\n\ninstruction ")
-}
-
-#[tactic(auto, unfolding(crate::specs::Text::size_text))]
-fn write_size<K: Sink>(name: &[u8], stages: u8, count: u64, sink: &mut K) -> Result<(), SinkFault>
-    ensures text { Writes (K.held sink.old) (K.held sink.new) (size_text name.now stages count) result }
-    ensures cause { HasCause (K.faults sink.old) (K.faults sink.new) result }
-{
-    let (mut first, mut second) = (Buffer::new(), Buffer::new());
     let pieces = [
-        name,
-        b": ".as_slice(),
-        first.format(stages).as_bytes(),
-        b" stages, ".as_slice(),
-        second.format(count).as_bytes(),
-        counted(count, b" cycle", b" cycles"),
+        Piece::Text(name),
+        Piece::Text(b": "),
+        Piece::Number(u64::from(stages)),
+        Piece::Text(b" stages, "),
+        Piece::Number(count),
+        Piece::Text(counted(count, b" cycle", b" cycles")),
+        Piece::Text(b"\n\ninstruction "),
     ];
-    write_pieces(sink, &pieces)
-}
-
-#[tactic(auto, using(kp_base::proofs::Bytes::writes_next, kp_base::proofs::Bytes::part_more))]
-fn write_cycles<K: Sink>(count: usize, width: usize, sink: &mut K) -> Result<(), SinkFault>
-    ensures text { Writes (K.held sink.old) (K.held sink.new) (cycle_numbers width 0 count ++ codes "\n") result }
-    ensures cause { HasCause (K.faults sink.old) (K.faults sink.new) result }
-{
-    write_numbers(count, width, sink)?;
-    write_all(sink, b"\n")
+    write_parts(sink, &pieces)
 }
 
 fn write_numbers<K: Sink>(count: usize, width: usize, sink: &mut K) -> Result<(), SinkFault>
@@ -124,7 +83,7 @@ fn write_numbers<K: Sink>(count: usize, width: usize, sink: &mut K) -> Result<()
     ensures cause { HasCause (K.faults sink.old) (K.faults sink.new) result }
 {
     for cycle in 0..count {
-        write_number(width, cycle as u64, sink)?;
+        write_piece(sink, Piece::Column(width, cycle as u64))?;
     }
     Ok(())
 }

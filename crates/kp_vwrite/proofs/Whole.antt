@@ -3,37 +3,24 @@ use Rattle.std.proofs.Common.{◌≡◌, ◌∙◌, ℕ, ◌-◌, Bool, true, fa
 use Rattle.std.specs.Prelude.{codes, decimal}
 use Rattle.kp_net.specs.{declared.node.Node.Node, declared.netlist.Parts.Parts, Widths.wide, Netlist.Net}
 use Rattle.kp_vlog.specs.Canon.{canon, text_of, header, reset_port, sample_ports, out_ports, reg_lines, file_lines, integer_line, node_lines, out_line, start_lines, fill_lines, update_lines, port_lines, change_lines, reset_lines, body_lines}
-use Rattle.kp_vwrite.specs.inner.Texts.{fixed, ranged_text, reset_text, name_text, header_text, cells_text, fronts_text, outs_text, state_text, samples_text, regs_text, files_text, integer_text, nodes_text, given_text, values_text, fills_text, updates_text, ports_text, changes_text, body_text, whole_text}
+use Rattle.kp_vwrite.specs.inner.Texts.{fixed, reset_text, start_text, outputs_text, header_text, cells_text, fronts_text, outs_text, state_text, samples_text, regs_text, files_text, integer_text, nodes_text, values_text, fills_text, updates_text, ports_text, changes_text, body_text, whole_text}
 use Rattle.kp_vwrite.proofs.Lines.{text_append, starts_are, resets_are}
 
-header_split : (m n c r i x k : List ℕ) (s o : List (List ℕ)) → m ++ (n ++ (c ++ (r ++ (i ++ (x ++ (k ++ (text_of s ++ text_of o)))))))
-    ≡ (m ++ (n ++ (c ++ (r ++ [])))) ++ ((i ++ (x ++ (k ++ []))) ++ (text_of s ++ text_of o))
+header_split : (m n c r i x k s o : List ℕ) → m ++ (n ++ (c ++ (r ++ (i ++ (x ++ (k ++ (s ++ o))))))) ≡ (m ++ (n ++ (c ++ (r ++ (i ++ (x ++ (k ++ []))))))) ++ (s ++ o)
 header_split m n c r i x k s o = simp (append_assoc, append-nil)
 
 reset_is : (reset : Bool) (rest : List (List ℕ)) → text_of (reset_port reset ++ rest) ≡ reset_text reset ++ text_of rest
 reset_is true rest = refl
 reset_is false rest = refl
 
-outs_split : (o n1 n2 n3 e1 e2 e3 : List ℕ) → o ++ (n1 ++ ((e1 ++ o) ++ (n2 ++ ((e2 ++ o) ++ (n3 ++ (e3 ++ []))))))
-    ≡ (o ++ (n1 ++ (e1 ++ []))) ++ ((o ++ (n2 ++ (e2 ++ []))) ++ (o ++ (n3 ++ (e3 ++ []))))
-outs_split o n1 n2 n3 e1 e2 e3 = simp (append_assoc, append-nil)
-
-outs_are : (full ue back : ℕ) → text_of (out_ports full ue back)
-    ≡ ranged_text (codes "output wire [") full (codes "full") (codes ", ")
-    ++ (ranged_text (codes "output wire [") ue (codes "ue") (codes ", ") ++ ranged_text (codes "output wire [") back (codes "back") (codes ");\n"))
-unfolding ranged_text
-outs_are full ue back =
-    outs_split (codes "output wire [") (decimal (full - 1)) (decimal (ue - 1)) (decimal (back - 1)) (codes ":0] full, ") (codes ":0] ue, ") (codes ":0] back);\n")
-
 header_is : (ns : List Node) (p : Parts) → text_of (header ns p) ≡ header_text ns p
-unfolding name_text ranged_text samples_text
+unfolding start_text samples_text outputs_text
 header_is ns p =
     let outs = out_ports (wide ns p.full.0) (wide ns p.ue.0) (wide ns p.back.0) in
     ap (λ t. codes "module " ++ (p.name ++ (codes "(input wire clk, " ++ t))) (reset_is p.reset (codes "input wire [" ∷ decimal (p.ext - 1) ∷ codes ":0] ext, " ∷ (sample_ports p.samples ++ outs)))
     ∙ ap (λ t. codes "module " ++ (p.name ++ (codes "(input wire clk, " ++ (reset_text p.reset ++ (codes "input wire [" ++ (decimal (p.ext - 1) ++ (codes ":0] ext, " ++ t)))))))
     (text_append (sample_ports p.samples) outs)
-    ∙ header_split (codes "module ") p.name (codes "(input wire clk, ") (reset_text p.reset) (codes "input wire [") (decimal (p.ext - 1)) (codes ":0] ext, ") (sample_ports p.samples) outs
-    ∙ ap (λ t. name_text p.name p.reset ++ (ranged_text (codes "input wire [") p.ext (codes "ext") (codes ", ") ++ (samples_text p.samples ++ t))) (outs_are (wide ns p.full.0) (wide ns p.ue.0) (wide ns p.back.0))
+    ∙ header_split (codes "module ") p.name (codes "(input wire clk, ") (reset_text p.reset) (codes "input wire [") (decimal (p.ext - 1)) (codes ":0] ext, ") (text_of (sample_ports p.samples)) (text_of outs)
 
 changes_are : (margin : List ℕ) (p : Parts) → text_of (change_lines margin p) ≡ changes_text margin p
 unfolding updates_text ports_text
@@ -51,16 +38,17 @@ body_is true p =
     ∙ ap (λ t. codes "    if (rst) begin\n" ++ (values_text (codes "      ") (codes " <= ") p.regs ++ (codes "    end else begin\n" ++ (t ++ codes "    end\n")))) (changes_are (codes "      ") p)
 
 -- the lists of pieces, each by itself
-split : (h r f i n o1 o2 o3 s w b : List (List ℕ)) (x y z : List ℕ) → text_of (h ++ (r ++ (f ++ (i ++ (n ++ (o1 ++ (o2 ++ (o3 ++ (x ∷ (s ++ (w ++ (y ∷ (b ++ (z ∷ []))))))))))))))
-    ≡ (text_of h ++ ((text_of r ++ (text_of f ++ text_of i)) ++ text_of n)) ++ ((text_of o1 ++ (text_of o2 ++ text_of o3)) ++ ((x ++ (text_of s ++ text_of w)) ++ (y ++ (text_of b ++ z))))
-split h r f i n o1 o2 o3 s w b x y z = simp (text_append, append_assoc, append-nil)
+split : (h r f i n o s w b : List (List ℕ)) (y z : List ℕ) → text_of (h ++ (r ++ (f ++ (i ++ (n ++ (o ++ (s ++ (w ++ (y ∷ (b ++ (z ∷ [])))))))))))
+    ≡ (text_of h ++ ((text_of r ++ (text_of f ++ text_of i)) ++ text_of n)) ++ (text_of o ++ ((text_of s ++ text_of w) ++ (y ++ (text_of b ++ z))))
+split h r f i n o s w b y z = simp (text_append, append_assoc, append-nil)
 
 pub canon_is : (net : Net) → canon net ≡ whole_text net
-unfolding canon regs_text files_text integer_text nodes_text given_text fills_text fixed
+unfolding canon regs_text files_text integer_text nodes_text outs_text fills_text fixed
 canon_is net =
     let p = net.parts in
-    split (header net.nodes p) (reg_lines p.regs) (file_lines p.files) (integer_line p.files) (node_lines p 0 net.nodes) (out_line (codes "full") p.full) (out_line (codes "ue") p.ue) (out_line (codes "back") p.back)
-    (start_lines p.regs) (fill_lines p.files) (body_lines p.reset p) (codes "  initial begin\n") (codes "  end\n  always @(posedge clk) begin\n") (codes "  end\nendmodule\n")
-    ∙ ap (λ t. (t ++ (cells_text p ++ nodes_text p 0 net.nodes)) ++ (outs_text p ++ ((codes "  initial begin\n" ++ (text_of (start_lines p.regs) ++ fills_text p.files)) ++ (codes "  end\n  always @(posedge clk) begin\n" ++ (text_of (body_lines p.reset p) ++ codes "  end\nendmodule\n"))))) (header_is net.nodes p)
-    ∙ ap (λ t. fronts_text net ++ (outs_text p ++ ((codes "  initial begin\n" ++ (t ++ fills_text p.files)) ++ (codes "  end\n  always @(posedge clk) begin\n" ++ (text_of (body_lines p.reset p) ++ codes "  end\nendmodule\n"))))) (starts_are p.regs)
+    let outs = out_line (codes "full") p.full ++ (out_line (codes "ue") p.ue ++ (out_line (codes "back") p.back ++ (codes "  initial begin\n" ∷ []))) in
+    split (header net.nodes p) (reg_lines p.regs) (file_lines p.files) (integer_line p.files) (node_lines p 0 net.nodes) outs
+    (start_lines p.regs) (fill_lines p.files) (body_lines p.reset p) (codes "  end\n  always @(posedge clk) begin\n") (codes "  end\nendmodule\n")
+    ∙ ap (λ t. (t ++ (cells_text p ++ nodes_text p 0 net.nodes)) ++ (outs_text p ++ ((text_of (start_lines p.regs) ++ fills_text p.files) ++ (codes "  end\n  always @(posedge clk) begin\n" ++ (text_of (body_lines p.reset p) ++ codes "  end\nendmodule\n"))))) (header_is net.nodes p)
+    ∙ ap (λ t. fronts_text net ++ (outs_text p ++ ((t ++ fills_text p.files) ++ (codes "  end\n  always @(posedge clk) begin\n" ++ (text_of (body_lines p.reset p) ++ codes "  end\nendmodule\n"))))) (starts_are p.regs)
     ∙ ap (λ t. fronts_text net ++ (outs_text p ++ (state_text p ++ (codes "  end\n  always @(posedge clk) begin\n" ++ (t ++ codes "  end\nendmodule\n"))))) (body_is p.reset p)

@@ -4,10 +4,10 @@ ghost use Rattle.kp_base.specs.Causes.{HasCause};
 ghost use Rattle.kp_net.specs.Widths.{wide};
 ghost use Rattle.kp_net.specs.Parts.{PortOk};
 ghost use Rattle.kp_vwrite.specs.inner.Passing.{Sends};
-ghost use Rattle.kp_vwrite.specs.inner.Texts.{reset_text, name_text, ranged_text, samples_text, outputs_text, header_text, regs_text, file_text, files_text, integer_text, cells_text, FileSafe};
+ghost use Rattle.kp_vwrite.specs.inner.Texts.{reset_text, start_text, ranged_text, samples_text, outputs_text, header_text, regs_text, file_text, files_text, integer_text, cells_text, FileSafe};
 
-use crate::page::{Page, put_pieces};
-use itoa::Buffer;
+use crate::page::{Page, put};
+use crate::pieces::{Piece, put_pieces};
 use kp_base::{Sink, SinkFault};
 use kp_net::{NetFile, NetReg, Netlist, NodeId, Parts, Port};
 
@@ -22,25 +22,24 @@ fn reset_piece(parts: &Parts) -> &[u8]
     }
 }
 
-#[tactic(auto, unfolding(crate::specs::inner::Texts::name_text))]
-fn write_name<K: Sink>(parts: &Parts, page: &mut Page, sink: &mut K) -> Result<(), SinkFault>
-    ensures text { Sends (K.held sink.old) page.old (K.held sink.new) page.new (name_text parts.now.name parts.now.reset) result }
+// Up to the port of the stalls.
+fn write_start<K: Sink>(parts: &Parts, page: &mut Page, sink: &mut K) -> Result<(), SinkFault>
+    requires { 1 ≤ parts.now.ext }
+    ensures text { Sends (K.held sink.old) page.old (K.held sink.new) page.new (start_text parts.now) result }
     ensures cause { HasCause (K.faults sink.old) (K.faults sink.new) result }
 {
-    put_pieces(
-        page,
-        sink,
-        &[
-            b"module ".as_slice(),
-            parts.name.bytes(),
-            b"(input wire clk, ".as_slice(),
-            reset_piece(parts),
-        ],
-    )
+    let pieces = [
+        Piece::Text(b"module "),
+        Piece::Text(parts.name.bytes()),
+        Piece::Text(b"(input wire clk, "),
+        Piece::Text(reset_piece(parts)),
+        Piece::Numbered(b"input wire [", u64::from(parts.ext - 1)),
+        Piece::Text(b":0] ext, "),
+    ];
+    put_pieces(page, sink, &pieces)
 }
 
 // A name with the range of its bits.
-#[tactic(auto, unfolding(crate::specs::inner::Texts::ranged_text))]
 fn write_ranged<'a, K: Sink>(
     front: &'a [u8],
     width: u8,
@@ -53,13 +52,11 @@ fn write_ranged<'a, K: Sink>(
     ensures text { Sends (K.held sink.old) page.old (K.held sink.new) page.new (ranged_text front.now width name.now end.now) result }
     ensures cause { HasCause (K.faults sink.old) (K.faults sink.new) result }
 {
-    let mut high = Buffer::new();
     let pieces = [
-        front,
-        high.format(width - 1).as_bytes(),
-        b":0] ".as_slice(),
-        name,
-        end,
+        Piece::Numbered(front, u64::from(width - 1)),
+        Piece::Text(b":0] "),
+        Piece::Text(name),
+        Piece::Text(end),
     ];
     put_pieces(page, sink, &pieces)
 }
@@ -92,35 +89,26 @@ fn width_of(net: &Netlist, id: NodeId) -> u8
     net.nodes()[id.0 as usize].width
 }
 
-fn write_outputs<K: Sink>(net: &Netlist, page: &mut Page, sink: &mut K) -> Result<(), SinkFault>
-    ensures text { Sends (K.held sink.old) page.old (K.held sink.new) page.new (outputs_text net.now.nodes net.now.parts) result }
+fn write_outputs<K: Sink>(
+    full: u8,
+    ue: u8,
+    back: u8,
+    page: &mut Page,
+    sink: &mut K,
+) -> Result<(), SinkFault>
+    requires full { 1 ≤ full }
+    requires ue { 1 ≤ ue }
+    requires back { 1 ≤ back }
+    ensures text { Sends (K.held sink.old) page.old (K.held sink.new) page.new (outputs_text full ue back) result }
     ensures cause { HasCause (K.faults sink.old) (K.faults sink.new) result }
 {
-    let parts = net.parts();
-    write_ranged(
-        b"output wire [",
-        width_of(net, parts.full),
-        b"full",
-        b", ",
-        page,
-        sink,
-    )?;
-    write_ranged(
-        b"output wire [",
-        width_of(net, parts.ue),
-        b"ue",
-        b", ",
-        page,
-        sink,
-    )?;
-    write_ranged(
-        b"output wire [",
-        width_of(net, parts.back),
-        b"back",
-        b");\n",
-        page,
-        sink,
-    )
+    let pieces = [
+        Piece::Numbered(b"output wire [", u64::from(full - 1)),
+        Piece::Numbered(b":0] full, output wire [", u64::from(ue - 1)),
+        Piece::Numbered(b":0] ue, output wire [", u64::from(back - 1)),
+        Piece::Text(b":0] back);\n"),
+    ];
+    put_pieces(page, sink, &pieces)
 }
 
 /// Writes the line with the module's name and its ports. A fault comes only from the sink.
@@ -129,10 +117,12 @@ pub fn write_header<K: Sink>(net: &Netlist, page: &mut Page, sink: &mut K) -> Re
     ensures cause { HasCause (K.faults sink.old) (K.faults sink.new) result }
 {
     let parts = net.parts();
-    write_name(parts, page, sink)?;
-    write_ranged(b"input wire [", parts.ext, b"ext", b", ", page, sink)?;
+    let full = width_of(net, parts.full);
+    let ue = width_of(net, parts.ue);
+    let back = width_of(net, parts.back);
+    write_start(parts, page, sink)?;
     write_samples(parts.samples.as_slice(), page, sink)?;
-    write_outputs(net, page, sink)
+    write_outputs(full, ue, back, page, sink)
 }
 
 fn write_regs<K: Sink>(regs: &[NetReg], page: &mut Page, sink: &mut K) -> Result<(), SinkFault>
@@ -161,21 +151,18 @@ pub fn word_count(address_width: u8) -> u32
     1 << address_width
 }
 
-#[tactic(auto, unfolding(crate::specs::inner::Texts::file_text))]
 fn write_file<K: Sink>(file: &NetFile, page: &mut Page, sink: &mut K) -> Result<(), SinkFault>
     requires { FileSafe file.now }
     ensures text { Sends (K.held sink.old) page.old (K.held sink.new) page.new (file_text file.now) result }
     ensures cause { HasCause (K.faults sink.old) (K.faults sink.new) result }
 {
-    let (mut high, mut last) = (Buffer::new(), Buffer::new());
+    let last = word_count(file.address_width) - 1;
     let pieces = [
-        b"  reg [".as_slice(),
-        high.format(file.width - 1).as_bytes(),
-        b":0] ".as_slice(),
-        file.name.bytes(),
-        b" [0:".as_slice(),
-        last.format(word_count(file.address_width) - 1).as_bytes(),
-        b"];\n".as_slice(),
+        Piece::Numbered(b"  reg [", u64::from(file.width - 1)),
+        Piece::Text(b":0] "),
+        Piece::Text(file.name.bytes()),
+        Piece::Numbered(b" [0:", u64::from(last)),
+        Piece::Text(b"];\n"),
     ];
     put_pieces(page, sink, &pieces)
 }
@@ -197,9 +184,9 @@ fn write_integer<K: Sink>(files: &[NetFile], page: &mut Page, sink: &mut K) -> R
     ensures cause { HasCause (K.faults sink.old) (K.faults sink.new) result }
 {
     if let [_, ..] = files {
-        put_pieces(page, sink, &[b"  integer i;\n".as_slice()])
+        put(page, sink, b"  integer i;\n")
     } else {
-        put_pieces(page, sink, &[])
+        put(page, sink, b"")
     }
 }
 

@@ -4,6 +4,7 @@
 mod header;
 mod nodes;
 mod page;
+mod pieces;
 mod state;
 mod writer;
 

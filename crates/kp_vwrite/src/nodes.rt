@@ -1,20 +1,17 @@
 // The nodes, and the outputs.
-ghost use Rattle.std.specs.Prelude.{◌≡◌, ◌<◌, ◌≤◌, [], length, get_or};
+ghost use Rattle.std.specs.Prelude.{◌≡◌, ◌<◌, ◌≤◌, flat_map, length, get_or};
 ghost use Rattle.kp_base.specs.Causes.{HasCause};
-ghost use Rattle.kp_bits.specs.Word.{IsWord, word};
-ghost use Rattle.kp_bits.specs.Spelling.{spelling};
 ghost use Rattle.kp_net.specs.Parts.{no_port, no_reg, no_file};
 ghost use Rattle.kp_vlog.specs.Canon.{sign};
 ghost use Rattle.kp_vwrite.specs.inner.Passing.{Sends};
-ghost use Rattle.kp_vwrite.specs.inner.Texts.{front_text, right_text, choice_text, wire_text, parts_text, joined_text, node_text, nodes_text, given_text, outs_text, KindSafe, NodeSafe, AllSafe};
+ghost use Rattle.kp_vwrite.specs.inner.Texts.{piece_text, front_text, right_text, parts_text, joined_text, node_text, nodes_text, outs_text, KindSafe, NodeSafe, AllSafe};
 
-use crate::page::{Page, put, put_fixed, put_pieces};
-use itoa::Buffer;
+use crate::page::{Page, put, put_fixed};
+use crate::pieces::{Piece, put_numbered, put_pieces, word_of};
 use kp_base::{Sink, SinkFault};
-use kp_bits::{BinOp, Bits};
+use kp_bits::BinOp;
 use kp_net::{Kind, NetFile, NetReg, Node, NodeId, Parts, Port};
 
-#[tactic(auto, unfolding(crate::specs::inner::Texts::front_text))]
 fn write_front<K: Sink>(
     number: usize,
     node: &Node,
@@ -25,21 +22,16 @@ fn write_front<K: Sink>(
     ensures text { Sends (K.held sink.old) page.old (K.held sink.new) page.new (front_text number node.now) result }
     ensures cause { HasCause (K.faults sink.old) (K.faults sink.new) result }
 {
-    let (mut high, mut name) = (Buffer::new(), Buffer::new());
-    let name = name.format(number).as_bytes();
     let pieces = [
-        b"  wire [".as_slice(),
-        high.format(node.width - 1).as_bytes(),
-        b":0] n".as_slice(),
-        name,
-        b";\n  assign n".as_slice(),
-        name,
-        b" = ".as_slice(),
+        Piece::Numbered(b"  wire [", u64::from(node.width - 1)),
+        Piece::Numbered(b":0] n", number as u64),
+        Piece::Numbered(b";\n  assign n", number as u64),
+        Piece::Text(b" = "),
     ];
     put_pieces(page, sink, &pieces)
 }
 
-fn sign_of(op: BinOp) -> &'static [u8]
+fn sign_of<'a>(op: BinOp) -> &'a [u8]
     ensures { result.now ≡ sign op }
 {
     match op {
@@ -56,85 +48,29 @@ fn sign_of(op: BinOp) -> &'static [u8]
     }
 }
 
-/// The text of a word, such as `8'h0b`, written to a buffer.
-pub fn spelled(value: Bits, room: &mut [u8; 20]) -> &[u8]
-    ensures { result.now ≡ spelling value }
-{
-    let length = value.spell(room);
-    &room[..length]
-}
-
-fn write_constant<K: Sink>(
-    width: u8,
-    value: u64,
-    page: &mut Page,
-    sink: &mut K,
-) -> Result<(), SinkFault>
-    requires { IsWord (word width value) }
-    ensures text { Sends (K.held sink.old) page.old (K.held sink.new) page.new (spelling (word width value)) result }
-    ensures cause { HasCause (K.faults sink.old) (K.faults sink.new) result }
-{
-    let mut room = [0; 20];
-    let value = Bits::new(width, value).unwrap();
-    put(page, sink, spelled(value, &mut room))
-}
-
-#[tactic(auto, unfolding(crate::specs::inner::Texts::choice_text))]
-fn write_choice<K: Sink>(
-    test: NodeId,
-    a: NodeId,
-    b: NodeId,
-    page: &mut Page,
-    sink: &mut K,
-) -> Result<(), SinkFault>
-    ensures text { Sends (K.held sink.old) page.old (K.held sink.new) page.new (choice_text test a b) result }
-    ensures cause { HasCause (K.faults sink.old) (K.faults sink.new) result }
-{
-    let (mut x, mut y, mut z) = (Buffer::new(), Buffer::new(), Buffer::new());
-    let pieces = [
-        b"n".as_slice(),
-        x.format(test.0).as_bytes(),
-        b" ? n".as_slice(),
-        y.format(a.0).as_bytes(),
-        b" : n".as_slice(),
-        z.format(b.0).as_bytes(),
-    ];
-    put_pieces(page, sink, &pieces)
-}
-
-// The name of a node's wire, after this text.
-#[tactic(auto, unfolding(crate::specs::inner::Texts::wire_text))]
-fn write_wire<K: Sink>(
-    front: &[u8],
-    id: NodeId,
-    page: &mut Page,
-    sink: &mut K,
-) -> Result<(), SinkFault>
-    ensures text { Sends (K.held sink.old) page.old (K.held sink.new) page.new (wire_text front.now id) result }
-    ensures cause { HasCause (K.faults sink.old) (K.faults sink.new) result }
-{
-    let mut number = Buffer::new();
-    put_pieces(page, sink, &[front, number.format(id.0).as_bytes()])
-}
-
 fn write_parts<K: Sink>(parts: &[NodeId], page: &mut Page, sink: &mut K) -> Result<(), SinkFault>
     ensures text { Sends (K.held sink.old) page.old (K.held sink.new) page.new (parts_text parts.now) result }
     ensures cause { HasCause (K.faults sink.old) (K.faults sink.new) result }
 {
     for part in parts {
-        write_wire(b", n", *part, page, sink)?;
+        put_numbered(page, sink, b", n", part.0 as u64)?;
     }
     Ok(())
 }
 
-fn write_joined<K: Sink>(parts: &[NodeId], page: &mut Page, sink: &mut K) -> Result<(), SinkFault>
+/// Writes the concatenation of nodes, as `{n1, n2}`. A fault comes only from the sink.
+pub fn write_joined<K: Sink>(
+    parts: &[NodeId],
+    page: &mut Page,
+    sink: &mut K,
+) -> Result<(), SinkFault>
     ensures text { Sends (K.held sink.old) page.old (K.held sink.new) page.new (joined_text parts.now) result }
     ensures cause { HasCause (K.faults sink.old) (K.faults sink.new) result }
 {
     match parts {
         [] => put_fixed(page, sink, b"{}"),
         [first, rest @ ..] => {
-            write_wire(b"{n", *first, page, sink)?;
+            put_numbered(page, sink, b"{n", first.0 as u64)?;
             write_parts(rest, page, sink)?;
             put_fixed(page, sink, b"}")
         }
@@ -162,69 +98,76 @@ fn file_name(files: &[NetFile], number: usize) -> &[u8]
     files[number].name.bytes()
 }
 
-#[tactic(auto, unfolding(crate::specs::inner::Texts::right_text, crate::specs::inner::Texts::choice_text, crate::specs::inner::Texts::joined_text))]
-fn write_right<K: Sink>(
-    parts: &Parts,
-    width: u8,
-    kind: &Kind,
-    page: &mut Page,
-    sink: &mut K,
-) -> Result<(), SinkFault>
+// The right side of a node's assignment, and the end of the line.
+#[tactic(auto, unfolding(crate::specs::inner::Texts::right_text, crate::specs::inner::Texts::numbered))]
+fn right<'a>(parts: &'a Parts, width: u8, kind: &'a Kind) -> [Piece<'a>; 4]
     requires { KindSafe parts.now width kind.now }
-    ensures text { Sends (K.held sink.old) page.old (K.held sink.new) page.new (right_text parts.now width kind.now) result }
-    ensures cause { HasCause (K.faults sink.old) (K.faults sink.new) result }
+    ensures { flat_map piece_text result ≡ right_text parts.now width kind.now }
 {
-    let (mut x, mut y, mut z) = (Buffer::new(), Buffer::new(), Buffer::new());
     match kind {
-        Kind::Const(value) => write_constant(width, *value, page, sink),
-        Kind::Ext => put(page, sink, b"ext"),
-        Kind::Sample(port) => put(
-            page,
-            sink,
-            sample_name(parts.samples.as_slice(), *port as usize),
-        ),
-        Kind::Reg(reg) => put(page, sink, reg_name(parts.regs.as_slice(), *reg as usize)),
-        Kind::Word(file, a) => put_pieces(
-            page,
-            sink,
-            &[
-                file_name(parts.files.as_slice(), *file as usize),
-                b"[n".as_slice(),
-                x.format(a.0).as_bytes(),
-                b"]".as_slice(),
-            ],
-        ),
-        Kind::Not(a) => put_pieces(page, sink, &[b"~n".as_slice(), x.format(a.0).as_bytes()]),
-        Kind::Binary(op, a, b) => put_pieces(
-            page,
-            sink,
-            &[
-                b"n".as_slice(),
-                x.format(a.0).as_bytes(),
-                sign_of(*op),
-                b"n".as_slice(),
-                y.format(b.0).as_bytes(),
-            ],
-        ),
-        Kind::Mux(test, a, b) => write_choice(*test, *a, *b, page, sink),
-        Kind::Concat(operands) => write_joined(operands.nodes(), page, sink),
-        Kind::Slice(a, hi, lo) => put_pieces(
-            page,
-            sink,
-            &[
-                b"n".as_slice(),
-                x.format(a.0).as_bytes(),
-                b"[".as_slice(),
-                y.format(*hi).as_bytes(),
-                b":".as_slice(),
-                z.format(*lo).as_bytes(),
-                b"]".as_slice(),
-            ],
-        ),
+        Kind::Const(value) => [
+            Piece::Literal(word_of(width, *value)),
+            Piece::Text(b";\n"),
+            Piece::Text(b""),
+            Piece::Text(b""),
+        ],
+        Kind::Ext => [
+            Piece::Text(b"ext"),
+            Piece::Text(b";\n"),
+            Piece::Text(b""),
+            Piece::Text(b""),
+        ],
+        Kind::Sample(port) => [
+            Piece::Text(sample_name(parts.samples.as_slice(), *port as usize)),
+            Piece::Text(b";\n"),
+            Piece::Text(b""),
+            Piece::Text(b""),
+        ],
+        Kind::Reg(reg) => [
+            Piece::Text(reg_name(parts.regs.as_slice(), *reg as usize)),
+            Piece::Text(b";\n"),
+            Piece::Text(b""),
+            Piece::Text(b""),
+        ],
+        Kind::Concat(operands) => [
+            Piece::Joined(operands.nodes()),
+            Piece::Text(b";\n"),
+            Piece::Text(b""),
+            Piece::Text(b""),
+        ],
+        Kind::Word(file, a) => [
+            Piece::Text(file_name(parts.files.as_slice(), *file as usize)),
+            Piece::Numbered(b"[n", u64::from(a.0)),
+            Piece::Text(b"];\n"),
+            Piece::Text(b""),
+        ],
+        Kind::Not(a) => [
+            Piece::Numbered(b"~n", u64::from(a.0)),
+            Piece::Text(b";\n"),
+            Piece::Text(b""),
+            Piece::Text(b""),
+        ],
+        Kind::Binary(op, a, b) => [
+            Piece::Numbered(b"n", u64::from(a.0)),
+            Piece::Text(sign_of(*op)),
+            Piece::Numbered(b"n", u64::from(b.0)),
+            Piece::Text(b";\n"),
+        ],
+        Kind::Mux(test, a, b) => [
+            Piece::Numbered(b"n", u64::from(test.0)),
+            Piece::Numbered(b" ? n", u64::from(a.0)),
+            Piece::Numbered(b" : n", u64::from(b.0)),
+            Piece::Text(b";\n"),
+        ],
+        Kind::Slice(a, hi, lo) => [
+            Piece::Numbered(b"n", u64::from(a.0)),
+            Piece::Numbered(b"[", u64::from(*hi)),
+            Piece::Numbered(b":", u64::from(*lo)),
+            Piece::Text(b"];\n"),
+        ],
     }
 }
 
-#[tactic(auto, unfolding(crate::specs::inner::Texts::node_text))]
 fn write_node<K: Sink>(
     parts: &Parts,
     number: usize,
@@ -237,8 +180,7 @@ fn write_node<K: Sink>(
     ensures cause { HasCause (K.faults sink.old) (K.faults sink.new) result }
 {
     write_front(number, node, page, sink)?;
-    write_right(parts, node.width, &node.kind, page, sink)?;
-    put_fixed(page, sink, b";\n")
+    put_pieces(page, sink, &right(parts, node.width, &node.kind))
 }
 
 /// Writes the wires with their assignments. A fault comes only from the sink.
@@ -258,36 +200,16 @@ pub fn write_nodes<K: Sink>(
     Ok(())
 }
 
-/// Writes a line that assigns a node to a name: an output, or a register at the end of a cycle. A fault comes only from the sink.
-#[tactic(auto, unfolding(crate::specs::inner::Texts::given_text))]
-pub fn write_given<'a, K: Sink>(
-    margin: &'a [u8],
-    name: &'a [u8],
-    sign: &'a [u8],
-    id: NodeId,
-    page: &mut Page,
-    sink: &mut K,
-) -> Result<(), SinkFault>
-    ensures text { Sends (K.held sink.old) page.old (K.held sink.new) page.new (given_text margin.now name.now sign.now id) result }
-    ensures cause { HasCause (K.faults sink.old) (K.faults sink.new) result }
-{
-    let mut number = Buffer::new();
-    let pieces = [
-        margin,
-        name,
-        sign,
-        number.format(id.0).as_bytes(),
-        b";\n".as_slice(),
-    ];
-    put_pieces(page, sink, &pieces)
-}
-
-/// Writes the assignments of the outputs. A fault comes only from the sink.
+/// Writes the assignments of the outputs, and the head of the block that follows them. A fault comes only from the sink.
 pub fn write_outs<K: Sink>(parts: &Parts, page: &mut Page, sink: &mut K) -> Result<(), SinkFault>
     ensures text { Sends (K.held sink.old) page.old (K.held sink.new) page.new (outs_text parts.now) result }
     ensures cause { HasCause (K.faults sink.old) (K.faults sink.new) result }
 {
-    write_given(b"  assign ", b"full", b" = n", parts.full, page, sink)?;
-    write_given(b"  assign ", b"ue", b" = n", parts.ue, page, sink)?;
-    write_given(b"  assign ", b"back", b" = n", parts.back, page, sink)
+    let pieces = [
+        Piece::Numbered(b"  assign full = n", u64::from(parts.full.0)),
+        Piece::Numbered(b";\n  assign ue = n", u64::from(parts.ue.0)),
+        Piece::Numbered(b";\n  assign back = n", u64::from(parts.back.0)),
+        Piece::Text(b";\n  initial begin\n"),
+    ];
+    put_pieces(page, sink, &pieces)
 }

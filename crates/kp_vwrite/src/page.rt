@@ -1,5 +1,5 @@
 // The buffer that a text passes through on its way to the sink, so that the sink is called once for many lines.
-ghost use Rattle.std.specs.Prelude.{◌≡◌, ◌+◌, ◌-◌, ◌≤◌, ℕ, List, [], ◌++◌, length, flat_map, OnOk};
+ghost use Rattle.std.specs.Prelude.{◌≡◌, ◌+◌, ◌-◌, ◌≤◌, ℕ, List, [], ◌++◌, length, OnOk};
 ghost use Rattle.kp_base.specs.Bytes.{Writes};
 ghost use Rattle.kp_base.specs.Causes.{HasCause};
 ghost use Rattle.kp_vwrite.specs.inner.Passing.{Sends};
@@ -88,15 +88,4 @@ pub fn put_fixed<K: Sink>(page: &mut Page, sink: &mut K, text: &[u8]) -> Result<
     ensures cause { HasCause (K.faults sink.old) (K.faults sink.new) result }
 {
     put(page, sink, text)
-}
-
-/// Appends the pieces in order. A fault comes only from the sink.
-pub fn put_pieces<K: Sink>(page: &mut Page, sink: &mut K, pieces: &[&[u8]]) -> Result<(), SinkFault>
-    ensures text { Sends (K.held sink.old) page.old (K.held sink.new) page.new (flat_map (λ piece. piece.now) pieces.now) result }
-    ensures cause { HasCause (K.faults sink.old) (K.faults sink.new) result }
-{
-    for piece in pieces {
-        put(page, sink, piece)?;
-    }
-    Ok(())
 }

@@ -2,18 +2,15 @@
 ghost use Rattle.std.specs.Prelude.{◌<◌, ◌≤◌, ◌^◌, All, true};
 ghost use Rattle.kp_base.specs.Causes.{HasCause};
 ghost use Rattle.kp_vwrite.specs.inner.Passing.{Sends};
-ghost use Rattle.kp_vwrite.specs.inner.Texts.{value_text, values_text, fill_text, word_text, words_text, contents_text, fills_text, state_text, updates_text, enable_text, store_text, port_text, ports_text, changes_text, body_text, clock_text, FileSafe};
+ghost use Rattle.kp_vwrite.specs.inner.Texts.{value_text, values_text, fill_text, word_text, words_text, contents_text, fills_text, state_text, update_text, updates_text, port_text, ports_text, changes_text, body_text, clock_text, FileSafe};
 
 use crate::header::word_count;
-use crate::nodes::{spelled, write_given};
-use crate::page::{Page, put_fixed, put_pieces};
-use itoa::Buffer;
+use crate::page::{Page, put, put_fixed};
+use crate::pieces::{Piece, put_pieces, word_of};
 use kp_base::{Sink, SinkFault};
-use kp_bits::Bits;
-use kp_net::{NetFile, NetReg, NodeId, Parts};
+use kp_net::{NetFile, NetReg, Parts};
 
 // The start value of a register, with this assignment operator.
-#[tactic(auto, unfolding(crate::specs::inner::Texts::value_text))]
 fn write_value<'a, K: Sink>(
     margin: &'a [u8],
     sign: &'a [u8],
@@ -24,13 +21,12 @@ fn write_value<'a, K: Sink>(
     ensures text { Sends (K.held sink.old) page.old (K.held sink.new) page.new (value_text margin.now sign.now reg.now) result }
     ensures cause { HasCause (K.faults sink.old) (K.faults sink.new) result }
 {
-    let mut room = [0; 20];
     let pieces = [
-        margin,
-        reg.name.bytes(),
-        sign,
-        spelled(reg.start, &mut room),
-        b";\n".as_slice(),
+        Piece::Text(margin),
+        Piece::Text(reg.name.bytes()),
+        Piece::Text(sign),
+        Piece::Literal(reg.start),
+        Piece::Text(b";\n"),
     ];
     put_pieces(page, sink, &pieces)
 }
@@ -51,35 +47,28 @@ fn write_values<K: Sink>(
     Ok(())
 }
 
-// The loop that sets each word of a file to zero. Its head has these texts before and after the count.
-#[tactic(auto, unfolding(crate::specs::inner::Texts::fill_text))]
-fn write_fill<'a, K: Sink>(
-    front: &'a [u8],
-    step: &'a [u8],
-    file: &'a NetFile,
-    page: &mut Page,
-    sink: &mut K,
-) -> Result<(), SinkFault>
+// The loop that sets each word of a file to zero.
+fn write_fill<K: Sink>(file: &NetFile, page: &mut Page, sink: &mut K) -> Result<(), SinkFault>
     requires { FileSafe file.now }
-    ensures text { Sends (K.held sink.old) page.old (K.held sink.new) page.new (fill_text front.now step.now file.now) result }
+    ensures text { Sends (K.held sink.old) page.old (K.held sink.new) page.new (fill_text file.now) result }
     ensures cause { HasCause (K.faults sink.old) (K.faults sink.new) result }
 {
-    let mut count = Buffer::new();
-    let mut room = [0; 20];
-    let zero = Bits::new(file.width, 0).unwrap();
+    let zero = word_of(file.width, 0);
     let pieces = [
-        front,
-        count.format(word_count(file.address_width)).as_bytes(),
-        step,
-        file.name.bytes(),
-        b"[i] = ".as_slice(),
-        spelled(zero, &mut room),
-        b";\n".as_slice(),
+        Piece::Numbered(
+            b"    for (i = 0; i < ",
+            u64::from(word_count(file.address_width)),
+        ),
+        Piece::Text(b"; i = i + 1) "),
+        Piece::Text(file.name.bytes()),
+        Piece::Text(b"[i] = "),
+        Piece::Literal(zero),
+        Piece::Text(b";\n"),
     ];
     put_pieces(page, sink, &pieces)
 }
 
-#[tactic(auto, unfolding(crate::specs::inner::Texts::word_text))]
+#[tactic(auto, unfolding(crate::specs::inner::Texts::word_text, crate::specs::inner::Texts::numbered))]
 fn write_word<K: Sink>(
     name: &[u8],
     width: u8,
@@ -95,19 +84,15 @@ fn write_word<K: Sink>(
     ensures cause { HasCause (K.faults sink.old) (K.faults sink.new) result }
 {
     if value == 0 {
-        return put_pieces(page, sink, &[]);
+        return put(page, sink, b"");
     }
-    let mut number = Buffer::new();
-    let mut room = [0; 20];
-    let word = Bits::new(width, value).unwrap();
     let pieces = [
-        b"    ".as_slice(),
-        name,
-        b"[".as_slice(),
-        number.format(address).as_bytes(),
-        b"] = ".as_slice(),
-        spelled(word, &mut room),
-        b";\n".as_slice(),
+        Piece::Text(b"    "),
+        Piece::Text(name),
+        Piece::Numbered(b"[", address as u64),
+        Piece::Text(b"] = "),
+        Piece::Literal(word_of(width, value)),
+        Piece::Text(b";\n"),
     ];
     put_pieces(page, sink, &pieces)
 }
@@ -137,7 +122,7 @@ fn write_contents<K: Sink>(file: &NetFile, page: &mut Page, sink: &mut K) -> Res
     ensures text { Sends (K.held sink.old) page.old (K.held sink.new) page.new (contents_text file.now) result }
     ensures cause { HasCause (K.faults sink.old) (K.faults sink.new) result }
 {
-    write_fill(b"    for (i = 0; i < ", b"; i = i + 1) ", file, page, sink)?;
+    write_fill(file, page, sink)?;
     write_words(
         file.name.bytes(),
         file.width,
@@ -158,15 +143,33 @@ fn write_fills<K: Sink>(files: &[NetFile], page: &mut Page, sink: &mut K) -> Res
     Ok(())
 }
 
-/// Writes the block with the start values, except its end. A fault comes only from the sink.
+/// Writes the start values of the block that begins after the outputs. A fault comes only from the sink.
 pub fn write_state<K: Sink>(parts: &Parts, page: &mut Page, sink: &mut K) -> Result<(), SinkFault>
     requires { All FileSafe parts.now.files }
     ensures text { Sends (K.held sink.old) page.old (K.held sink.new) page.new (state_text parts.now) result }
     ensures cause { HasCause (K.faults sink.old) (K.faults sink.new) result }
 {
-    put_fixed(page, sink, b"  initial begin\n")?;
     write_values(b"    ", b" = ", parts.regs.as_slice(), page, sink)?;
     write_fills(parts.files.as_slice(), page, sink)
+}
+
+// A register's value after the cycle, as `    r_X <= n3;`.
+fn write_update<'a, K: Sink>(
+    margin: &'a [u8],
+    reg: &'a NetReg,
+    page: &mut Page,
+    sink: &mut K,
+) -> Result<(), SinkFault>
+    ensures text { Sends (K.held sink.old) page.old (K.held sink.new) page.new (update_text margin.now reg.now) result }
+    ensures cause { HasCause (K.faults sink.old) (K.faults sink.new) result }
+{
+    let pieces = [
+        Piece::Text(margin),
+        Piece::Text(reg.name.bytes()),
+        Piece::Numbered(b" <= n", u64::from(reg.next.0)),
+        Piece::Text(b";\n"),
+    ];
+    put_pieces(page, sink, &pieces)
 }
 
 fn write_updates<K: Sink>(
@@ -179,58 +182,15 @@ fn write_updates<K: Sink>(
     ensures cause { HasCause (K.faults sink.old) (K.faults sink.new) result }
 {
     for reg in regs {
-        write_given(margin, reg.name.bytes(), b" <= n", reg.next, page, sink)?;
+        write_update(margin, reg, page, sink)?;
     }
     Ok(())
 }
 
-#[tactic(auto, unfolding(crate::specs::inner::Texts::enable_text))]
-fn write_enable<K: Sink>(
-    margin: &[u8],
-    enable: NodeId,
-    name: &[u8],
-    page: &mut Page,
-    sink: &mut K,
-) -> Result<(), SinkFault>
-    ensures text { Sends (K.held sink.old) page.old (K.held sink.new) page.new (enable_text margin.now enable name.now) result }
-    ensures cause { HasCause (K.faults sink.old) (K.faults sink.new) result }
-{
-    let mut number = Buffer::new();
-    let pieces = [
-        margin,
-        b"if (n".as_slice(),
-        number.format(enable.0).as_bytes(),
-        b") ".as_slice(),
-        name,
-    ];
-    put_pieces(page, sink, &pieces)
-}
-
-#[tactic(auto, unfolding(crate::specs::inner::Texts::store_text))]
-fn write_store<K: Sink>(
-    address: NodeId,
-    value: NodeId,
-    page: &mut Page,
-    sink: &mut K,
-) -> Result<(), SinkFault>
-    ensures text { Sends (K.held sink.old) page.old (K.held sink.new) page.new (store_text address value) result }
-    ensures cause { HasCause (K.faults sink.old) (K.faults sink.new) result }
-{
-    let (mut x, mut y) = (Buffer::new(), Buffer::new());
-    let pieces = [
-        b"[n".as_slice(),
-        x.format(address.0).as_bytes(),
-        b"] <= n".as_slice(),
-        y.format(value.0).as_bytes(),
-        b";\n".as_slice(),
-    ];
-    put_pieces(page, sink, &pieces)
-}
-
-#[tactic(auto, unfolding(crate::specs::inner::Texts::port_text))]
-fn write_port<K: Sink>(
-    margin: &[u8],
-    file: &NetFile,
+#[tactic(auto, unfolding(crate::specs::inner::Texts::port_text, crate::specs::inner::Texts::numbered))]
+fn write_port<'a, K: Sink>(
+    margin: &'a [u8],
+    file: &'a NetFile,
     page: &mut Page,
     sink: &mut K,
 ) -> Result<(), SinkFault>
@@ -239,10 +199,18 @@ fn write_port<K: Sink>(
 {
     match file.port {
         Some(port) => {
-            write_enable(margin, port.enable, file.name.bytes(), page, sink)?;
-            write_store(port.address, port.value, page, sink)
+            let pieces = [
+                Piece::Text(margin),
+                Piece::Numbered(b"if (n", u64::from(port.enable.0)),
+                Piece::Text(b") "),
+                Piece::Text(file.name.bytes()),
+                Piece::Numbered(b"[n", u64::from(port.address.0)),
+                Piece::Numbered(b"] <= n", u64::from(port.value.0)),
+                Piece::Text(b";\n"),
+            ];
+            put_pieces(page, sink, &pieces)
         }
-        None => put_pieces(page, sink, &[]),
+        None => put(page, sink, b""),
     }
 }
 

@@ -1,10 +1,26 @@
 -- The lines of the canonical text, as they are written.
-use Rattle.std.specs.Prelude.{ℕ, ◌-◌, ◌^◌, ◌<◌, ◌≤◌, Bool, true, false, List, [], ◌∷◌, ◌++◌, codes, decimal, length, get_or, All, Option, Some, None}
+use Rattle.std.specs.Prelude.{ℕ, ◌-◌, ◌^◌, ◌<◌, ◌≤◌, Bool, true, false, List, [], ◌∷◌, ◌++◌, codes, decimal, length, get_or, All}
 use Rattle.kp_bits.specs.{Word.word, Word.IsWord, Spelling.spelling}
 use Rattle.kp_net.specs.declared.node.{NodeId.NodeId, Kind.Kind, Kind.TheVariants.Const, Kind.TheVariants.Sample, Kind.TheVariants.Reg, Kind.TheVariants.Word}
-use Rattle.kp_net.specs.declared.{node.Node.Node, netlist.Port.Port, netlist.WritePort.WritePort, netlist.NetReg.NetReg, netlist.NetFile.NetFile}
+use Rattle.kp_net.specs.declared.{node.Node.Node, netlist.Port.Port, netlist.NetReg.NetReg, netlist.NetFile.NetFile}
 use Rattle.kp_net.specs.{declared.netlist.Parts.Parts, Widths.wide, Widths.no_node, Netlist.Net}
-use Rattle.kp_vlog.specs.Canon.{text_of, right_side, joined, sample_ports, reg_lines, file_lines, integer_line, node_lines, word_line, word_lines, fill_lines, update_lines, port_lines}
+use Rattle.kp_vlog.specs.Canon.{text_of, right_side, joined, sample_ports, out_ports, out_line, reg_lines, file_lines, integer_line, node_lines, word_line, word_lines, fill_lines, update_lines, port_line, port_lines}
+use Rattle.kp_vwrite.specs.declared.pieces.Piece.{Piece}
+use Rattle.kp_vwrite.specs.declared.pieces.Piece.TheVariants.{Text, Numbered, Literal, Joined}
+
+unfoldable pub joined_text : List NodeId → List ℕ
+joined_text parts = text_of (joined parts)
+
+-- a number after this text
+unfoldable pub numbered : List ℕ → ℕ → List ℕ
+numbered front n = front ++ decimal n
+
+-- the text of a piece
+abbrev pub piece_text : Piece → List ℕ
+piece_text (Text text) = text.now
+piece_text (Numbered front n) = numbered front.now n
+piece_text (Literal value) = spelling value
+piece_text (Joined parts) = joined_text parts.now
 
 -- a text that is the same for all netlists; sealed, so that a search treats it as one term
 unfoldable pub fixed : List ℕ → List ℕ
@@ -12,15 +28,17 @@ fixed text = text
 
 -- a name with the range of its bits, as `input wire [7:0] s_Q, `
 unfoldable pub ranged_text : List ℕ → ℕ → List ℕ → List ℕ → List ℕ
-ranged_text front width name end = text_of (front ∷ decimal (width - 1) ∷ codes ":0] " ∷ name ∷ end ∷ [])
+ranged_text front width name end = text_of (numbered front (width - 1) ∷ codes ":0] " ∷ name ∷ end ∷ [])
 
 -- the header
 abbrev pub reset_text : Bool → List ℕ
 reset_text true = codes "input wire rst, "
 reset_text false = []
 
-unfoldable pub name_text : List ℕ → Bool → List ℕ
-name_text name reset = text_of (codes "module " ∷ name ∷ codes "(input wire clk, " ∷ reset_text reset ∷ [])
+unfoldable pub start_text : Parts → List ℕ
+start_text p =
+    text_of
+    (codes "module " ∷ p.name ∷ codes "(input wire clk, " ∷ reset_text p.reset ∷ codes "input wire [" ∷ decimal (p.ext - 1) ∷ codes ":0] ext, " ∷ [])
 
 abbrev pub sample_text : Port → List ℕ
 sample_text s = ranged_text (codes "input wire [") s.width s.name (codes ", ")
@@ -28,14 +46,11 @@ sample_text s = ranged_text (codes "input wire [") s.width s.name (codes ", ")
 unfoldable pub samples_text : List Port → List ℕ
 samples_text ss = text_of (sample_ports ss)
 
-abbrev pub outputs_text : List Node → Parts → List ℕ
-outputs_text ns p =
-    ranged_text (codes "output wire [") (wide ns p.full.0) (codes "full") (codes ", ")
-    ++ (ranged_text (codes "output wire [") (wide ns p.ue.0) (codes "ue") (codes ", ") ++ ranged_text (codes "output wire [") (wide ns p.back.0) (codes "back") (codes ");\n"))
+unfoldable pub outputs_text : ℕ → ℕ → ℕ → List ℕ
+outputs_text full ue back = text_of (out_ports full ue back)
 
 abbrev pub header_text : List Node → Parts → List ℕ
-header_text ns p =
-    name_text p.name p.reset ++ (ranged_text (codes "input wire [") p.ext (codes "ext") (codes ", ") ++ (samples_text p.samples ++ outputs_text ns p))
+header_text ns p = start_text p ++ (samples_text p.samples ++ outputs_text (wide ns p.full.0) (wide ns p.ue.0) (wide ns p.back.0))
 
 -- the declarations
 abbrev pub reg_text : NetReg → List ℕ
@@ -61,40 +76,25 @@ unfoldable pub front_text : ℕ → Node → List ℕ
 front_text j n = text_of (codes "  wire [" ∷ decimal (n.width - 1) ∷ codes ":0] n" ∷ decimal j ∷ codes ";\n  assign n" ∷ decimal j ∷ codes " = " ∷ [])
 
 unfoldable pub right_text : Parts → ℕ → Kind → List ℕ
-right_text p k kind = text_of (right_side p k kind)
-
-unfoldable pub choice_text : NodeId → NodeId → NodeId → List ℕ
-choice_text test a b = text_of (codes "n" ∷ decimal test.0 ∷ codes " ? n" ∷ decimal a.0 ∷ codes " : n" ∷ decimal b.0 ∷ [])
-
--- the name of a node's wire, after this text
-unfoldable pub wire_text : List ℕ → NodeId → List ℕ
-wire_text front a = text_of (front ∷ decimal a.0 ∷ [])
+right_text p k kind = text_of (right_side p k kind ++ (codes ";\n" ∷ []))
 
 abbrev pub part_text : NodeId → List ℕ
-part_text a = wire_text (codes ", n") a
+part_text a = numbered (codes ", n") a.0
 
 unfoldable pub parts_text : List NodeId → List ℕ
 parts_text [] = []
 parts_text (a ∷ parts) = part_text a ++ parts_text parts
 
-unfoldable pub joined_text : List NodeId → List ℕ
-joined_text parts = text_of (joined parts)
-
-unfoldable pub node_text : Parts → ℕ → Node → List ℕ
-node_text p j n = front_text j n ++ (right_text p n.width n.kind ++ fixed (codes ";\n"))
+abbrev pub node_text : Parts → ℕ → Node → List ℕ
+node_text p j n = front_text j n ++ right_text p n.width n.kind
 
 unfoldable pub nodes_text : Parts → ℕ → List Node → List ℕ
 nodes_text p j ns = text_of (node_lines p j ns)
 
--- a node assigned to a name, as `  assign full = n3;` or `    r_X <= n3;`
-unfoldable pub given_text : List ℕ → List ℕ → List ℕ → NodeId → List ℕ
-given_text margin name sign a = text_of (margin ∷ name ∷ sign ∷ decimal a.0 ∷ codes ";\n" ∷ [])
-
-abbrev pub out_text : List ℕ → NodeId → List ℕ
-out_text port a = given_text (codes "  assign ") port (codes " = n") a
-
-abbrev pub outs_text : Parts → List ℕ
-outs_text p = out_text (codes "full") p.full ++ (out_text (codes "ue") p.ue ++ out_text (codes "back") p.back)
+-- the outputs, and the head of the block that follows them
+unfoldable pub outs_text : Parts → List ℕ
+outs_text p =
+    text_of (out_line (codes "full") p.full ++ (out_line (codes "ue") p.ue ++ (out_line (codes "back") p.back ++ (codes "  initial begin\n" ∷ []))))
 
 -- the start values, with this assignment operator: in the first block, and in a reset
 unfoldable pub value_text : List ℕ → List ℕ → NetReg → List ℕ
@@ -104,9 +104,10 @@ unfoldable pub values_text : List ℕ → List ℕ → List NetReg → List ℕ
 values_text margin sign [] = []
 values_text margin sign (r ∷ rs) = value_text margin sign r ++ values_text margin sign rs
 
-unfoldable pub fill_text : List ℕ → List ℕ → NetFile → List ℕ
-fill_text front step f =
-    text_of (front ∷ decimal (2 ^ f.address_width) ∷ step ∷ f.name ∷ codes "[i] = " ∷ spelling (word f.width 0) ∷ codes ";\n" ∷ [])
+unfoldable pub fill_text : NetFile → List ℕ
+fill_text f =
+    text_of
+    (codes "    for (i = 0; i < " ∷ decimal (2 ^ f.address_width) ∷ codes "; i = i + 1) " ∷ f.name ∷ codes "[i] = " ∷ spelling (word f.width 0) ∷ codes ";\n" ∷ [])
 
 unfoldable pub word_text : List ℕ → ℕ → ℕ → ℕ → List ℕ
 word_text name width a v = text_of (word_line name width a v)
@@ -115,33 +116,23 @@ unfoldable pub words_text : List ℕ → ℕ → ℕ → List ℕ → List ℕ
 words_text name width a vs = text_of (word_lines name width a vs)
 
 unfoldable pub contents_text : NetFile → List ℕ
-contents_text f = fill_text (codes "    for (i = 0; i < ") (codes "; i = i + 1) ") f ++ words_text f.name f.width 0 f.words
+contents_text f = fill_text f ++ words_text f.name f.width 0 f.words
 
 unfoldable pub fills_text : List NetFile → List ℕ
 fills_text fs = text_of (fill_lines fs)
 
 abbrev pub state_text : Parts → List ℕ
-state_text p = fixed (codes "  initial begin\n") ++ (values_text (codes "    ") (codes " = ") p.regs ++ fills_text p.files)
+state_text p = values_text (codes "    ") (codes " = ") p.regs ++ fills_text p.files
 
 -- the updates at the end of a cycle
-abbrev pub update_text : List ℕ → NetReg → List ℕ
-update_text margin r = given_text margin r.name (codes " <= n") r.next
+unfoldable pub update_text : List ℕ → NetReg → List ℕ
+update_text margin r = text_of (margin ∷ r.name ∷ codes " <= n" ∷ decimal r.next.0 ∷ codes ";\n" ∷ [])
 
 unfoldable pub updates_text : List ℕ → List NetReg → List ℕ
 updates_text margin rs = text_of (update_lines margin rs)
 
-unfoldable pub enable_text : List ℕ → NodeId → List ℕ → List ℕ
-enable_text margin a name = text_of (margin ∷ codes "if (n" ∷ decimal a.0 ∷ codes ") " ∷ name ∷ [])
-
-unfoldable pub store_text : NodeId → NodeId → List ℕ
-store_text a v = text_of (codes "[n" ∷ decimal a.0 ∷ codes "] <= n" ∷ decimal v.0 ∷ codes ";\n" ∷ [])
-
-abbrev pub write_text : List ℕ → List ℕ → Option WritePort → List ℕ
-write_text margin name None = []
-write_text margin name (Some w) = enable_text margin w.enable name ++ store_text w.address w.value
-
 unfoldable pub port_text : List ℕ → NetFile → List ℕ
-port_text margin f = write_text margin f.name f.port
+port_text margin f = text_of (port_line margin f.name f.port)
 
 unfoldable pub ports_text : List ℕ → List NetFile → List ℕ
 ports_text margin fs = text_of (port_lines margin fs)

@@ -2,20 +2,18 @@ use Rattle.std.proofs.lemmas.Result.{err_from_is_err_and}
 use Rattle.kp_vwrite.proofs.Passing.{sends_next, stops_next, stops_more}
 use Rattle.kp_vwrite.proofs.header.write_header.Goals as goal
 
-pub returns-in_err-write_name-clause-text : goal.returns-in_err-write_name-clause-text
-returns-in_err-write_name-clause-text g c =
+pub returns-in_err-write_start-clause-text : goal.returns-in_err-write_start-clause-text
+returns-in_err-write_start-clause-text g c =
     let exit = err_from_is_err_and c.from_residual.result c.from_residual.ensures.1 in
-    rw exit.1 (stops_more _ _ _ _ _ (rw c.parts-parts.ensures.parts at c.in_err-write_name.ensures.text))
-
-pub returns-in_err-write_ranged-clause-text : goal.returns-in_err-write_ranged-clause-text
-returns-in_err-write_ranged-clause-text g c =
-    let exit = err_from_is_err_and c.from_residual-in_err-write_ranged.result c.from_residual-in_err-write_ranged.ensures.1 in
-    rw exit.1 (stops_next _ _ _ _ _ _ _ (rw c.parts-parts.ensures.parts at c.in_ok-write_name.ensures.text) (stops_more _ _ _ _ _ (rw c.parts-parts.ensures.parts at c.in_err-write_ranged.ensures.text)))
+    rw exit.1 (stops_more _ _ _ _ _ (rw c.parts-parts.ensures.parts at c.in_err-write_start.ensures.text))
 
 pub returns-in_err-write_samples-clause-text : goal.returns-in_err-write_samples-clause-text
 returns-in_err-write_samples-clause-text g c =
     let exit = err_from_is_err_and c.from_residual-in_err-write_samples.result c.from_residual-in_err-write_samples.ensures.1 in
-    rw exit.1 (stops_next _ _ _ _ _ _ _ (rw c.parts-parts.ensures.parts at c.in_ok-write_name.ensures.text) (stops_next _ _ _ _ _ _ _ (rw c.parts-parts.ensures.parts at c.in_ok-write_ranged.ensures.text) (stops_more _ _ _ _ _ (rw (c.as_slice.ensures, c.parts-parts.ensures.parts) at c.in_err-write_samples.ensures.text))))
+    rw exit.1 (stops_next _ _ _ _ _ _ _ (rw c.parts-parts.ensures.parts at c.in_ok-write_start.ensures.text) (stops_more _ _ _ _ _ (rw (c.as_slice.ensures, c.parts-parts.ensures.parts) at c.in_err-write_samples.ensures.text)))
 
 pub returns-clause-text : goal.returns-clause-text
-returns-clause-text g c = sends_next _ _ _ _ _ _ _ _ _ (rw c.parts-parts.ensures.parts at c.in_ok-write_name.ensures.text) (sends_next _ _ _ _ _ _ _ _ _ (rw c.parts-parts.ensures.parts at c.in_ok-write_ranged.ensures.text) (sends_next _ _ _ _ _ _ _ _ _ (rw (c.as_slice.ensures, c.parts-parts.ensures.parts) at c.in_ok-write_samples.ensures.text) c.write_outputs.ensures.text))
+returns-clause-text g c =
+    sends_next _ _ _ _ _ _ _ _ _ (rw c.parts-parts.ensures.parts at c.in_ok-write_start.ensures.text)
+    (sends_next _ _ _ _ _ _ _ _ _ (rw (c.as_slice.ensures, c.parts-parts.ensures.parts) at c.in_ok-write_samples.ensures.text)
+    (rw (c.width_of-full.ensures.value, c.width_of-ue.ensures.value, c.width_of-back.ensures.value, c.parts-parts.ensures.parts) at c.write_outputs.ensures.text))

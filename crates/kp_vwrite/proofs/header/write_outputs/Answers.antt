@@ -1,16 +1,6 @@
-use Rattle.std.proofs.lemmas.Result.{err_from_is_err_and}
-use Rattle.kp_vwrite.proofs.Passing.{sends_next, stops_next, stops_more}
+use Rattle.kp_vwrite.specs.inner.Texts.{outputs_text, numbered}
 use Rattle.kp_vwrite.proofs.header.write_outputs.Goals as goal
 
-pub returns-in_err-write_ranged-clause-text : goal.returns-in_err-write_ranged-clause-text
-returns-in_err-write_ranged-clause-text g c =
-    let exit = err_from_is_err_and c.from_residual.result c.from_residual.ensures.1 in
-    rw exit.1 (stops_more _ _ _ _ _ (rw (c.width_of.ensures.value, c.parts-parts.ensures.parts) at c.in_err-write_ranged.ensures.text))
-
-pub returns-in_err-write_ranged-2-clause-text : goal.returns-in_err-write_ranged-2-clause-text
-returns-in_err-write_ranged-2-clause-text g c =
-    let exit = err_from_is_err_and c.from_residual-in_err-write_ranged-2.result c.from_residual-in_err-write_ranged-2.ensures.1 in
-    rw exit.1 (stops_next _ _ _ _ _ _ _ (rw (c.width_of.ensures.value, c.parts-parts.ensures.parts) at c.in_ok-write_ranged.ensures.text) (stops_more _ _ _ _ _ (rw (c.width_of-2.ensures.value, c.parts-parts.ensures.parts) at c.in_err-write_ranged-2.ensures.text)))
-
 pub returns-clause-text : goal.returns-clause-text
-returns-clause-text g c = sends_next _ _ _ _ _ _ _ _ _ (rw (c.width_of.ensures.value, c.parts-parts.ensures.parts) at c.in_ok-write_ranged.ensures.text) (sends_next _ _ _ _ _ _ _ _ _ (rw (c.width_of-2.ensures.value, c.parts-parts.ensures.parts) at c.in_ok-write_ranged-2.ensures.text) (rw (c.width_of-3.ensures.value, c.parts-parts.ensures.parts) at c.write_ranged-3.ensures.text))
+unfolding outputs_text numbered
+returns-clause-text g c = rw (c.from.ensures, c.from-2.ensures, c.from-3.ensures) at c.put_pieces.ensures.text
