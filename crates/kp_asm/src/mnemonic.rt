@@ -4,7 +4,7 @@ ghost use Rattle.std.specs.Str.{bytes_eq};
 ghost use Rattle.kp_asm.specs.Mnemonics.{all_mnemonics, spelling as spelling_of, mnemonic_of, form as form_of};
 
 /// The mnemonic of an instruction.
-#[derive(Clone, Copy, PartialEq, Eq)]
+#[derive(Clone, Copy)]
 pub enum Mnemonic {
     Add,
     Sub,
@@ -36,7 +36,7 @@ pub enum Mnemonic {
 }
 
 /// A piece of the form of an instruction, after the mnemonic.
-#[derive(Clone, Copy, PartialEq, Eq)]
+#[derive(Clone, Copy)]
 pub enum Piece {
     Register,
     /// A number of 16 bits with a sign.

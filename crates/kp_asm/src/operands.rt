@@ -8,7 +8,7 @@ use crate::token::{Token, TokenKind, broken, bytes_of};
 use kp_base::Refusal;
 
 /// A rule of operands.
-#[derive(Clone, Copy, PartialEq, Eq)]
+#[derive(Clone, Copy)]
 pub enum Rule {
     /// A3: a token is the next one of the form.
     Form,

@@ -5,7 +5,7 @@ ghost use Rattle.kp_asm.specs.Tokens.{broken, bytes_of};
 use kp_base::{Refusal, place_of};
 
 /// The kind of a token.
-#[derive(Clone, Copy, PartialEq, Eq)]
+#[derive(Clone, Copy)]
 pub enum TokenKind {
     /// A letter or `_`, and then letters, digits and `_`: at most 64 bytes.
     Name,
@@ -21,7 +21,7 @@ pub enum TokenKind {
 }
 
 /// A token: the offset of its first byte, its length in bytes, and its kind.
-#[derive(Clone, Copy, PartialEq, Eq)]
+#[derive(Clone, Copy)]
 pub struct Token {
     pub start: u32,
     pub len: u32,

@@ -5,14 +5,14 @@ use kp_base::{List, Place};
 use kp_bits::{BinOp, Literal};
 
 /// A number as written, and its position.
-#[derive(Clone, Copy, PartialEq, Eq)]
+#[derive(Clone, Copy)]
 pub struct Num {
     pub value: u64,
     pub at: Place,
 }
 
 /// A literal as written, and its position.
-#[derive(Clone, Copy, PartialEq, Eq)]
+#[derive(Clone, Copy)]
 pub struct Lit {
     pub literal: Literal,
     pub at: Place,

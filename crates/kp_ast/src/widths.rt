@@ -4,7 +4,7 @@ use kp_base::List;
 
 /// Where a name is in scope: to the end of the text, of a function, or of a stage block. Functions and blocks are
 /// numbered in text order, from 0.
-#[derive(Clone, Copy, PartialEq, Eq)]
+#[derive(Clone, Copy)]
 pub enum Scope {
     Text,
     Function(u32),
@@ -12,7 +12,7 @@ pub enum Scope {
 }
 
 /// The kind of a name. A file has the width of its addresses.
-#[derive(Clone, Copy, PartialEq, Eq)]
+#[derive(Clone, Copy)]
 pub enum NameKind {
     Reg,
     File(u8),

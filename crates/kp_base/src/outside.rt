@@ -8,12 +8,12 @@ use std::alloc::{AllocError, AllocFailed};
 use thiserror::Error;
 
 /// A read or a write failed. The sink or source counts its faults.
-#[derive(Clone, Copy, Debug, PartialEq, Eq, Error)]
+#[derive(Clone, Copy, Debug, Error)]
 #[error("a read or a write failed")]
 pub struct Failed;
 
 /// Out of memory: an allocation failed.
-#[derive(Clone, Copy, Debug, PartialEq, Eq, Error)]
+#[derive(Clone, Copy, Debug, Error)]
 #[error("out of memory")]
 pub struct NoMemory;
 

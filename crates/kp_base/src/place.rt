@@ -3,7 +3,7 @@ ghost use Rattle.std.specs.Prelude.{◌≡◌, ◌-◌, ◌^◌, ◌+◌, ◌≤
 ghost use Rattle.kp_base.specs.Place.{place_after};
 
 /// The position of a byte of a text, or of its end: line and column, both counted from 1, columns in bytes.
-#[derive(Clone, Copy, Debug, PartialEq, Eq)]
+#[derive(Clone, Copy, Debug)]
 pub struct Place {
     pub line: u32,
     pub col: u32,

@@ -15,7 +15,7 @@ pub const MOST: usize = 16_777_216;
 const PIECE: usize = 4096;
 
 /// Why an input could not be read completely.
-#[derive(Clone, Copy, Debug, PartialEq, Eq, Error)]
+#[derive(Clone, Copy, Debug, Error)]
 pub enum ReadAll {
     #[error("the source failed")]
     Fault,

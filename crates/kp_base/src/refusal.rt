@@ -8,7 +8,7 @@ use std::alloc::{AllocError, AllocFailed};
 use thiserror::Error;
 
 /// The language whose rule is violated: descriptions (E), Verilog (V) or assembler programs (A).
-#[derive(Clone, Copy, Debug, PartialEq, Eq)]
+#[derive(Clone, Copy, Debug)]
 pub enum Family {
     E,
     V,
@@ -16,7 +16,7 @@ pub enum Family {
 }
 
 /// A violated rule, with the position that the rule specifies.
-#[derive(Clone, Copy, Debug, PartialEq, Eq, Error)]
+#[derive(Clone, Copy, Debug, Error)]
 #[error("{family:?}{number} at {}:{}", .place.line, .place.col)]
 pub struct Refusal {
     pub family: Family,
@@ -60,7 +60,7 @@ impl Refusal {
 }
 
 /// Why a call that checks an input returns no result: a violated rule, or out of memory.
-#[derive(Clone, Copy, Debug, PartialEq, Eq, Error)]
+#[derive(Clone, Copy, Debug, Error)]
 pub enum Refused {
     #[error(transparent)]
     Rule(Refusal),

@@ -1,5 +1,5 @@
 /// The outputs of a pipelined machine in one cycle (a cycle record). Bit k of a mask belongs to stage k.
-#[derive(Clone, Copy, PartialEq, Eq)]
+#[derive(Clone, Copy)]
 pub struct Row {
     /// The stages that hold an instruction.
     pub full: u16,

@@ -7,7 +7,7 @@ use crate::{Failed, Sink};
 use thiserror::Error;
 
 /// The sink failed before it had accepted the complete text.
-#[derive(Clone, Copy, Debug, PartialEq, Eq, Error)]
+#[derive(Clone, Copy, Debug, Error)]
 #[error("the sink failed")]
 pub struct SinkFault;
 

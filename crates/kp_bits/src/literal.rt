@@ -9,7 +9,7 @@ use std::error::Error;
 use std::fmt;
 
 /// A literal as it was written, whether or not its value fits its width.
-#[derive(Clone, Copy, PartialEq, Eq)]
+#[derive(Clone, Copy)]
 pub struct Literal {
     /// The number before the `'`.
     pub width: u64,
@@ -18,7 +18,7 @@ pub struct Literal {
 }
 
 /// What is wrong with a literal.
-#[derive(Clone, Copy, Debug, PartialEq, Eq)]
+#[derive(Clone, Copy, Debug)]
 pub enum LiteralFault {
     /// The text is not a literal.
     BadDigit,

@@ -17,7 +17,7 @@ use kp_view_texts::write_head;
 use std::alloc::Global;
 
 /// Why there is nothing to be written.
-#[derive(Clone, Copy, PartialEq, Eq)]
+#[derive(Clone, Copy)]
 pub enum Stop {
     ReadFault,
     NoMemory,

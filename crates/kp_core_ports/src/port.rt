@@ -7,7 +7,7 @@ use kp_base::{List, NoMemory, Place};
 use std::alloc::{AllocError, AllocFailed};
 
 /// What a line asks for. Targets, which are the registers and the files together, and pipes are identified by number, in the order of declaration.
-#[derive(Clone, Copy, PartialEq, Eq)]
+#[derive(Clone, Copy)]
 pub enum Ask {
     /// `show R`: the value of a register, by its target.
     Show(u32),
@@ -37,7 +37,7 @@ impl Drop for Port {
 }
 
 /// The first word of a line that asks for a register or a file.
-#[derive(Clone, Copy, PartialEq, Eq)]
+#[derive(Clone, Copy)]
 pub enum TargetVerb {
     Show,
     Peek,
@@ -45,14 +45,14 @@ pub enum TargetVerb {
 }
 
 /// The first word of a line that asks for a pipe in a stage.
-#[derive(Clone, Copy, PartialEq, Eq)]
+#[derive(Clone, Copy)]
 pub enum PipeVerb {
     Probe,
     Next,
 }
 
 /// The first word of a line.
-#[derive(Clone, Copy, PartialEq, Eq)]
+#[derive(Clone, Copy)]
 pub enum Verb {
     Target(TargetVerb),
     Pipe(PipeVerb),
@@ -91,7 +91,7 @@ impl Verb {
 }
 
 /// What violates a rule of the lines that ask for ports.
-#[derive(Clone, Copy, PartialEq, Eq)]
+#[derive(Clone, Copy)]
 pub enum PortRule {
     /// P1: the line has none of the forms.
     Form,
@@ -121,14 +121,14 @@ impl PortRule {
 }
 
 /// A violated rule, and the position of the token that violates it.
-#[derive(Clone, Copy, PartialEq, Eq)]
+#[derive(Clone, Copy)]
 pub struct PortRefusal {
     pub rule: PortRule,
     pub place: Place,
 }
 
 /// Why no ports are returned: a violated rule, or out of memory.
-#[derive(Clone, Copy, PartialEq, Eq)]
+#[derive(Clone, Copy)]
 pub enum PortsRefused {
     Rule(PortRefusal),
     NoMemory,

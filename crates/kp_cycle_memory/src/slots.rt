@@ -9,7 +9,7 @@ use kp_region::{Region, Span};
 use std::alloc::Global;
 
 /// Storage for a copy of the complete state, and whether one was saved in it.
-#[derive(Clone, Copy, PartialEq, Eq)]
+#[derive(Clone, Copy)]
 pub struct Slot {
     pub span: Span,
     pub is_saved: bool,

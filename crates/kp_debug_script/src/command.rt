@@ -2,14 +2,14 @@
 use kp_bits::Bits;
 
 /// A register of a job: the number of its target, counted among registers and files in the order of declaration, and its width in bits.
-#[derive(Clone, Copy, PartialEq, Eq)]
+#[derive(Clone, Copy)]
 pub struct Register {
     pub target: u32,
     pub width: u64,
 }
 
 /// A command of the debugger. Counts of cycles are at most 100,000.
-#[derive(Clone, Copy, PartialEq, Eq)]
+#[derive(Clone, Copy)]
 pub enum Command {
     /// `step N`: moves N cycles forward.
     Step(u32),
@@ -24,7 +24,7 @@ pub enum Command {
 }
 
 /// The keyword of a command.
-#[derive(Clone, Copy, PartialEq, Eq)]
+#[derive(Clone, Copy)]
 pub enum Verb {
     Step,
     Back,
@@ -34,7 +34,7 @@ pub enum Verb {
 }
 
 /// A violated rule of the E family, and the offset in the text of the byte that it is reported at.
-#[derive(Clone, Copy, PartialEq, Eq)]
+#[derive(Clone, Copy)]
 pub struct Fault {
     pub rule: u8,
     pub at: u32,

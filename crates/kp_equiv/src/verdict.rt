@@ -1,7 +1,7 @@
 // The result of a comparison.
 
 /// Whether two netlists were shown equal by their structure.
-#[derive(Clone, Copy, PartialEq, Eq)]
+#[derive(Clone, Copy)]
 pub enum Verdict {
     /// All roots agree.
     Same,

@@ -6,7 +6,7 @@ use kp_base::{List, Place};
 use kp_bits::Literal;
 
 /// A keyword of the language, which is never a name.
-#[derive(Clone, Copy, PartialEq, Eq)]
+#[derive(Clone, Copy)]
 pub enum Keyword {
     Machine,
     Stages,
@@ -144,7 +144,7 @@ impl Keyword {
 }
 
 /// A punctuator of one or two bytes.
-#[derive(Clone, Copy, PartialEq, Eq)]
+#[derive(Clone, Copy)]
 pub enum Mark {
     /// `;`
     Semicolon,
@@ -195,7 +195,7 @@ pub enum Mark {
 }
 
 /// The kind of a token.
-#[derive(Clone, Copy, PartialEq, Eq)]
+#[derive(Clone, Copy)]
 pub enum TokenKind {
     /// A name: an identifier of 1 to 64 bytes that isn't a keyword.
     Ident,
@@ -208,7 +208,7 @@ pub enum TokenKind {
 }
 
 /// A token of a text: `len` bytes from the offset `start` on, at the position `place`.
-#[derive(Clone, Copy, PartialEq, Eq)]
+#[derive(Clone, Copy)]
 pub struct Token {
     pub start: u32,
     pub len: u32,

@@ -7,7 +7,7 @@ use kp_base::NoMemory;
 use std::alloc::Global;
 
 /// The bytes of a text from one offset up to another.
-#[derive(Clone, Copy, PartialEq, Eq)]
+#[derive(Clone, Copy)]
 pub struct Run {
     pub at: u32,
     pub end: u32,

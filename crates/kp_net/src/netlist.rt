@@ -25,7 +25,7 @@ pub struct NetReg {
 }
 
 /// The write port of a file: at the end of a cycle in which `enable` is 1, the word at `address` becomes `value`.
-#[derive(Clone, Copy, PartialEq, Eq)]
+#[derive(Clone, Copy)]
 pub struct WritePort {
     pub enable: NodeId,
     pub address: NodeId,

@@ -6,7 +6,7 @@ use kp_bits::BinOp;
 use kp_lex::Mark;
 
 /// The operators of equal precedence, from the lowest level to the highest.
-#[derive(Clone, Copy, PartialEq, Eq)]
+#[derive(Clone, Copy)]
 pub(crate) enum Level {
     Or,
     Xor,

@@ -7,7 +7,7 @@ ghost use Rattle.kp_paths.specs.Cells.{unmet};
 use kp_synth_tables::Port;
 
 /// What a stage has for a read.
-#[derive(Clone, Copy, PartialEq, Eq)]
+#[derive(Clone, Copy)]
 pub enum Cell {
     /// The stage of the read itself.
     Reads,

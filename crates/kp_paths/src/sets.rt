@@ -10,7 +10,7 @@ use kp_base::NoMemory;
 use std::alloc::Global;
 
 /// A set of a result: its stage, the number of the result's target, and whether it has no condition.
-#[derive(Clone, Copy, PartialEq, Eq)]
+#[derive(Clone, Copy)]
 pub struct Placed {
     pub stage: usize,
     pub target: usize,

@@ -8,11 +8,11 @@ use std::alloc::Global;
 use std::marker::Model;
 
 /// The region has fewer words left than requested.
-#[derive(Clone, Copy, PartialEq, Eq)]
+#[derive(Clone, Copy)]
 pub struct Full;
 
 /// A number of used words of a region at some moment.
-#[derive(Clone, Copy, PartialEq, Eq)]
+#[derive(Clone, Copy)]
 pub struct Mark {
     used: u32,
 }

@@ -10,7 +10,7 @@ use kp_base::{Place, Refusal, Refused};
 
 /// The numbers of a machine: the number of stages, of declarations of each kind, of reads, and of guessed reads, its
 /// expanded size, and the number of samples.
-#[derive(Clone, Copy, PartialEq, Eq)]
+#[derive(Clone, Copy)]
 pub struct Summary {
     pub stages: u32,
     pub regs: u32,

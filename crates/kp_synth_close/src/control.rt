@@ -13,7 +13,7 @@ pub struct Control {
 }
 
 /// The outputs of the netlist in a cycle.
-#[derive(Clone, Copy, PartialEq, Eq)]
+#[derive(Clone, Copy)]
 pub struct RowNodes {
     /// Bit k says whether stage k holds an instruction.
     pub full: NodeId,

@@ -3,14 +3,14 @@ use kp_base::List;
 use kp_net::NodeId;
 
 /// A set of a result: whether it is enabled, and its value.
-#[derive(Clone, Copy, PartialEq, Eq)]
+#[derive(Clone, Copy)]
 pub struct Set {
     pub enabled: NodeId,
     pub value: NodeId,
 }
 
 /// A guessed read: whether the guess is used, so that it is pending, and its value.
-#[derive(Clone, Copy, PartialEq, Eq)]
+#[derive(Clone, Copy)]
 pub struct Made {
     pub pending: NodeId,
     pub value: NodeId,

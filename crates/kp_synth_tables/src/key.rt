@@ -21,7 +21,7 @@ pub enum Key {
 }
 
 /// A guessed read of the job.
-#[derive(Clone, Copy, PartialEq, Eq)]
+#[derive(Clone, Copy)]
 pub struct GuessSlot {
     /// The stage that contains it.
     pub stage: u32,

@@ -15,14 +15,14 @@ use std::alloc::Global;
 use std::marker::Model;
 
 /// The width of a target's values, and that of its addresses, which is 0 for a register.
-#[derive(Clone, Copy, PartialEq, Eq)]
+#[derive(Clone, Copy)]
 pub struct Sized {
     pub width: u8,
     pub address: u8,
 }
 
 /// The width of a pipe, and the stages that store its value: from the one after its put to the last that uses it.
-#[derive(Clone, Copy, PartialEq, Eq)]
+#[derive(Clone, Copy)]
 pub struct Piped {
     pub width: u8,
     pub from: u32,
@@ -30,7 +30,7 @@ pub struct Piped {
 }
 
 /// How a target is written by its result.
-#[derive(Clone, Copy, PartialEq, Eq)]
+#[derive(Clone, Copy)]
 pub struct Port {
     /// The write stage.
     pub write: u32,
@@ -45,7 +45,7 @@ pub struct Port {
 }
 
 /// A hint.
-#[derive(Clone, Copy, PartialEq, Eq)]
+#[derive(Clone, Copy)]
 pub struct Aimed {
     /// Its width.
     pub width: u8,

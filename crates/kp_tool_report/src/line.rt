@@ -7,7 +7,7 @@ use itoa::Buffer;
 use kp_base::{Sink, SinkFault, write_pieces};
 
 /// The totals of a run of a job.
-#[derive(Clone, Copy, PartialEq, Eq)]
+#[derive(Clone, Copy)]
 pub struct Totals {
     pub stages: u64,
     pub registers: u64,

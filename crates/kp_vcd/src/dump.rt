@@ -54,7 +54,7 @@ pub struct Signal {
 }
 
 /// A signal changes to a value.
-#[derive(Clone, Copy, PartialEq, Eq)]
+#[derive(Clone, Copy)]
 pub struct Change {
     pub signal: u32,
     pub value: Bits,

@@ -8,7 +8,7 @@ ghost use Rattle.kp_view_expected.specs.inner.Plain.{number};
 use kp_lex::{Keyword, Mark, TokenKind};
 
 /// A class of tokens: the grammar doesn't distinguish the tokens of one class.
-#[derive(Clone, Copy, PartialEq, Eq)]
+#[derive(Clone, Copy)]
 pub enum TokenClass {
     Keyword(Keyword),
     Mark(Mark),

@@ -16,7 +16,7 @@ use kp_view_texts::write_head;
 use std::alloc::Global;
 
 /// Why nothing is said of an input.
-#[derive(Clone, Copy, PartialEq, Eq)]
+#[derive(Clone, Copy)]
 pub enum Stop {
     ReadFault,
     NoMemory,

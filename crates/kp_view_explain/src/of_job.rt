@@ -141,5 +141,7 @@ fn report(
 
 // Whether the finding is of the rule, at the place.
 fn is_of(refusal: Refusal, finding: &Finding<'_>) -> bool {
-    finding.place == refusal.place && finding.message.rule() == refusal.number
+    finding.place.line == refusal.place.line
+        && finding.place.col == refusal.place.col
+        && finding.message.rule() == refusal.number
 }

@@ -25,7 +25,7 @@ status: 0 the input violates no rule, 1 wrong words, 2 it violates a rule,
 ";
 
 /// What an input is: a job, or the input of a command of `kp`.
-#[derive(Clone, Copy, PartialEq, Eq)]
+#[derive(Clone, Copy)]
 pub enum Subject {
     Job,
     /// Of `read`: a Verilog text.

@@ -2,7 +2,7 @@
 use std::fmt;
 
 /// What a name names.
-#[derive(Clone, Copy, PartialEq, Eq)]
+#[derive(Clone, Copy)]
 pub enum Kind {
     Register,
     File,
@@ -34,7 +34,7 @@ impl fmt::Display for Kind {
 }
 
 /// What may stand at a place.
-#[derive(Clone, Copy, PartialEq, Eq)]
+#[derive(Clone, Copy)]
 pub enum Wanted {
     /// A value in a stage.
     Value,

@@ -7,7 +7,7 @@ use kp_base::{NoMemory, Place};
 use std::alloc::Global;
 
 /// A set of a result: its stage, its number in the block, its place, and whether it has no condition.
-#[derive(Clone, Copy, PartialEq, Eq)]
+#[derive(Clone, Copy)]
 pub struct PlacedSet {
     pub stage: usize,
     pub index: usize,

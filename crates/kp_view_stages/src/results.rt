@@ -208,7 +208,7 @@ fn has_condition(block: &Block, output: &Name, condition: &Expr) -> bool {
 fn is_same(a: &Expr, b: &Expr) -> bool {
     match &a.kind {
         ExprKind::Lit(x) => match &b.kind {
-            ExprKind::Lit(y) => *x == *y,
+            ExprKind::Lit(y) => x.width == y.width && x.value == y.value,
             _ => false,
         },
         ExprKind::Name(x) => match &b.kind {

@@ -9,7 +9,7 @@ use kp_view_help::Word;
 use kp_view_message::{GuessFault, Message, StageFault};
 use std::alloc::Global;
 
-#[derive(Clone, Copy, PartialEq, Eq)]
+#[derive(Clone, Copy)]
 pub(crate) enum Rule {
     E16,
     E17,

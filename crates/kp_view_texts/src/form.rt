@@ -1,7 +1,7 @@
 // The forms of instructions.
 
 /// A part of an instruction after its mnemonic.
-#[derive(Clone, Copy, PartialEq, Eq)]
+#[derive(Clone, Copy)]
 pub(crate) enum Operand {
     Register,
     /// A number of 16 bits with a sign.
@@ -34,7 +34,7 @@ impl Operand {
 }
 
 /// What follows a mnemonic.
-#[derive(Clone, Copy, PartialEq, Eq)]
+#[derive(Clone, Copy)]
 pub(crate) enum Form {
     /// `add rd, ra, rb`
     Registers,

@@ -3,7 +3,7 @@ use kp_view_help::{Kind, Phrase, Term, Word};
 use std::fmt::{self, Display};
 
 /// The keyword of a command.
-#[derive(Clone, Copy, PartialEq, Eq)]
+#[derive(Clone, Copy)]
 pub(crate) enum Verb {
     Step,
     Back,

@@ -3,7 +3,7 @@ use kp_view_help::{Phrase, Term, Word};
 use std::fmt::{self, Display};
 
 /// What a name denotes.
-#[derive(Clone, Copy, PartialEq, Eq)]
+#[derive(Clone, Copy)]
 pub enum Kind {
     Register,
     File,
@@ -33,7 +33,7 @@ impl Display for Kind {
 }
 
 /// What a place wants a name to denote.
-#[derive(Clone, Copy, PartialEq, Eq)]
+#[derive(Clone, Copy)]
 pub enum Wanted {
     Register,
     File,
@@ -83,7 +83,7 @@ impl Display for Wanted {
 }
 
 /// What is declared, under a name of a form of its own.
-#[derive(Clone, Copy, PartialEq, Eq)]
+#[derive(Clone, Copy)]
 pub enum Form {
     Module,
     Sample,

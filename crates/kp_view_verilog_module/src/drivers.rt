@@ -146,7 +146,7 @@ fn other_start<'m>(text: &[u8], module: &VModule, each: Use<'m>) -> Option<Drive
     let reset = module.reset.as_ref()?;
     let value = value_at(reset.values.as_slice(), each.at)?;
     let start = start_of(module.inits.as_slice(), each.name.0)?;
-    if start.literal == value.literal {
+    if start.literal.width == value.literal.width && start.literal.value == value.literal.value {
         return None;
     }
     Some(DriverFault::OtherStart {

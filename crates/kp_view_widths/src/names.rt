@@ -31,7 +31,7 @@ impl Known {
 }
 
 /// Where the pass is.
-#[derive(Clone, Copy, PartialEq, Eq)]
+#[derive(Clone, Copy)]
 pub(crate) enum Position {
     Text,
     Function,

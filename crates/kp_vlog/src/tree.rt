@@ -4,14 +4,14 @@ use kp_bits::{BinOp, Literal};
 use kp_net::Label;
 
 /// A number, and its offset.
-#[derive(Clone, Copy, PartialEq, Eq)]
+#[derive(Clone, Copy)]
 pub struct Num {
     pub value: u64,
     pub at: u32,
 }
 
 /// A literal, and its offset.
-#[derive(Clone, Copy, PartialEq, Eq)]
+#[derive(Clone, Copy)]
 pub struct Lit {
     pub literal: Literal,
     pub at: u32,
@@ -25,7 +25,7 @@ pub struct Named {
 }
 
 /// `[high:low]`
-#[derive(Clone, Copy, PartialEq, Eq)]
+#[derive(Clone, Copy)]
 pub struct Range {
     pub high: Num,
     pub low: Num,
