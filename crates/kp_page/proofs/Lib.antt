@@ -3,3 +3,4 @@ pub mod Words
 pub mod Alike
 pub mod Running
 pub mod Listed
+pub mod PageLines

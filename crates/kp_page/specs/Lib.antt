@@ -1,4 +1,5 @@
 pub mod States
 pub mod Runs
 pub mod Claims
+pub mod Page
 pub mod inner

@@ -4,7 +4,7 @@ use Rattle.kp_ast.specs.declared.tree.Job.{Job}
 use Rattle.kp_pipeline.specs.Rows.{Row}
 use Rattle.kp_diagram_text.specs.{declared.chart.Chart.Chart, Charts.figure_of, Charts.rows_of, Figures.Figure}
 use Rattle.kp_diagram_svg.specs.Picture.{picture, svg_text}
-use Rattle.kp_page_text.specs.Page.{page}
+use Rattle.kp_page.specs.Page.{page}
 use Rattle.kp_paths.specs.Text.{paths_text}
 
 pub picture_is : (c : Chart) (f : Figure) (rows : List Row) → figure_of c ≡ f → rows_of c ≡ rows → svg_text c ≡ picture f rows

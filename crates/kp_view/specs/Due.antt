@@ -13,7 +13,7 @@ use Rattle.kp_diagram_svg.specs.Picture.{picture}
 use Rattle.kp_diagram_run.specs.{Runs.job_figure, Runs.job_rows, Claims.ShowsRun}
 use Rattle.kp_machine.specs.Machine.{inputs_from, pipe_of}
 use Rattle.kp_page.specs.{Claims.listed_last, States.states_text}
-use Rattle.kp_page_text.specs.Page.{page as page_text}
+use Rattle.kp_page.specs.Page.{page as page_text}
 use Rattle.kp_paths.specs.{Claims.ArePaths, Text.paths_text}
 use Rattle.kp_paths_svg.specs.{Claims.ShowsCells, Picture.paths_svg_text}
 use Rattle.kp_stalls_run.specs.{Claims.ShowCauses, Runs.job_stalls}

@@ -1,8 +1,8 @@
 use Rattle.std.proofs.{Common.arith, lemmas.Result.err_from_is_err_and}
 use Rattle.kp_base.proofs.Bytes.{written_piece, written_part}
 use Rattle.kp_diagram_text.specs.Charts.{names_of}
-use Rattle.kp_page_text.proofs.Lines.{left_is, lines_next}
-use Rattle.kp_page_text.proofs.stages.write_stage_lines.Goals as goal
+use Rattle.kp_page.proofs.PageLines.{left_is, lines_next}
+use Rattle.kp_page.proofs.stages.write_stage_lines.Goals as goal
 
 pub returns-in_err-write_stage_line-clause-text : goal.returns-in_err-write_stage_line-clause-text
 returns-in_err-write_stage_line-clause-text g c =

@@ -4,7 +4,7 @@ ghost use Rattle.kp_base.specs.Bytes.{Writes};
 ghost use Rattle.kp_base.specs.Causes.{HasCause};
 ghost use Rattle.kp_diagram_text.specs.Charts.{IsDrawable, names_of};
 ghost use Rattle.kp_diagram_text.specs.Text.{stage_name};
-ghost use Rattle.kp_page_text.specs.Page.{stage_lines};
+ghost use Rattle.kp_page.specs.Page.{stage_lines};
 
 use kp_base::{Sink, SinkFault, write_all};
 use kp_diagram_text::Chart;

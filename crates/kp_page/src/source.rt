@@ -1,7 +1,7 @@
 // The source of a job as HTML.
 ghost use Rattle.kp_base.specs.Bytes.{Writes};
 ghost use Rattle.kp_base.specs.Causes.{HasCause};
-ghost use Rattle.kp_page_text.specs.Page.{escaped, source_text};
+ghost use Rattle.kp_page.specs.Page.{escaped, source_text};
 
 use kp_base::{Sink, SinkFault, write_all};
 

@@ -3,7 +3,7 @@ use Rattle.std.proofs.Common.{◌≡◌, ℕ, suc, ◌+◌, ◌-◌, ◌<◌, Li
 use Rattle.std.specs.Prelude.{codes, Option}
 use Rattle.kp_base.specs.inner.Bytes.{WrittenUpTo}
 use Rattle.kp_diagram_text.specs.Text.{stage_name}
-use Rattle.kp_page_text.specs.Page.{stage_lines}
+use Rattle.kp_page.specs.Page.{stage_lines}
 
 -- the text that is left is the same
 pub left_is : (whole rest same : List ℕ) (a b : Option (List ℕ)) → rest ≡ same → WrittenUpTo whole rest a b → WrittenUpTo whole same a b

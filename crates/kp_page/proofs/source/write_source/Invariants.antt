@@ -1,6 +1,6 @@
 use Rattle.std.{proofs.Common.◌≤◌, proofs.Common.take, specs.Prelude.flat_map, specs.Io.KnownBytes.Appends}
-use Rattle.kp_page_text.specs.Page.{escaped}
-use Rattle.kp_page_text.proofs.source.write_source.Given as goal
+use Rattle.kp_page.specs.Page.{escaped}
+use Rattle.kp_page.proofs.source.write_source.Given as goal
 
 abbrev pub invariant-loop-byte : goal.invariant-loop-byte
 invariant-loop-byte g l =

@@ -1,7 +1,7 @@
 use Rattle.std.proofs.{Common.sym, Common.subst, lemmas.Result.err_from_is_err_and}
 use Rattle.kp_base.{specs.Bytes.AppendsPart, proofs.Bytes.part_next, proofs.Pieces.flat_map_split}
-use Rattle.kp_page_text.specs.Page.{escaped}
-use Rattle.kp_page_text.proofs.source.write_source.Goals as goal
+use Rattle.kp_page.specs.Page.{escaped}
+use Rattle.kp_page.proofs.source.write_source.Goals as goal
 
 pub returns-in_err-write_escaped-clause-text : goal.returns-in_err-write_escaped-clause-text
 returns-in_err-write_escaped-clause-text g c =

@@ -7,15 +7,15 @@ ghost use Rattle.kp_synth_spec.specs.Shows.{Shows};
 ghost use Rattle.kp_page.specs.States.{states_text};
 ghost use Rattle.kp_page.specs.Runs.{after_cycles};
 ghost use Rattle.kp_paths.specs.Text.{paths_text};
-ghost use Rattle.kp_page_text.specs.Page.{last_part, page};
+ghost use Rattle.kp_page.specs.Page.{last_part, page};
 
 use crate::frame::{write_end, write_start};
+use crate::run::write_run;
 use kp_base::{Sink, SinkFault};
 use kp_bits::Bits;
 use kp_cycle::Sim;
 use kp_diagram_text::Chart;
 use kp_frontend::Accepted;
-use kp_page::write_run;
 use kp_paths::Paths;
 
 /// Writes the page of a chart of at most 1,000 cycles, with the source of its job, the table of its paths, and the states of a run of `count` cycles. The

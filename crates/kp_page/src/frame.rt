@@ -5,7 +5,7 @@ ghost use Rattle.kp_base.specs.Causes.{HasCause};
 ghost use Rattle.kp_diagram_svg.specs.Picture.{svg_text};
 ghost use Rattle.kp_diagram_text.specs.Charts.{IsDrawable, figure_of, names_of, rows_of};
 ghost use Rattle.kp_paths.specs.Text.{paths_text};
-ghost use Rattle.kp_page_text.specs.Page.{before_diagram, before_paths, before_source, before_stages, before_states, diagram_part, front, head_part, last_part, page_start, paths_part, source_text, stage_lines, stages_part};
+ghost use Rattle.kp_page.specs.Page.{before_diagram, before_paths, before_source, before_stages, before_states, diagram_part, front, head_part, last_part, page_start, paths_part, source_text, stage_lines, stages_part};
 
 use crate::source::write_source;
 use crate::stages::write_stage_lines;

@@ -1,8 +1,8 @@
 use Rattle.std.proofs.Common.{◌-◌, ◌≤◌}
 use Rattle.kp_base.specs.inner.Bytes.{WrittenUpTo}
 use Rattle.kp_diagram_text.specs.Charts.{names_of}
-use Rattle.kp_page_text.specs.Page.{stage_lines}
-use Rattle.kp_page_text.proofs.stages.write_stage_lines.Given as goal
+use Rattle.kp_page.specs.Page.{stage_lines}
+use Rattle.kp_page.proofs.stages.write_stage_lines.Given as goal
 
 abbrev pub invariant-loop-k : goal.invariant-loop-k
 invariant-loop-k g l = record {

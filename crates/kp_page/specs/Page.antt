@@ -3,7 +3,7 @@ use Rattle.std.specs.Prelude.{ℕ, zero, suc, ◌+◌, ◌==◌, List, [], ◌�
 use Rattle.kp_pipeline.specs.Rows.{Row}
 use Rattle.kp_diagram_text.specs.{Figures.Figure, Text.stage_name}
 use Rattle.kp_diagram_svg.specs.Picture.{picture}
-use Rattle.kp_page_text.specs.declared.texts.TheConstants.{FRONT, BEFORE_SOURCE, BEFORE_DIAGRAM, BEFORE_PATHS, BEFORE_STAGES, BEFORE_STATES, END}
+use Rattle.kp_page.specs.declared.texts.TheConstants.{FRONT, BEFORE_SOURCE, BEFORE_DIAGRAM, BEFORE_PATHS, BEFORE_STAGES, BEFORE_STATES, END}
 
 -- THE FIXED PARTS of a page are constants of the program, in order.
 -- the page up to the name of the machine
