@@ -3,3 +3,8 @@ pub mod Placing
 pub mod Whole
 pub mod Naming
 pub mod Lasting
+pub mod Named
+pub mod ReadValues
+pub mod Rising
+pub mod Fitting
+pub mod Reporting

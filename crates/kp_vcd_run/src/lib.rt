@@ -7,6 +7,7 @@
 mod dumping;
 pub mod laws;
 mod places;
+pub mod round_trip;
 mod signals;
 mod values;
 

@@ -1,8 +1,8 @@
 use Rattle.std.proofs.Common.{◌≡◌, Some, subst}
 use Rattle.kp_vcd.specs.{Held.held, Held.Changes, declared.dump.Dump.Dump}
 use Rattle.kp_vcd_run.specs.Dumps.{vcd_dump, vcd_text}
-use Rattle.kp_vcd_roundtrip.proofs.Reporting.{job_fits, same_dump}
-use Rattle.kp_vcd_roundtrip.proofs.laws.the_dump_of_a_job_is_read_back.Goals as goal
+use Rattle.kp_vcd_run.proofs.Reporting.{job_fits, same_dump}
+use Rattle.kp_vcd_run.proofs.round_trip.the_dump_of_a_job_is_read_back.Goals as goal
 
 pub returns-clause-read : goal.returns-clause-read
 returns-clause-read c job n h small = c.the_text_of_a_dump_is_read_as_this_dump.ensures (vcd_dump n job) (job_fits c.one_entry_for_each_name.ensures job n h small)

@@ -19,8 +19,8 @@ use Rattle.kp_vcd.specs.{declared.dump.Signal.Signal, Recording.Values}
 use Rattle.kp_vcd_read.specs.{Forms.is_name, Fitting.IsSignal, Fitting.FitsForm}
 use Rattle.kp_vcd_run.specs.Dumps.{wire, register_signals, signals_of, number, output_values, register_values, values_at, own_run, vcd_dump}
 use Rattle.kp_vcd_run.proofs.Masks.{RollBackBelow, run_below}
-use Rattle.kp_vcd_roundtrip.proofs.{Named.RegistersNamed, Named.JobNamed, Values.visible_fits}
-use Rattle.kp_vcd_roundtrip.proofs.Rising.{to_all, recorded_rises, FitSignals, recorded_reported}
+use Rattle.kp_vcd_run.proofs.{Named.RegistersNamed, Named.JobNamed, ReadValues.visible_fits}
+use Rattle.kp_vcd_run.proofs.Rising.{to_all, recorded_rises, FitSignals, recorded_reported}
 
 -- ---- the signals
 

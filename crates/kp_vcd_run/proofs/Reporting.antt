@@ -11,8 +11,8 @@ use Rattle.kp_frontend.specs.Judging.JudgesHeadText.{head_accepted}
 use Rattle.kp_vcd.specs.declared.dump.Dump.{Dump}
 use Rattle.kp_vcd_read.specs.{Reading.Fault, Reading.verdict, Fitting.FitsForm}
 use Rattle.kp_vcd_run.specs.Dumps.{vcd_dump}
-use Rattle.kp_vcd_roundtrip.specs.Accepted.{IsAccepted, IsAccepted.of_input, IsAccepted.of_head}
-use Rattle.kp_vcd_roundtrip.proofs.{Named.JobNamed, Named.job_named, Fitting.dump_fits}
+use Rattle.kp_vcd_run.specs.Accepted.{IsAccepted, IsAccepted.of_input, IsAccepted.of_head}
+use Rattle.kp_vcd_run.proofs.{Named.JobNamed, Named.job_named, Fitting.dump_fits}
 
 record Kept (job : Job) : Type 0 where
   named : JobNamed job
