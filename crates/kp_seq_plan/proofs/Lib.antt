@@ -7,4 +7,5 @@ pub mod CodeCalls
 pub mod Numbers
 mod Typing
 mod Replacing
+mod Places
 mod Arms

@@ -1,2 +1,3 @@
 -- These definitions are only for private contracts and proofs: no public clause of the crate cites them.
+pub mod Keys
 pub mod Parts

@@ -1,33 +1,41 @@
 // Names and their indices.
-ghost use Rattle.std.specs.Prelude.{◌≡◌, ◌<◌, [], length, IfOk, IfSome};
+ghost use Rattle.std.specs.Prelude.{◌≡◌, ◌<◌, [], length, nat_eq, IfOk, IfSome, OnOk};
 ghost use Rattle.std.specs.List.{position};
+ghost use Rattle.std.specs.Cmp.Lexicographic.{pointwise};
+ghost use Rattle.indexmap.specs.IndexSet.{insert_key};
 ghost use Rattle.kp_ast.specs.Expressions.{is_same_name};
 ghost use Rattle.kp_seq_plan.specs.Names.{keys_of};
+ghost use Rattle.kp_seq_plan.specs.inner.Keys.{HasPlaces};
 
-use indexmap::IndexSet;
 use kp_ast::{Name, Widths};
 use kp_base::NoMemory;
 use std::alloc::Global;
+use std::collections::HashMap;
 use std::marker::Model;
 
 /// Names, each with an index. Contracts see the list of the names.
 pub struct Keys {
-    names: IndexSet<Name>,
+    names: Vec<Name>,
+    places: HashMap<Name, usize>,
 }
 
 impl Drop for Keys {
     fn drop(self) {
-        let Keys { names } = self;
+        let Keys { names, places } = self;
         drop(names);
+        drop(places);
     }
 }
 
 impl Model for Keys {
     ghost use Rattle.std.specs.Prelude.{List, ℕ};
+    ghost use Rattle.kp_seq_plan.specs.inner.Keys.{HasPlaces};
 
     ghost Value = { List (List ℕ) };
 
-    ghost view = { λ k. k.names.keys };
+    ghost view = { λ k. k.names.items };
+
+    ghost invariant = { λ k. HasPlaces k.places.entries k.names.items };
 }
 
 impl Keys {
@@ -35,11 +43,12 @@ impl Keys {
     pub fn of(alloc: Global, widths: &Widths) -> Result<Keys, NoMemory>
         ensures { IfOk result (λ keys. keys ≡ keys_of [] widths.now.entries) }
     {
-        let mut names = IndexSet::new(alloc);
+        let mut names = Vec::new(alloc);
+        let mut places = HashMap::new(alloc);
         for entry in widths.entries.as_slice() {
-            names.insert(entry.name.clone()?)?;
+            add(&mut names, &mut places, &entry.name)?;
         }
-        Ok(Keys { names })
+        Ok(Keys { names, places })
     }
 
     /// The number of names.
@@ -65,6 +74,23 @@ impl Keys {
         ensures place { result ≡ position (is_same_name name.now) self.now }
         ensures within { IfSome result (λ i. i < length self.now) }
     {
-        self.names.get_index_of(name)
+        self.places.get(name).copied()
     }
+}
+
+// Adds a name, unless it is among these.
+fn add(
+    names: &mut Vec<Name>,
+    places: &mut HashMap<Name, usize>,
+    name: &Name,
+) -> Result<(), NoMemory>
+    requires { HasPlaces places.old.entries names.old.items }
+    ensures names { OnOk result (names.new.items ≡ insert_key (pointwise nat_eq) names.old.items name.now) }
+    ensures places { OnOk result (HasPlaces places.new.entries names.new.items) }
+{
+    if places.get(name).is_none() {
+        places.insert(name.clone()?, names.len())?;
+        names.push(name.clone()?)?;
+    }
+    Ok(())
 }
