@@ -1,5 +1,5 @@
 // The arguments of a command line.
-ghost use Rattle.std.specs.Prelude.{◌≡◌, map, string_bytes, Some};
+ghost use Rattle.std.specs.Prelude.{◌≡◌, map, string_bytes, option_and_then};
 ghost use Rattle.kp_tool_words.specs.Words.{plain_command, counted_command, seeded_command, command_of, count_of, seed_of};
 
 use kp_bits::read_number;
@@ -50,19 +50,18 @@ impl Command {
     {
         match words {
             [name] => Self::plain(name.as_str()),
-            [name, count] => Self::counted(name.as_str(), count_of(count.as_bytes())?),
-            [name, seed, count] => {
-                let seed = seed_of(seed.as_bytes())?;
-                Self::seeded(name.as_str(), seed, count_of(count.as_bytes())?)
-            }
+            [name, count] => Self::counted(name.as_str(), count.as_bytes()),
+            [name, seed, count] => Self::seeded(name.as_str(), seed.as_bytes(), count.as_bytes()),
             _ => None,
         }
     }
 
     // The command with this name, a seed and a count.
-    fn seeded(name: &str, seed: u64, count: u32) -> Option<Self>
-        ensures { result ≡ seeded_command name.now (Some seed) (Some count) }
+    fn seeded(name: &str, seed: &[u8], count: &[u8]) -> Option<Self>
+        ensures { result ≡ seeded_command name.now (seed_of seed.now) (count_of count.now) }
     {
+        let seed = seed_of(seed)?;
+        let count = count_of(count)?;
         match name {
             "gen" => Some(Command::Generate(seed, count)),
             _ => None,
@@ -70,9 +69,10 @@ impl Command {
     }
 
     // The command with this name and a count.
-    fn counted(name: &str, count: u32) -> Option<Self>
-        ensures { result ≡ counted_command name.now count }
+    fn counted(name: &str, count: &[u8]) -> Option<Self>
+        ensures { result ≡ option_and_then (counted_command name.now) (count_of count.now) }
     {
+        let count = count_of(count)?;
         match name {
             "seq" => Some(Command::OnJob(JobCommand::Seq(count))),
             "sim" => Some(Command::OnJob(JobCommand::Sim(count))),
