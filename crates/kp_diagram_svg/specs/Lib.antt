@@ -4,3 +4,4 @@ pub mod Symbols
 pub mod Rows
 pub mod Foot
 pub mod Picture
+pub mod inner

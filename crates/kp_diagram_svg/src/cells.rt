@@ -43,7 +43,6 @@ pub(crate) fn write_cells<K: Sink>(
     Ok(())
 }
 
-#[tactic(auto, using(kp_base::proofs::Bytes::writes_next, kp_base::proofs::Bytes::part_more))]
 fn write_cell<K: Sink>(
     chart: &Chart<'_>,
     half: u64,
@@ -60,7 +59,8 @@ fn write_cell<K: Sink>(
     ensures cause { HasCause (K.faults sink.old) (K.faults sink.new) result }
 {
     write_cell_start(half, number, cycle, k, look_of(mark), sink)?;
-    write_label(chart, k, sink)
+    chart.write_name(k, sink)?;
+    write_all(sink, b"</text></g>\n")
 }
 
 #[tactic(auto, unfolding(crate::specs::Rows::cell_start))]
@@ -81,17 +81,6 @@ fn write_cell_start<K: Sink>(
     let text =
         b"<g transform='translate(@)'><title>instruction @, cycle @</title><use xlink:href='#s@'/><use xlink:href='#m@'/><text>";
     write_filled(text, &numbers, sink)
-}
-
-// The name of a stage, and the end of the cell.
-#[tactic(auto, using(kp_base::proofs::Bytes::writes_next, kp_base::proofs::Bytes::part_more))]
-fn write_label<K: Sink>(chart: &Chart<'_>, k: u8, sink: &mut K) -> Result<(), SinkFault>
-    requires { IsDrawable chart.now }
-    ensures text { Writes (K.held sink.old) (K.held sink.new) (stage_name (names_of chart.now) k ++ codes "</text></g>\n") result }
-    ensures cause { HasCause (K.faults sink.old) (K.faults sink.new) result }
-{
-    chart.write_name(k, sink)?;
-    write_all(sink, b"</text></g>\n")
 }
 
 // The number of the shape that shows a mark.

@@ -1,12 +1,12 @@
 // The columns of a picture, one for each cycle.
-ghost use Rattle.std.specs.Prelude.{◌≡◌, ◌≤◌, ◌++◌, length, codes};
+ghost use Rattle.std.specs.Prelude.{◌≡◌, ◌≤◌, length};
 ghost use Rattle.kp_base.specs.Bytes.{Writes};
 ghost use Rattle.kp_base.specs.Causes.{HasCause};
 ghost use Rattle.kp_sched.specs.Rows.{row_seen};
 ghost use Rattle.kp_diagram.specs.Diagram.{diagram, is_squashed};
 ghost use Rattle.kp_diagram_text.specs.Charts.{IsDrawable, ext_of, names_of, rows_of};
 ghost use Rattle.kp_diagram_svg.specs.Sizes.{middle_of};
-ghost use Rattle.kp_diagram_svg.specs.Rows.{cells_part, column_text, columns_text, rows_text};
+ghost use Rattle.kp_diagram_svg.specs.Rows.{cells_part, column_text, columns_text};
 
 use crate::filling::write_filled;
 use crate::rows::write_rows;
@@ -14,7 +14,6 @@ use kp_base::{Row, Sink, SinkFault, write_all};
 use kp_diagram_text::Chart;
 
 /// Writes the columns and the rows of cells.
-#[tactic(auto, using(kp_base::proofs::Bytes::writes_next, kp_base::proofs::Bytes::part_more))]
 pub(crate) fn write_cells_part<K: Sink>(
     chart: &Chart<'_>,
     half: u64,
@@ -27,29 +26,7 @@ pub(crate) fn write_cells_part<K: Sink>(
     ensures cause { HasCause (K.faults sink.old) (K.faults sink.new) result }
 {
     write_all(sink, b"<g transform='translate(100,66)'>\n")?;
-    write_columns_part(chart, half, sink)
-}
-
-#[tactic(auto, using(kp_base::proofs::Bytes::writes_next, kp_base::proofs::Bytes::part_more))]
-fn write_columns_part<K: Sink>(chart: &Chart<'_>, half: u64, sink: &mut K) -> Result<(), SinkFault>
-    requires drawable { IsDrawable chart.now }
-    requires few { length chart.now.rows.now ≤ 1000 }
-    requires half { half ≤ 46 }
-    ensures text { Writes (K.held sink.old) (K.held sink.new) (columns_text half 0 (rows_of chart.now) ++ (codes "</g>\n" ++ rows_text half (names_of chart.now) 0 (diagram chart.now.stages (ext_of chart.now) (rows_of chart.now)))) result }
-    ensures cause { HasCause (K.faults sink.old) (K.faults sink.new) result }
-{
     write_columns(chart, half, sink)?;
-    write_rows_part(chart, half, sink)
-}
-
-#[tactic(auto, using(kp_base::proofs::Bytes::writes_next, kp_base::proofs::Bytes::part_more))]
-fn write_rows_part<K: Sink>(chart: &Chart<'_>, half: u64, sink: &mut K) -> Result<(), SinkFault>
-    requires drawable { IsDrawable chart.now }
-    requires few { length chart.now.rows.now ≤ 1000 }
-    requires half { half ≤ 46 }
-    ensures text { Writes (K.held sink.old) (K.held sink.new) (codes "</g>\n" ++ rows_text half (names_of chart.now) 0 (diagram chart.now.stages (ext_of chart.now) (rows_of chart.now))) result }
-    ensures cause { HasCause (K.faults sink.old) (K.faults sink.new) result }
-{
     write_all(sink, b"</g>\n")?;
     write_rows(chart, half, sink)
 }

@@ -1,11 +1,33 @@
 // A text with holes that numbers fill.
-ghost use Rattle.std.specs.Prelude.{◌≡◌, ◌≤◌, ◌++◌, length, decimal};
+ghost use Rattle.std.specs.Prelude.{◌≡◌, ◌≤◌, ◌++◌, length, decimal, flat_map};
 ghost use Rattle.kp_base.specs.Bytes.{Writes};
 ghost use Rattle.kp_base.specs.Causes.{HasCause};
 ghost use Rattle.kp_diagram_svg.specs.Filling.{filled, hole_in, is_text as is_text_byte};
+ghost use Rattle.kp_diagram_svg.specs.inner.Templates.{template_text};
 
 use itoa::Buffer;
 use kp_base::{Sink, SinkFault, run_length, write_all};
+
+/// A text with holes, its bytes `@`, and the numbers that fill them.
+#[derive(Clone, Copy)]
+pub(crate) struct Template<'t, 'n> {
+    pub text: &'t [u8],
+    pub numbers: &'n [u64],
+}
+
+/// Writes these texts in order, with their numbers.
+pub(crate) fn write_templates<K: Sink>(
+    templates: &[Template<'_, '_>],
+    sink: &mut K,
+) -> Result<(), SinkFault>
+    ensures text { Writes (K.held sink.old) (K.held sink.new) (flat_map template_text templates.now) result }
+    ensures cause { HasCause (K.faults sink.old) (K.faults sink.new) result }
+{
+    for template in templates {
+        write_filled(template.text, template.numbers, sink)?;
+    }
+    Ok(())
+}
 
 /// Writes a text with these numbers in the places of its bytes `@`.
 pub(crate) fn write_filled<K: Sink>(

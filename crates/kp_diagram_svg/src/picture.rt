@@ -28,7 +28,6 @@ pub fn write_svg<K: Sink>(chart: &Chart<'_>, sink: &mut K) -> Result<(), SinkFau
     write_parts(chart, half, rows, sink)
 }
 
-#[tactic(auto, using(kp_base::proofs::Bytes::writes_next, kp_base::proofs::Bytes::part_more))]
 fn write_parts<K: Sink>(
     chart: &Chart<'_>,
     half: u64,
@@ -51,39 +50,6 @@ fn write_parts<K: Sink>(
         rows,
         sink,
     )?;
-    write_body(chart, half, rows, sink)
-}
-
-#[tactic(auto, using(kp_base::proofs::Bytes::writes_next, kp_base::proofs::Bytes::part_more))]
-fn write_body<K: Sink>(
-    chart: &Chart<'_>,
-    half: u64,
-    rows: u64,
-    sink: &mut K,
-) -> Result<(), SinkFault>
-    requires drawable { IsDrawable chart.now }
-    requires few { length chart.now.rows.now ≤ 1000 }
-    requires half { half ≤ 46 }
-    requires rows { rows ≤ 1000 }
-    ensures text { Writes (K.held sink.old) (K.held sink.new) (cells_part half (names_of chart.now) (rows_of chart.now) (diagram chart.now.stages (ext_of chart.now) (rows_of chart.now)) ++ foot half (length chart.now.rows.now) rows (account (chart.now.stages - 1) (ext_of chart.now) (rows_of chart.now))) result }
-    ensures cause { HasCause (K.faults sink.old) (K.faults sink.new) result }
-{
     write_cells_part(chart, half, sink)?;
-    write_end(chart, half, rows, sink)
-}
-
-fn write_end<K: Sink>(
-    chart: &Chart<'_>,
-    half: u64,
-    rows: u64,
-    sink: &mut K,
-) -> Result<(), SinkFault>
-    requires drawable { IsDrawable chart.now }
-    requires few { length chart.now.rows.now ≤ 1000 }
-    requires half { half ≤ 46 }
-    requires rows { rows ≤ 1000 }
-    ensures text { Writes (K.held sink.old) (K.held sink.new) (foot half (length chart.now.rows.now) rows (account (chart.now.stages - 1) (ext_of chart.now) (rows_of chart.now))) result }
-    ensures cause { HasCause (K.faults sink.old) (K.faults sink.new) result }
-{
     write_foot(half, chart.rows.len() as u64, rows, account_of(chart), sink)
 }

@@ -1,11 +1,11 @@
 // The rows of a picture, one for each fetch.
-ghost use Rattle.std.specs.Prelude.{◌≡◌, ◌+◌, ◌≤◌, ◌++◌, cond, length, [], drop, codes, Some};
+ghost use Rattle.std.specs.Prelude.{◌≡◌, ◌+◌, ◌≤◌, cond, length, [], drop, Some};
 ghost use Rattle.kp_base.specs.Bytes.{Writes};
 ghost use Rattle.kp_base.specs.Causes.{HasCause};
 ghost use Rattle.kp_sched.specs.Rows.{rows_seen};
 ghost use Rattle.kp_diagram.specs.Diagram.{cells_from, diagram};
 ghost use Rattle.kp_diagram_text.specs.Charts.{IsDrawable, ext_of, names_of, rows_of};
-ghost use Rattle.kp_diagram_svg.specs.Rows.{cells_text, row_start, row_text, rows_text};
+ghost use Rattle.kp_diagram_svg.specs.Rows.{row_start, row_text, rows_text};
 
 use crate::cells::write_cells;
 use crate::filling::write_filled;
@@ -85,7 +85,6 @@ fn write_fetch<K: Sink>(
     }
 }
 
-#[tactic(auto, using(kp_base::proofs::Bytes::writes_next, kp_base::proofs::Bytes::part_more))]
 fn write_row<K: Sink>(
     chart: &Chart<'_>,
     half: u64,
@@ -102,7 +101,8 @@ fn write_row<K: Sink>(
     ensures cause { HasCause (K.faults sink.old) (K.faults sink.new) result }
 {
     write_row_start(i, number, sink)?;
-    write_rest(chart, half, number, cycle, sink)
+    write_cells(chart, half, number, cycle, sink)?;
+    write_all(sink, b"</g>\n")
 }
 
 #[tactic(auto, unfolding(crate::specs::Rows::row_start))]
@@ -115,22 +115,4 @@ fn write_row_start<K: Sink>(i: u64, number: u64, sink: &mut K) -> Result<(), Sin
     let text =
         b"<g transform='translate(100,@)'><use xlink:href='#line'/><text x='-10' text-anchor='end'>@</text>\n";
     write_filled(text, &numbers, sink)
-}
-
-#[tactic(auto, using(kp_base::proofs::Bytes::writes_next, kp_base::proofs::Bytes::part_more))]
-fn write_rest<K: Sink>(
-    chart: &Chart<'_>,
-    half: u64,
-    number: u64,
-    cycle: usize,
-    sink: &mut K,
-) -> Result<(), SinkFault>
-    requires drawable { IsDrawable chart.now }
-    requires few { length chart.now.rows.now ≤ 1000 }
-    requires half { half ≤ 46 }
-    ensures text { Writes (K.held sink.old) (K.held sink.new) (cells_text half (names_of chart.now) number (cells_from chart.now.stages (ext_of chart.now) cycle (rows_seen chart.now.stages (drop cycle chart.now.rows.now)) (Some 0)) ++ codes "</g>\n") result }
-    ensures cause { HasCause (K.faults sink.old) (K.faults sink.new) result }
-{
-    write_cells(chart, half, number, cycle, sink)?;
-    write_all(sink, b"</g>\n")
 }

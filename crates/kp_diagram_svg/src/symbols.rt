@@ -2,14 +2,42 @@
 ghost use Rattle.std.specs.Prelude.{◌≤◌, ◌++◌};
 ghost use Rattle.kp_base.specs.Bytes.{Writes};
 ghost use Rattle.kp_base.specs.Causes.{HasCause};
-ghost use Rattle.kp_diagram_svg.specs.Symbols.{boxes, cross, first_stages, grid, hatching, held, last_stages, shapes, stages, waiting};
+ghost use Rattle.kp_diagram_svg.specs.Symbols.{grid, shapes, stages};
 
-use crate::filling::write_filled;
-use kp_base::{Sink, SinkFault, write_all};
+use crate::filling::{Template, write_templates};
+use kp_base::{Sink, SinkFault, write_pieces};
 
-/// Writes the hatching, the colours of the stages, the shapes of cells of this half width, and the grid.
-#[tactic(auto, using(kp_base::proofs::Bytes::writes_next, kp_base::proofs::Bytes::part_more))]
-pub(crate) fn write_symbols<K: Sink>(
+/// Writes the hatching, and the colours of the stages.
+pub(crate) fn write_stages<K: Sink>(sink: &mut K) -> Result<(), SinkFault>
+    ensures text { Writes (K.held sink.old) (K.held sink.new) stages result }
+    ensures cause { HasCause (K.faults sink.old) (K.faults sink.new) result }
+{
+    let pieces = [
+        b"</text>\n\
+<text x='100' y='48' text-anchor='start'>cycle</text>\n\
+<text x='90' y='66' text-anchor='end'>instruction</text>\n\
+<defs>\n\
+<pattern id='diagonal' width='5' height='5' patternUnits='userSpaceOnUse' patternTransform='rotate(45)'><rect width='2' height='5' fill='#b35c00'/></pattern>\n\
+<pattern id='level' width='5' height='5' patternUnits='userSpaceOnUse'><rect width='5' height='2' fill='#31475e'/></pattern>\n"
+            .as_slice(),
+        b"<g id='s0' fill='#cfe3f7'><use xlink:href='#box'/></g>\n\
+<g id='s1' fill='#d7efd3'><use xlink:href='#box'/></g>\n\
+<g id='s2' fill='#fdebc1'><use xlink:href='#box'/></g>\n\
+<g id='s3' fill='#e6dcf3'><use xlink:href='#box'/></g>\n\
+<g id='s4' fill='#f9d9d0'><use xlink:href='#box'/></g>\n\
+<g id='s5' fill='#d5eff0'><use xlink:href='#box'/></g>\n",
+        b"<g id='s6' fill='#eee6d4'><use xlink:href='#box'/></g>\n\
+<g id='s7' fill='#e3e7ee'><use xlink:href='#box'/></g>\n\
+<g id='s8' fill='#dff0c8'><use xlink:href='#box'/></g>\n\
+<g id='s9' fill='#f6dcec'><use xlink:href='#box'/></g>\n\
+<g id='s10' fill='#dfe0fb'><use xlink:href='#box'/></g>\n\
+<g id='s11' fill='#e8e8e8'><use xlink:href='#box'/></g>\n",
+    ];
+    write_pieces(sink, &pieces)
+}
+
+/// Writes the shapes of cells of this half width, and the grid.
+pub(crate) fn write_shapes<K: Sink>(
     half: u64,
     cycles: u64,
     rows: u64,
@@ -19,198 +47,52 @@ pub(crate) fn write_symbols<K: Sink>(
     requires few { half ≤ 46 }
     requires cycles { cycles ≤ 1000 }
     requires rows { rows ≤ 1000 }
-    ensures text { Writes (K.held sink.old) (K.held sink.new) (stages ++ (shapes half ++ grid half cycles rows)) result }
-    ensures cause { HasCause (K.faults sink.old) (K.faults sink.new) result }
-{
-    write_stages(sink)?;
-    write_shapes(half, cycles, rows, sink)
-}
-
-#[tactic(auto, using(kp_base::proofs::Bytes::writes_next, kp_base::proofs::Bytes::part_more))]
-fn write_stages<K: Sink>(sink: &mut K) -> Result<(), SinkFault>
-    ensures text { Writes (K.held sink.old) (K.held sink.new) stages result }
-    ensures cause { HasCause (K.faults sink.old) (K.faults sink.new) result }
-{
-    write_hatching(sink)?;
-    write_colours(sink)
-}
-
-#[tactic(auto, using(kp_base::proofs::Bytes::writes_next, kp_base::proofs::Bytes::part_more))]
-fn write_colours<K: Sink>(sink: &mut K) -> Result<(), SinkFault>
-    ensures text { Writes (K.held sink.old) (K.held sink.new) (first_stages ++ last_stages) result }
-    ensures cause { HasCause (K.faults sink.old) (K.faults sink.new) result }
-{
-    write_first_stages(sink)?;
-    write_last_stages(sink)
-}
-
-#[tactic(auto, unfolding(crate::specs::Symbols::hatching))]
-fn write_hatching<K: Sink>(sink: &mut K) -> Result<(), SinkFault>
-    ensures text { Writes (K.held sink.old) (K.held sink.new) hatching result }
-    ensures cause { HasCause (K.faults sink.old) (K.faults sink.new) result }
-{
-    write_all(
-        sink,
-        b"</text>\n\
-<text x='100' y='48' text-anchor='start'>cycle</text>\n\
-<text x='90' y='66' text-anchor='end'>instruction</text>\n\
-<defs>\n\
-<pattern id='diagonal' width='5' height='5' patternUnits='userSpaceOnUse' patternTransform='rotate(45)'><rect width='2' height='5' fill='#b35c00'/></pattern>\n\
-<pattern id='level' width='5' height='5' patternUnits='userSpaceOnUse'><rect width='5' height='2' fill='#31475e'/></pattern>\n",
-    )
-}
-
-#[tactic(auto, unfolding(crate::specs::Symbols::first_stages))]
-fn write_first_stages<K: Sink>(sink: &mut K) -> Result<(), SinkFault>
-    ensures text { Writes (K.held sink.old) (K.held sink.new) first_stages result }
-    ensures cause { HasCause (K.faults sink.old) (K.faults sink.new) result }
-{
-    write_all(
-        sink,
-        b"<g id='s0' fill='#cfe3f7'><use xlink:href='#box'/></g>\n\
-<g id='s1' fill='#d7efd3'><use xlink:href='#box'/></g>\n\
-<g id='s2' fill='#fdebc1'><use xlink:href='#box'/></g>\n\
-<g id='s3' fill='#e6dcf3'><use xlink:href='#box'/></g>\n\
-<g id='s4' fill='#f9d9d0'><use xlink:href='#box'/></g>\n\
-<g id='s5' fill='#d5eff0'><use xlink:href='#box'/></g>\n",
-    )
-}
-
-#[tactic(auto, unfolding(crate::specs::Symbols::last_stages))]
-fn write_last_stages<K: Sink>(sink: &mut K) -> Result<(), SinkFault>
-    ensures text { Writes (K.held sink.old) (K.held sink.new) last_stages result }
-    ensures cause { HasCause (K.faults sink.old) (K.faults sink.new) result }
-{
-    write_all(
-        sink,
-        b"<g id='s6' fill='#eee6d4'><use xlink:href='#box'/></g>\n\
-<g id='s7' fill='#e3e7ee'><use xlink:href='#box'/></g>\n\
-<g id='s8' fill='#dff0c8'><use xlink:href='#box'/></g>\n\
-<g id='s9' fill='#f6dcec'><use xlink:href='#box'/></g>\n\
-<g id='s10' fill='#dfe0fb'><use xlink:href='#box'/></g>\n\
-<g id='s11' fill='#e8e8e8'><use xlink:href='#box'/></g>\n",
-    )
-}
-
-#[tactic(auto, using(kp_base::proofs::Bytes::writes_next, kp_base::proofs::Bytes::part_more))]
-fn write_shapes<K: Sink>(half: u64, cycles: u64, rows: u64, sink: &mut K) -> Result<(), SinkFault>
-    requires half { 14 ≤ half }
-    requires few { half ≤ 46 }
-    requires cycles { cycles ≤ 1000 }
-    requires rows { rows ≤ 1000 }
     ensures text { Writes (K.held sink.old) (K.held sink.new) (shapes half ++ grid half cycles rows) result }
     ensures cause { HasCause (K.faults sink.old) (K.faults sink.new) result }
 {
-    write_looks(half, sink)?;
-    write_grid(half, cycles, rows, sink)
-}
-
-#[tactic(auto, using(kp_base::proofs::Bytes::writes_next, kp_base::proofs::Bytes::part_more))]
-fn write_looks<K: Sink>(half: u64, sink: &mut K) -> Result<(), SinkFault>
-    requires half { 14 ≤ half }
-    requires few { half ≤ 46 }
-    ensures text { Writes (K.held sink.old) (K.held sink.new) (shapes half) result }
-    ensures cause { HasCause (K.faults sink.old) (K.faults sink.new) result }
-{
-    write_boxes(half, sink)?;
-    write_marks(half, sink)
-}
-
-#[tactic(auto, using(kp_base::proofs::Bytes::writes_next, kp_base::proofs::Bytes::part_more))]
-fn write_marks<K: Sink>(half: u64, sink: &mut K) -> Result<(), SinkFault>
-    requires half { 14 ≤ half }
-    requires few { half ≤ 46 }
-    ensures text { Writes (K.held sink.old) (K.held sink.new) (cross half ++ (waiting half ++ held half)) result }
-    ensures cause { HasCause (K.faults sink.old) (K.faults sink.new) result }
-{
-    write_cross(half, sink)?;
-    write_reasons(half, sink)
-}
-
-#[tactic(auto, using(kp_base::proofs::Bytes::writes_next, kp_base::proofs::Bytes::part_more))]
-fn write_reasons<K: Sink>(half: u64, sink: &mut K) -> Result<(), SinkFault>
-    requires half { 14 ≤ half }
-    requires few { half ≤ 46 }
-    ensures text { Writes (K.held sink.old) (K.held sink.new) (waiting half ++ held half) result }
-    ensures cause { HasCause (K.faults sink.old) (K.faults sink.new) result }
-{
-    write_waiting(half, sink)?;
-    write_held(half, sink)
-}
-
-#[tactic(auto, unfolding(crate::specs::Symbols::boxes))]
-fn write_boxes<K: Sink>(half: u64, sink: &mut K) -> Result<(), SinkFault>
-    requires half { 14 ≤ half }
-    requires few { half ≤ 46 }
-    ensures text { Writes (K.held sink.old) (K.held sink.new) (boxes half) result }
-    ensures cause { HasCause (K.faults sink.old) (K.faults sink.new) result }
-{
-    let numbers = [half, 2 * half, half - 6, 2 * (half - 6)];
-    let text = b"<rect id='box' x='-@' y='-16' width='@' height='22' rx='3'/>\n\
-<rect id='inner' x='-@' y='-12' width='@' height='14' rx='2' fill='#fff'/>\n";
-    write_filled(text, &numbers, sink)
-}
-
-#[tactic(auto, unfolding(crate::specs::Symbols::cross))]
-fn write_cross<K: Sink>(half: u64, sink: &mut K) -> Result<(), SinkFault>
-    requires half { 14 ≤ half }
-    requires few { half ≤ 46 }
-    ensures text { Writes (K.held sink.old) (K.held sink.new) (cross half) result }
-    ensures cause { HasCause (K.faults sink.old) (K.faults sink.new) result }
-{
-    let numbers = [half, half, half, half, half - 13, 2 * (half - 13)];
-    let text = b"<path id='cross' d='M-@,-16L@,6M-@,6L@,-16' fill='none'/>\n\
-<rect id='middle' x='-@' y='-11' width='@' height='12' rx='2' fill='#fff'/>\n";
-    write_filled(text, &numbers, sink)
-}
-
-#[tactic(auto, unfolding(crate::specs::Symbols::waiting))]
-fn write_waiting<K: Sink>(half: u64, sink: &mut K) -> Result<(), SinkFault>
-    requires half { 14 ≤ half }
-    requires few { half ≤ 46 }
-    ensures text { Writes (K.held sink.old) (K.held sink.new) (waiting half) result }
-    ensures cause { HasCause (K.faults sink.old) (K.faults sink.new) result }
-{
-    let numbers = [half - 11, half - 11];
-    let text = b"<g id='m0' stroke='#46525e'><use xlink:href='#box' fill='none'/></g>\n\
-<g id='m1'><use xlink:href='#box' fill='url(#diagonal)' stroke='#8f4a00'/><use xlink:href='#inner'/><text x='@' y='2'>*</text></g>\n\
-<g id='m2'><use xlink:href='#box' fill='#fff' fill-opacity='0.6' stroke='#111' stroke-dasharray='3 3'/><text x='@'>-</text></g>\n";
-    write_filled(text, &numbers, sink)
-}
-
-#[tactic(auto, unfolding(crate::specs::Symbols::held))]
-fn write_held<K: Sink>(half: u64, sink: &mut K) -> Result<(), SinkFault>
-    requires half { 14 ≤ half }
-    requires few { half ≤ 46 }
-    ensures text { Writes (K.held sink.old) (K.held sink.new) (held half) result }
-    ensures cause { HasCause (K.faults sink.old) (K.faults sink.new) result }
-{
-    let numbers = [half - 11];
-    let text =
-        b"<g id='m3'><use xlink:href='#box' fill='url(#level)' stroke='#31475e'/><use xlink:href='#inner'/><text x='@'>!</text></g>\n\
-<g id='m4' stroke='#a3121f' stroke-width='1.5'><use xlink:href='#box' fill='#fff'/><use xlink:href='#cross'/><use xlink:href='#middle' stroke='none'/></g>\n";
-    write_filled(text, &numbers, sink)
-}
-
-#[tactic(auto, unfolding(crate::specs::Symbols::grid))]
-fn write_grid<K: Sink>(half: u64, cycles: u64, rows: u64, sink: &mut K) -> Result<(), SinkFault>
-    requires half { half ≤ 46 }
-    requires cycles { cycles ≤ 1000 }
-    requires rows { rows ≤ 1000 }
-    ensures text { Writes (K.held sink.old) (K.held sink.new) (grid half cycles rows) result }
-    ensures cause { HasCause (K.faults sink.old) (K.faults sink.new) result }
-{
-    let numbers = [
+    let (inner, middle, mark) = (half - 6, half - 13, half - 11);
+    let boxes = [half, 2 * half, inner, 2 * inner];
+    let cross = [half, half, half, half, middle, 2 * middle];
+    let waiting = [mark, mark];
+    let held = [mark];
+    let column = 2 * half + 4;
+    let grid = [
         half + 2,
         28 * rows,
         half + 2,
-        2 * half + 4,
+        column,
         28 * rows,
-        cycles * (2 * half + 4),
+        cycles * column,
     ];
-    let text = b"<path id='c0' d='M@.5,8v@' fill='none' stroke='#ddd'/>\n\
+    let templates = [
+        Template {
+            text: b"<rect id='box' x='-@' y='-16' width='@' height='22' rx='3'/>\n\
+<rect id='inner' x='-@' y='-12' width='@' height='14' rx='2' fill='#fff'/>\n",
+            numbers: &boxes,
+        },
+        Template {
+            text: b"<path id='cross' d='M-@,-16L@,6M-@,6L@,-16' fill='none'/>\n\
+<rect id='middle' x='-@' y='-11' width='@' height='12' rx='2' fill='#fff'/>\n",
+            numbers: &cross,
+        },
+        Template {
+            text: b"<g id='m0' stroke='#46525e'><use xlink:href='#box' fill='none'/></g>\n\
+<g id='m1'><use xlink:href='#box' fill='url(#diagonal)' stroke='#8f4a00'/><use xlink:href='#inner'/><text x='@' y='2'>*</text></g>\n\
+<g id='m2'><use xlink:href='#box' fill='#fff' fill-opacity='0.6' stroke='#111' stroke-dasharray='3 3'/><text x='@'>-</text></g>\n",
+            numbers: &waiting,
+        },
+        Template {
+            text: b"<g id='m3'><use xlink:href='#box' fill='url(#level)' stroke='#31475e'/><use xlink:href='#inner'/><text x='@'>!</text></g>\n\
+<g id='m4' stroke='#a3121f' stroke-width='1.5'><use xlink:href='#box' fill='#fff'/><use xlink:href='#cross'/><use xlink:href='#middle' stroke='none'/></g>\n",
+            numbers: &held,
+        },
+        Template {
+            text: b"<path id='c0' d='M@.5,8v@' fill='none' stroke='#ddd'/>\n\
 <g id='c1'><rect x='-@' y='8' width='@' height='@' fill='#e6e6e6'/><path d='M-5,3h10l-5,6z' fill='#a3121f'/></g>\n\
 <path id='line' d='M0,8.5h@' fill='none' stroke='#ddd'/>\n\
-</defs>\n";
-    write_filled(text, &numbers, sink)
+</defs>\n",
+            numbers: &grid,
+        },
+    ];
+    write_templates(&templates, sink)
 }

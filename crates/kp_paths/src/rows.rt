@@ -1,8 +1,8 @@
 // The rows of the table.
-ghost use Rattle.std.specs.Prelude.{◌≡◌, ◌≤◌, ◌++◌, ◌-◌, codes, length};
+ghost use Rattle.std.specs.Prelude.{◌≡◌, ◌≤◌, ◌++◌, codes};
 ghost use Rattle.kp_base.specs.Bytes.{Writes};
 ghost use Rattle.kp_base.specs.Causes.{HasCause};
-ghost use Rattle.kp_paths.specs.Text.{cells_text, label, longer, longest_from, longest_in, note as note_of, place_text, row_text, rows_from, rows_in, rows_of};
+ghost use Rattle.kp_paths.specs.Text.{cells_text, longer, longest_from, longest_in, note as note_of, row_text, rows_from, rows_in, rows_of};
 
 use crate::pieces::{LONGEST, label_length, write_label, write_place, write_right};
 use crate::table::Paths;
@@ -45,20 +45,8 @@ fn longer_of(width: usize, stmt: &StmtKind) -> usize
     }
 }
 
-// The rows of the reads.
-pub(crate) fn write_rows<K: Sink>(
-    paths: &Paths<'_>,
-    width: usize,
-    sink: &mut K,
-) -> Result<(), SinkFault>
-    requires { width ≤ LONGEST }
-    ensures text { Writes (K.held sink.old) (K.held sink.new) (rows_from paths.now width 0 paths.now.blocks) result }
-    ensures cause { HasCause (K.faults sink.old) (K.faults sink.new) result }
-{
-    write_blocks(paths, paths.job().blocks.as_slice(), width, sink)
-}
-
-fn write_blocks<K: Sink>(
+// The rows of the reads in these blocks.
+pub(crate) fn write_blocks<K: Sink>(
     paths: &Paths<'_>,
     blocks: &[Block],
     width: usize,
@@ -109,7 +97,6 @@ fn write_stmt<K: Sink>(
     }
 }
 
-#[tactic(auto, using(kp_base::proofs::Bytes::writes_next, kp_base::proofs::Bytes::part_more))]
 fn write_row<K: Sink>(
     paths: &Paths<'_>,
     read: &ReadStmt,
@@ -121,40 +108,9 @@ fn write_row<K: Sink>(
     ensures text { Writes (K.held sink.old) (K.held sink.new) (row_text paths.now width k read.now) result }
     ensures cause { HasCause (K.faults sink.old) (K.faults sink.new) result }
 {
-    write_label(read, sink)?;
-    write_after_label(paths, read, width, k, sink)
-}
-
-#[tactic(auto, using(kp_base::proofs::Bytes::writes_next, kp_base::proofs::Bytes::part_more))]
-fn write_after_label<K: Sink>(
-    paths: &Paths<'_>,
-    read: &ReadStmt,
-    width: usize,
-    k: usize,
-    sink: &mut K,
-) -> Result<(), SinkFault>
-    requires { width ≤ LONGEST }
-    ensures text { Writes (K.held sink.old) (K.held sink.new)
-        (place_text (width - length (label read.now)) read.now.name.at.line k
-        ++ (cells_text paths.now read.now k 0 paths.now.stages.value ++ (note_of paths.now read.now ++ codes "\n"))) result }
-    ensures cause { HasCause (K.faults sink.old) (K.faults sink.new) result }
-{
     let pad = width.saturating_sub(label_length(read));
+    write_label(read, sink)?;
     write_place(pad, read.name.at.line, k, sink)?;
-    write_cells_and_note(paths, read, k, sink)
-}
-
-#[tactic(auto, using(kp_base::proofs::Bytes::writes_next, kp_base::proofs::Bytes::part_more))]
-fn write_cells_and_note<K: Sink>(
-    paths: &Paths<'_>,
-    read: &ReadStmt,
-    k: usize,
-    sink: &mut K,
-) -> Result<(), SinkFault>
-    ensures text { Writes (K.held sink.old) (K.held sink.new)
-        (cells_text paths.now read.now k 0 paths.now.stages.value ++ (note_of paths.now read.now ++ codes "\n")) result }
-    ensures cause { HasCause (K.faults sink.old) (K.faults sink.new) result }
-{
     write_cells(paths, read, k, paths.stages(), sink)?;
     write_note(paths, read, sink)
 }

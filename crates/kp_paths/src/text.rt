@@ -1,11 +1,11 @@
 // The table as text.
-ghost use Rattle.std.specs.Prelude.{◌≡◌, ◌≤◌, ◌++◌, codes, decimal};
+ghost use Rattle.std.specs.Prelude.{◌≡◌, ◌≤◌, ◌++◌, decimal};
 ghost use Rattle.kp_base.specs.Bytes.{Writes};
 ghost use Rattle.kp_base.specs.Causes.{HasCause};
 ghost use Rattle.kp_paths.specs.Text.{at_right, head_text, label_width, legend as legend_text, numbers_text, paths_text, rows_from, title_text};
 
 use crate::pieces::{LONGEST, blank, write_right};
-use crate::rows::{longest, write_rows};
+use crate::rows::{longest, write_blocks};
 use crate::table::Paths;
 use itoa::Buffer;
 use kp_base::{Sink, SinkFault, write_all, write_pieces};
@@ -27,7 +27,6 @@ fn width(paths: &Paths<'_>) -> usize
     longest(paths.job().blocks.as_slice(), 4)
 }
 
-#[tactic(auto, using(kp_base::proofs::Bytes::writes_next, kp_base::proofs::Bytes::part_more))]
 fn write_table<K: Sink>(paths: &Paths<'_>, width: usize, sink: &mut K) -> Result<(), SinkFault>
     requires { width ≤ LONGEST }
     ensures text { Writes (K.held sink.old) (K.held sink.new)
@@ -35,17 +34,7 @@ fn write_table<K: Sink>(paths: &Paths<'_>, width: usize, sink: &mut K) -> Result
     ensures cause { HasCause (K.faults sink.old) (K.faults sink.new) result }
 {
     write_head(paths, width, sink)?;
-    write_body(paths, width, sink)
-}
-
-#[tactic(auto, using(kp_base::proofs::Bytes::writes_next, kp_base::proofs::Bytes::part_more))]
-fn write_body<K: Sink>(paths: &Paths<'_>, width: usize, sink: &mut K) -> Result<(), SinkFault>
-    requires { width ≤ LONGEST }
-    ensures text { Writes (K.held sink.old) (K.held sink.new)
-        (rows_from paths.now width 0 paths.now.blocks ++ legend_text) result }
-    ensures cause { HasCause (K.faults sink.old) (K.faults sink.new) result }
-{
-    write_rows(paths, width, sink)?;
+    write_blocks(paths, paths.job().blocks.as_slice(), width, sink)?;
     write_legend(sink)
 }
 
@@ -60,14 +49,14 @@ fn write_legend<K: Sink>(sink: &mut K) -> Result<(), SinkFault>
     )
 }
 
-#[tactic(auto, using(kp_base::proofs::Bytes::writes_next, kp_base::proofs::Bytes::part_more))]
 fn write_head<K: Sink>(paths: &Paths<'_>, width: usize, sink: &mut K) -> Result<(), SinkFault>
     requires { width ≤ LONGEST }
     ensures text { Writes (K.held sink.old) (K.held sink.new) (head_text paths.now width) result }
     ensures cause { HasCause (K.faults sink.old) (K.faults sink.new) result }
 {
     write_title(paths.job().name.name.bytes(), width, sink)?;
-    write_stages(paths.stages(), sink)
+    write_numbers(paths.stages(), sink)?;
+    write_all(sink, b"\n")
 }
 
 fn write_title<K: Sink>(name: &[u8], width: usize, sink: &mut K) -> Result<(), SinkFault>
@@ -83,15 +72,6 @@ fn write_title<K: Sink>(name: &[u8], width: usize, sink: &mut K) -> Result<(), S
         b"  line  reads in".as_slice(),
     ];
     write_pieces(sink, &pieces)
-}
-
-#[tactic(auto, using(kp_base::proofs::Bytes::writes_next, kp_base::proofs::Bytes::part_more))]
-fn write_stages<K: Sink>(count: usize, sink: &mut K) -> Result<(), SinkFault>
-    ensures text { Writes (K.held sink.old) (K.held sink.new) (numbers_text 0 count ++ codes "\n") result }
-    ensures cause { HasCause (K.faults sink.old) (K.faults sink.new) result }
-{
-    write_numbers(count, sink)?;
-    write_all(sink, b"\n")
 }
 
 fn write_numbers<K: Sink>(count: usize, sink: &mut K) -> Result<(), SinkFault>

@@ -1,7 +1,7 @@
 -- Texts that pass through a buffer in order.
-use Rattle.std.proofs.Common.{◌≡◌, ◌∙◌, ℕ, ◌+◌, ◌≤◌, ◌<◌, List, [], ◌∷◌, ◌++◌, length, get_or, take, drop, refl, sym, ap, subst, append_assoc, append-nil, Ok, Err}
-use Rattle.std.proofs.lemmas.{List.drop_more, List.drop_all, List.take_more, Grind.flat_map-append}
-use Rattle.std.{proofs.KnownBytes.Appends-nil, proofs.KnownBytes.Appends-trans, specs.Prelude.flat_map, specs.declared.option.Option.Option}
+use Rattle.std.proofs.Common.{◌≡◌, ◌∙◌, ℕ, ◌+◌, ◌≤◌, ◌<◌, List, [], ◌∷◌, ◌++◌, length, get_or, drop, sym, ap, subst, append_assoc, append-nil, Ok, Err}
+use Rattle.std.proofs.lemmas.{List.drop_more, List.drop_all}
+use Rattle.std.{proofs.KnownBytes.Appends-trans, specs.declared.option.Option.Option}
 use Rattle.std.specs.{declared.result.Result.Result, Io.KnownBytes.Appends}
 use Rattle.kp_base.{specs.Bytes.AppendsPart, specs.Bytes.Writes, proofs.Bytes.writes_next}
 use Rattle.kp_vwrite.specs.inner.Passing.{Passes, Stops, Sends}
@@ -92,11 +92,6 @@ module _ {X : Type 0} (f : ℕ → List X → List ℕ) (line : ℕ → X → Li
   lines_end all i a b p q h w =
       let e : f 0 all ≡ w.done = w.split ∙ ap (λ xs. w.done ++ f i xs) (drop_all i all h) ∙ ap (λ t. w.done ++ t) (none i) ∙ append-nil w.done in
       subst (Passes a p b q) (sym e) w.passed
-
--- one more piece of several
-pub flat_map_more : {X : Type 0} (f : X → List ℕ) (xs : List X) (i : ℕ) (d : X) → i < length xs → flat_map f (take (i + 1) xs) ≡ flat_map f (take i xs) ++ f (get_or xs i d)
-flat_map_more f xs i d within =
-    ap (flat_map f) (take_more xs i d within) ∙ flat_map-append f (take i xs) (get_or xs i d ∷ []) ∙ ap (λ (t : List ℕ). flat_map f (take i xs) ++ t) (append-nil (f (get_or xs i d)))
 
 -- a text that started with an empty buffer follows what the sink contained once the buffer is flushed
 pub flushed : {T E : Type 0} (a b c : Option (List ℕ)) (page kept text : List ℕ) (result : Result T E) → page ≡ [] → Passes a page b kept text → Writes b c kept result → Writes a c text result
