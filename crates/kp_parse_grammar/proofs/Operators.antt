@@ -6,7 +6,7 @@ use Rattle.kp_grammar.specs.{Grammar.Nonterminal, Grammar.Action, Tables.pick, M
 use Rattle.kp_lex.specs.declared.token.Mark.{Mark}
 use Rattle.kp_parse_grammar.specs.Language.{Sym, State, Value, at, rules, counted, make_binary, expr, CHAIN, OPERAND, MORE, UNARY, POST}
 use Rattle.kp_parse_grammar.specs.{declared.level.Level.Level, declared.fault.Fault.Fault, Tokens.Lexeme, Tokens.mark_class}
-use Rattle.kp_parse_grammar.specs.inner.{Operators.operators_of, Operators.operator_at, Follow.tables}
+use Rattle.kp_parse_grammar.specs.inner.{Operators.operators_of, Operators.operator_at, Operators.HasOperator, Follow.tables}
 use Rattle.kp_parse_grammar.specs.Reading.{Goes, class_at, Finds, Reads, Fails, ReadsYet}
 use Rattle.kp_parse_grammar.proofs.{Steps.passed, Steps.by_counted, Steps.one, Picks.other}
 use Rattle.kp_parse_grammar.specs.declared.level.Level.TheVariants as levels
@@ -55,41 +55,41 @@ module _ {s : List Sym} {v : State} {o : Outcome State} (ts : List Lexeme) (i : 
   pub chain_start : Goes (Nonterminal (OPERAND l) ∷ Nonterminal (MORE l) ∷ s) v (drop i ts) o → Goes (Nonterminal (CHAIN l) ∷ s) v (drop i ts) o
   chain_start h = goes (Nonterminal (OPERAND l) ∷ Nonterminal (MORE l) ∷ []) (chain_body l (class_at ts i)) h
 
-  pub more_start : (p : Mark × BinOp) → operator_at (class_at ts i) (operators_of l) ≡ Some p
-      → Goes (counted p.0 ∷ Nonterminal (OPERAND l) ∷ Action (make_binary p.1) ∷ (behind l ++ s)) v (drop i ts) o → Goes (Nonterminal (MORE l) ∷ s) v (drop i ts) o
-  more_start p e h = goes (operation_of l p) (more_body l (class_at ts i) ∙ ap (λ (o : Option (Mark × BinOp)). Some (body_of (operation_of l) o)) e) h
+  pub more_start : {op : BinOp} {p : Place} {j : ℕ} (f : HasOperator ts l op p i j)
+      → Goes (counted f.mark ∷ Nonterminal (OPERAND l) ∷ Action (make_binary op) ∷ (behind l ++ s)) v (drop i ts) o → Goes (Nonterminal (MORE l) ∷ s) v (drop i ts) o
+  more_start {op} f h = goes (operation_of l (f.mark, op)) (more_body l (class_at ts i) ∙ ap (λ (o : Option (Mark × BinOp)). Some (body_of (operation_of l) o)) f.operator) h
 
   pub more_none : operator_at (class_at ts i) (operators_of l) ≡ None → Goes s v (drop i ts) o → Goes (Nonterminal (MORE l) ∷ s) v (drop i ts) o
   more_none e h = goes [] (more_body l (class_at ts i) ∙ ap (λ (o : Option (Mark × BinOp)). Some (body_of (operation_of l) o)) e) h
 
 -- one more operator of a level
-operator_step : {ts : List Lexeme} (l : Level) {x y : Expr} {m : Mark} {op : BinOp} {p : Place} {c b d e i j k n : ℕ}
-    → ReadsYet ts (CHAIN l) c (MORE l) (expr x ∷ []) b i j → operator_at (class_at ts j) (operators_of l) ≡ Some (m, op) → Finds ts (mark_class m) p j k → (b < 64) × (d ≡ b + 1)
+operator_step : {ts : List Lexeme} (l : Level) {x y : Expr} {op : BinOp} {p : Place} {c b d e i j k n : ℕ}
+    → ReadsYet ts (CHAIN l) c (MORE l) (expr x ∷ []) b i j → HasOperator ts l op p j k → (b < 64) × (d ≡ b + 1)
     → Reads ts (OPERAND l) d (expr y ∷ []) e k n
     → (s : List Sym) (cs : List ℕ) (vs : List Value) (o : Outcome State)
     → Goes (behind l ++ s) (at (e ∷ cs) (expr (record { place = p; kind = expressions.Binary op x y }) ∷ vs)) (drop n ts) o → Goes (Nonterminal (CHAIN l) ∷ s) (at (c ∷ cs) vs) (drop i ts) o
-operator_step {ts} l {m = m} {op = op} {j = j} i a f g r s cs vs o h = i.leads s cs vs o (more_start ts j l (m, op) a (by_counted f g (r.leads _ _ _ _ (make h))))
+operator_step {ts} l {op = op} {j = j} i f g r s cs vs o h = i.leads s cs vs o (more_start ts j l f (by_counted f.finds g (r.leads _ _ _ _ (make h))))
 
-pub operators_go_on : {ts : List Lexeme} (l : Level) {x y : Expr} {m : Mark} {op : BinOp} {p : Place} {c b d e i j k n : ℕ} → (l ≡ levels.Compare → ⊥)
-    → ReadsYet ts (CHAIN l) c (MORE l) (expr x ∷ []) b i j → operator_at (class_at ts j) (operators_of l) ≡ Some (m, op) → Finds ts (mark_class m) p j k → (b < 64) × (d ≡ b + 1)
+pub operators_go_on : {ts : List Lexeme} (l : Level) {x y : Expr} {op : BinOp} {p : Place} {c b d e i j k n : ℕ} → (l ≡ levels.Compare → ⊥)
+    → ReadsYet ts (CHAIN l) c (MORE l) (expr x ∷ []) b i j → HasOperator ts l op p j k → (b < 64) × (d ≡ b + 1)
     → Reads ts (OPERAND l) d (expr y ∷ []) e k n → ReadsYet ts (CHAIN l) c (MORE l) (expr (record { place = p; kind = expressions.Binary op x y }) ∷ []) e i n
-operators_go_on {ts} l {x} {y} {m} {op} {p} {e = e} {n = n} z i a f g r = record {
-  leads = λ s cs vs o h. operator_step l i a f g r s cs vs o
+operators_go_on {ts} l {x} {y} {op} {p} {e = e} {n = n} z i f g r = record {
+  leads = λ s cs vs o h. operator_step l i f g r s cs vs o
       (subst (λ (b : List Sym). Goes (b ++ s) (at (e ∷ cs) (expr (record { place = p; kind = expressions.Binary op x y }) ∷ vs)) (drop n ts) o) (sym (loops l z)) h);
   grows = omega (arith, i.grows, r.grows, g.1);
   limit = r.limit;
-  shrinks = omega (arith, i.shrinks, r.shrinks, one f);
+  shrinks = omega (arith, i.shrinks, r.shrinks, one f.finds);
 }
 
-pub compare_ends : {ts : List Lexeme} (l : Level) {x y : Expr} {m : Mark} {op : BinOp} {p : Place} {c b d e i j k n : ℕ} → l ≡ levels.Compare
-    → ReadsYet ts (CHAIN l) c (MORE l) (expr x ∷ []) b i j → operator_at (class_at ts j) (operators_of l) ≡ Some (m, op) → Finds ts (mark_class m) p j k → (b < 64) × (d ≡ b + 1)
+pub compare_ends : {ts : List Lexeme} (l : Level) {x y : Expr} {op : BinOp} {p : Place} {c b d e i j k n : ℕ} → l ≡ levels.Compare
+    → ReadsYet ts (CHAIN l) c (MORE l) (expr x ∷ []) b i j → HasOperator ts l op p j k → (b < 64) × (d ≡ b + 1)
     → Reads ts (OPERAND l) d (expr y ∷ []) e k n → Reads ts (CHAIN l) c (expr (record { place = p; kind = expressions.Binary op x y }) ∷ []) e i n
-compare_ends {ts} l {x} {y} {m} {op} {p} {e = e} {n = n} z i a f g r = record {
-  leads = λ s cs vs o h. operator_step l i a f g r s cs vs o
+compare_ends {ts} l {x} {y} {op} {p} {e = e} {n = n} z i f g r = record {
+  leads = λ s cs vs o h. operator_step l i f g r s cs vs o
       (subst (λ (b : List Sym). Goes (b ++ s) (at (e ∷ cs) (expr (record { place = p; kind = expressions.Binary op x y }) ∷ vs)) (drop n ts) o) (sym (ap behind z)) h);
   grows = omega (arith, i.grows, r.grows, g.1);
   limit = r.limit;
-  shrinks = omega (arith, i.shrinks, r.shrinks, one f);
+  shrinks = omega (arith, i.shrinks, r.shrinks, one f.finds);
 }
 
 -- without a `~` an operand is read with its slices

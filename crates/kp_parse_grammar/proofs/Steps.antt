@@ -2,10 +2,13 @@
 use Rattle.std.proofs.Common.{ℕ, ◌≡◌, ◌<◌, ◌≤◌, ◌+◌, nat_lt, List, [], ◌∷◌, length, drop, Bool, false, refl, sym, ap, subst, arith, Result, IsErrAnd, MatchResult}
 use Rattle.std.proofs.lemmas.{Bool.le-ltb, Result.err_from_is_err_and}
 use Rattle.kp_base.specs.declared.place.Place.{Place}
-use Rattle.kp_grammar.specs.{Grammar.Terminal, Machine.Outcome, Machine.Accepts, Machine.Stops, Machine.Exceeds, Machine.accept, Machine.more}
+use Rattle.kp_ast.specs.declared.tree.{Expr.Expr, Num.Num}
+use Rattle.kp_lex.specs.declared.token.Keyword.{Keyword}
+use Rattle.kp_lex.specs.declared.token.Keyword.TheVariants as keywords
+use Rattle.kp_grammar.specs.{Grammar.Terminal, Grammar.Action, Machine.Outcome, Machine.Accepts, Machine.Stops, Machine.Exceeds, Machine.accept, Machine.more, Machine.make}
 use Rattle.kp_grammar.proofs.Ways.{took, exceeded}
-use Rattle.kp_parse_grammar.specs.Language.{Sym, State, Value, place, dropped, as_place, counts_one, opens, opens_at, closes, separates, language, at, is_over}
-use Rattle.kp_parse_grammar.specs.{declared.fault.Fault.Fault, Tokens.Lexeme, inner.Follow.tables, Reading.Goes, Reading.Finds, Reading.FaultIs, Reading.Faults}
+use Rattle.kp_parse_grammar.specs.Language.{Sym, State, Value, Way, place, expr, number, dropped, as_place, counts_one, opens, opens_at, closes, separates, language, at, is_over}
+use Rattle.kp_parse_grammar.specs.{declared.fault.Fault.Fault, Tokens.Lexeme, inner.Follow.tables, inner.Stretch.Counts, inner.Extension.extension_of, inner.Extension.extending, Reading.Goes, Reading.Finds, Reading.FaultIs, Reading.Faults}
 use Rattle.kp_parse_grammar.specs.declared.fault.Fault.TheVariants as faults
 
 fits : (c : ℕ) → c < 64 → nat_lt 64 (c + 1) ≡ false
@@ -52,6 +55,14 @@ module _ {ts : List Lexeme} {k i j : ℕ} {p : Place} {s : List Sym} {vs : List 
   pub over_opened_at : Finds ts k p i j → c ≡ 64 → Goes (Terminal k opens_at ∷ s) (at (c ∷ cs) vs) (drop i ts) (Exceeds (length (drop i ts)))
   over_opened_at f e = subst (λ (d : ℕ). Goes (Terminal k opens_at ∷ s) (at (d ∷ cs) vs) (drop i ts) (Exceeds (length (drop i ts)))) (sym e) (exceeded language is_over tables f.whole f.class refl)
 
+-- .. whichever of the ways that increment the count it is read in
+pub over : {ts : List Lexeme} {k i j : ℕ} {p : Place} {c : ℕ} → Finds ts k p i j → c ≡ 64 → (way : Way) → Counts way → (s : List Sym) (cs : List ℕ) (vs : List Value)
+    → Goes (Terminal k way ∷ s) (at (c ∷ cs) vs) (drop i ts) (Exceeds (length (drop i ts)))
+over f e counts_one h s cs vs = over_counted f e
+over f e opens h s cs vs = over_opened f e
+over f e opens_at h s cs vs = over_opened_at f e
+over f e _ h s cs vs = absurd h
+
 pub one : {ts : List Lexeme} {k i j : ℕ} {p : Place} → Finds ts k p i j → length (drop j ts) + 1 ≤ length (drop i ts)
 one f = let e = ap length f.whole in omega (arith, e)
 
@@ -79,3 +90,9 @@ accepted ts i {v} h = subst (λ (xs : List Lexeme). Goes [] v xs (Accepts v)) (s
 
 pub stopped : (ts : List Lexeme) (i : ℕ) (t : Lexeme) (rest : List Lexeme) → drop i ts ≡ t ∷ rest → (v : State) → Goes [] v (drop i ts) (Stops (length (drop i ts)))
 stopped ts i t rest h v = subst (λ (xs : List Lexeme). Goes [] v xs (Stops (length xs))) (sym h) more
+
+-- what `zext` and `sext` build
+pub extends : (k : Keyword) {s : List Sym} {cs : List ℕ} {vs : List Value} {p : Place} {x : Expr} {w : Num} {ts : List Lexeme} {o : Outcome State}
+    → Goes s (at cs (expr (record { place = p; kind = extension_of k x w }) ∷ vs)) ts o → Goes (Action (extending k) ∷ s) (at cs (number w ∷ expr x ∷ place p ∷ vs)) ts o
+extends keywords.Zext h = make h
+extends _ h = make h

@@ -1,16 +1,16 @@
 -- The token at an index.
-use Rattle.std.proofs.Common.{ℕ, ◌≡◌, ◌==◌, ◌<◌, ◌≤◌, ◌+◌, ◌-◌, List, [], ◌∷◌, length, drop, take, map, false, refl, sym, ap, ◌∙◌, eq-eqb, arith}
-use Rattle.std.{proofs.lemmas.List.drop_more, proofs.lemmas.List.drop-map, specs.Prelude.slice_index_or}
+use Rattle.std.proofs.Common.{ℕ, ◌≡◌, ◌==◌, ◌<◌, ◌≤◌, ◌+◌, ◌-◌, List, [], ◌∷◌, length, drop, take, map, true, false, refl, sym, ap, ◌∙◌, eq-eqb, arith}
+use Rattle.std.{proofs.lemmas.List.drop_more, proofs.lemmas.List.drop-map, proofs.lemmas.Bool.eqb-true, specs.Prelude.slice_index_or}
 use Rattle.kp_grammar.{specs.Grammar.Terminal, specs.Machine.Stops, specs.Machine.look, specs.Machine.wrong, proofs.Ways.took}
-use Rattle.kp_lex.specs.declared.token.{Token.Token, Keyword.Keyword, Mark.Mark, TokenKind.TokenKind}
+use Rattle.kp_lex.specs.declared.token.{Token.Token, TokenKind.TokenKind}
 use Rattle.kp_lex.specs.declared.token.Keyword.TheVariants as keywords
 use Rattle.kp_lex.specs.declared.token.Mark.TheVariants as marks
 use Rattle.kp_lex.specs.declared.token.TokenKind.TheVariants as kinds
 use Rattle.kp_bits.specs.declared.literal.Literal.{Literal}
-use Rattle.kp_parse_grammar.specs.Tokens.{Lexeme, lexeme_of, lexemes, kind_class, keyword_class, mark_class, IDENTIFIER, named_of}
+use Rattle.kp_parse_grammar.specs.Tokens.{Lexeme, lexeme_of, lexemes, kind_class, IDENTIFIER, named_of}
 use Rattle.kp_parse_grammar.specs.inner.Follow.{tables}
 use Rattle.kp_parse_grammar.specs.Language.{Sym, State, Way, NAME, NUM, LIT, named, number, literal, language, is_over}
-use Rattle.kp_parse_grammar.specs.Reading.{Goes, class_at, Turns}
+use Rattle.kp_parse_grammar.specs.Reading.{Goes, class_at, Finds, Turns}
 
 -- the bytes of a token from its start to its end
 same_span : (a b : ℕ) → (a + b) - a ≡ b
@@ -59,15 +59,6 @@ reads_literal ts i j t l h e = record {
   shrinks = shorter ts i j t h;
 }
 
--- keywords and marks are nothing else
-pub keyword_isnt_end : (k : Keyword) → false ≡ (0 == keyword_class k)
-keyword_isnt_end keywords.Machine = refl
-keyword_isnt_end _ = refl
-
-pub mark_isnt_end : (k : Mark) → false ≡ (0 == mark_class k)
-mark_isnt_end marks.Semicolon = refl
-mark_isnt_end _ = refl
-
 -- what isn't a number, and what isn't a literal
 pub no_number : (k : TokenKind) → ((n : ℕ) → k ≡ kinds.Number n → ⊥) → false ≡ (kind_class k == 2)
 no_number (kinds.Number n) h = absurd (h n refl)
@@ -80,3 +71,11 @@ no_literal (kinds.Literal l) h = absurd (h l refl)
 no_literal (kinds.Keyword keywords.Machine) h = refl
 no_literal (kinds.Mark marks.Semicolon) h = refl
 no_literal _ h = refl
+
+-- a token that is there, and is of a class
+pub there : {ts : List Lexeme} {t : Lexeme} {i j : ℕ} → drop i ts ≡ t ∷ drop j ts → (c : ℕ) → true ≡ (class_at ts i == c) → Finds ts c t.place i j
+there {ts} {t = t} {i = i} whole c h = record { token = t; whole = whole; class = sym (ap (look language) whole) ∙ eqb-true (class_at ts i) c (sym h); place = refl }
+
+-- where the text has not ended there is one
+pub not_ended : (ts : List Lexeme) (i : ℕ) → false ≡ (class_at ts i == 0) → drop i ts ≡ [] → ⊥
+not_ended ts i h e = let k : class_at ts i ≡ 0 = ap (look language) e in cc (h ∙ ap (λ (c : ℕ). c == 0) k)

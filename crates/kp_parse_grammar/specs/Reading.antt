@@ -6,7 +6,7 @@ use Rattle.kp_grammar.specs.{Grammar.Terminal, Grammar.Nonterminal, Tables.END_O
 use Rattle.kp_grammar.specs.Machine.{Outcome, Stops, Exceeds, Leads, look}
 use Rattle.kp_lex.specs.declared.token.TokenKind.{TokenKind}
 use Rattle.kp_parse_grammar.specs.{declared.fault.Fault.Fault, Tokens.Lexeme, Tokens.kind_class}
-use Rattle.kp_parse_grammar.specs.Language.{Sym, State, Value, Way, at, is_over, exprs, language, EXPRS, PARTS, JOB}
+use Rattle.kp_parse_grammar.specs.Language.{Sym, State, Value, Way, closes, at, is_over, exprs, language, EXPRS, PARTS, JOB}
 use Rattle.kp_parse_grammar.specs.inner.Follow.{tables}
 use Rattle.kp_parse_grammar.specs.declared.fault.Fault.TheVariants as faults
 
@@ -77,19 +77,20 @@ pub record ReadsYet (ts : List Lexeme) (n c m : ℕ) (after : List Value) (c' i 
 abbrev pub Fails : List Lexeme → ℕ → ℕ → ℕ → Fault → Type 0
 Fails ts n c i = Faults ts (λ o. (s : List Sym) (cs : List ℕ) (vs : List Value) → Goes (Nonterminal n ∷ s) (at (c ∷ cs) vs) (drop i ts) o)
 
--- The same for expressions in a bracket with commas between them: a comma resets what has been counted in the bracket.
-pub record Lists (ts : List Lexeme) (es : List Expr) (d i j : ℕ) : Type 0 where
+-- The same for expressions in a bracket with commas between them, and the token of the class that closes it: a comma resets what has been counted in the bracket.
+pub record Lists (ts : List Lexeme) (k : ℕ) (es : List Expr) (d i j : ℕ) : Type 0 where
   pub leads : (s : List Sym) (c : ℕ) (cs : List ℕ) (vs : List Value) (o : Outcome State) → d ≡ c + 1
-      → ((f : ℕ) → Goes s (at (f ∷ c ∷ cs) (exprs es ∷ vs)) (drop j ts) o) → Goes (Nonterminal EXPRS ∷ s) (at (d ∷ c ∷ cs) vs) (drop i ts) o
+      → Goes s (at (c ∷ cs) (exprs es ∷ vs)) (drop j ts) o → Goes (Nonterminal EXPRS ∷ Terminal k closes ∷ s) (at (d ∷ c ∷ cs) vs) (drop i ts) o
   pub shrinks : length (drop j ts) + 1 ≤ length (drop i ts)
 
+-- Reading them has come to token j, and the rest is still to be read.
 pub record ListsYet (ts : List Lexeme) (es : List Expr) (d i j : ℕ) : Type 0 where
   pub leads : (s : List Sym) (c : ℕ) (cs : List ℕ) (vs : List Value) (o : Outcome State) → d ≡ c + 1
       → ((f : ℕ) → Goes (Nonterminal PARTS ∷ s) (at (f ∷ c ∷ cs) (exprs es ∷ vs)) (drop j ts) o) → Goes (Nonterminal EXPRS ∷ s) (at (d ∷ c ∷ cs) vs) (drop i ts) o
   pub shrinks : length (drop j ts) + 1 ≤ length (drop i ts)
 
-abbrev pub FailsList : List Lexeme → ℕ → ℕ → Fault → Type 0
-FailsList ts d i = Faults ts (λ o. (s : List Sym) (c : ℕ) (cs : List ℕ) (vs : List Value) → d ≡ c + 1 → Goes (Nonterminal EXPRS ∷ s) (at (d ∷ c ∷ cs) vs) (drop i ts) o)
+abbrev pub FailsList : List Lexeme → ℕ → ℕ → ℕ → Fault → Type 0
+FailsList ts k d i = Faults ts (λ o. (s : List Sym) (c : ℕ) (cs : List ℕ) (vs : List Value) → d ≡ c + 1 → Goes (Nonterminal EXPRS ∷ Terminal k closes ∷ s) (at (d ∷ c ∷ cs) vs) (drop i ts) o)
 
 -- The complete text, from its first token on, leads to this outcome.
 abbrev pub JobGoes : List Lexeme → Outcome State → Type 0

@@ -3,3 +3,4 @@ pub mod Follow
 pub mod Rank
 pub mod Operators
 pub mod Stretch
+pub mod Extension

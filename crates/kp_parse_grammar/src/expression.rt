@@ -1,16 +1,16 @@
 // Expressions. The reader of a part takes the nesting count and the number of the part's first token; it returns the
 // part, the count after it, and the number of the next token.
-ghost use Rattle.std.specs.Prelude.{◌≡◌, ◌==◌, ◌≤◌, ◌<◌, ◌+◌, [], ◌∷◌, length, drop, MatchResult, IfOk, true, false};
+ghost use Rattle.std.specs.Prelude.{◌≡◌, ◌==◌, ◌≤◌, ◌<◌, ◌+◌, [], ◌∷◌, MatchOption, MatchResult, IfOk, None, true};
 ghost use Rattle.kp_grammar.specs.Grammar.{Nonterminal};
 ghost use Rattle.kp_ast.specs.declared.tree.ExprKind.TheViews as expressions;
 ghost use Rattle.kp_lex.specs.declared.token.Mark.TheVariants as marks;
-ghost use Rattle.kp_lex.specs.declared.token.Keyword.TheVariants as keywords;
 ghost use Rattle.kp_parse_grammar.specs.declared.fault.Fault.TheVariants as faults;
-ghost use Rattle.kp_parse_grammar.specs.Tokens.{mark_class, keyword_class, IDENTIFIER, LITERAL};
-ghost use Rattle.kp_parse_grammar.specs.inner.Operators.{operators_of, operator_at};
-ghost use Rattle.kp_parse_grammar.specs.inner.Stretch.{ReadsAll, FailsAll, branch_symbols, bound_symbols};
-ghost use Rattle.kp_parse_grammar.specs.Language.{concat_of, place as place_value, expr as expr_value, number as number_value, EXPR, CHAIN, OPERAND, UNARY, POST, PRIM, EXTENDED, LOW, WHOLE};
-ghost use Rattle.kp_parse_grammar.specs.Reading.{class_at, Reads, Fails, Lists, FailsList, Turns, Ends};
+ghost use Rattle.kp_parse_grammar.specs.Tokens.{mark_class, IDENTIFIER, LITERAL};
+ghost use Rattle.kp_parse_grammar.specs.inner.Operators.{operators_of, operator_at, HasOperator};
+ghost use Rattle.kp_parse_grammar.specs.inner.Extension.{ExtendsAt, extension_of};
+ghost use Rattle.kp_parse_grammar.specs.inner.Stretch.{ReadsAll, FailsAll, FailsCount, ReadsOut, FailsOut, bound_symbols, width_symbols};
+ghost use Rattle.kp_parse_grammar.specs.Language.{concat_of, place as place_value, expr as expr_value, number as number_value, EXPR, CHAIN, OPERAND, UNARY, POST, PRIM, LOW, WHOLE};
+ghost use Rattle.kp_parse_grammar.specs.Reading.{class_at, Finds, Reads, Fails, Lists, FailsList, Turns, Ends};
 
 use crate::fault::Fault;
 use crate::level::Level;
@@ -48,6 +48,21 @@ fn counted(count: u32, at: usize) -> Result<u32, Fault>
     Ok(count + 1)
 }
 
+// The position of a token that increments the count, the count after it, and the number of the next token.
+fn opened(
+    tokens: &Tokens<'_>,
+    mark: Mark,
+    count: u32,
+    at: usize,
+) -> Result<(Place, u32, usize), Fault>
+    requires { count ≤ 64 }
+    ensures { MatchResult result (λ x. Finds tokens.now (mark_class mark) x.0 at x.2 × ((count < 64) × (x.1 ≡ count + 1))) (FailsCount tokens.now (mark_class mark) count at) }
+{
+    let (place, next) = tokens.mark(mark, at)?;
+    let deeper = counted(count, at)?;
+    Ok((place, deeper, next))
+}
+
 #[cycle(expression)]
 fn expression(
     alloc: Global,
@@ -59,31 +74,15 @@ fn expression(
     ensures { MatchResult result (λ x. Reads tokens.now EXPR count (expr_value x.0 ∷ []) x.1 at x.2) (Fails tokens.now EXPR count at) }
 {
     let (test, count, at) = chain(alloc, tokens, Level::Or, count, at)?;
-    if !tokens.is_mark(Mark::Question, at) {
+    let Some((place, next)) = tokens.next_mark(Mark::Question, at) else {
         return Ok((test, count, at));
-    }
-    let (place, yes, no, count, next) = branches(alloc, tokens, count, at)?;
-    let made = choice(alloc, place, test, yes, no)?;
-    Ok((made, count, next))
-}
-
-// `? yes : no`, with the position of the `?`.
-#[cycle(expression)]
-fn branches(
-    alloc: Global,
-    tokens: &Tokens<'_>,
-    count: u32,
-    at: usize,
-) -> Result<(Place, Expr, Expr, u32, usize), Fault>
-    requires { count ≤ 64 }
-    ensures { MatchResult result (λ x. ReadsAll tokens.now branch_symbols count (expr_value x.2 ∷ expr_value x.1 ∷ place_value x.0 ∷ []) x.3 at x.4) (FailsAll tokens.now branch_symbols count at) }
-{
-    let (place, next) = tokens.mark(Mark::Question, at)?;
+    };
     let deeper = counted(count, at)?;
     let (yes, count, behind) = expression(alloc, tokens, deeper, next)?;
     let (_colon, next) = tokens.mark(Mark::Colon, behind)?;
     let (no, count, next) = expression(alloc, tokens, count, next)?;
-    Ok((place, yes, no, count, next))
+    let made = choice(alloc, place, test, yes, no)?;
+    Ok((made, count, next))
 }
 
 fn choice(alloc: Global, place: Place, test: Expr, yes: Expr, no: Expr) -> Result<Expr, NoMemory>
@@ -119,37 +118,32 @@ fn slice(alloc: Global, place: Place, inner: Expr, hi: u64, lo: u64) -> Result<E
     Ok(Expr { place, kind })
 }
 
-fn with_zeros(alloc: Global, place: Place, inner: Expr, width: Num) -> Result<Expr, NoMemory>
-    ensures { IfOk result (λ e. e ≡ record { place = place; kind = expressions.Zext inner width }) }
+// An operand that is extended to a width, with zeros or by its sign.
+fn extended(
+    alloc: Global,
+    place: Place,
+    keyword: Keyword,
+    inner: Expr,
+    width: Num,
+) -> Result<Expr, NoMemory>
+    ensures { IfOk result (λ e. e ≡ record { place = place; kind = extension_of keyword inner width }) }
 {
-    let kind = ExprKind::Zext(Boxed::new(alloc, inner)?, width);
+    let inner = Boxed::new(alloc, inner)?;
+    let kind = match keyword {
+        Keyword::Zext => ExprKind::Zext(inner, width),
+        _ => ExprKind::Sext(inner, width),
+    };
     Ok(Expr { place, kind })
 }
 
-fn with_signs(alloc: Global, place: Place, inner: Expr, width: Num) -> Result<Expr, NoMemory>
-    ensures { IfOk result (λ e. e ≡ record { place = place; kind = expressions.Sext inner width }) }
+// The operator of the level at this token, if there is one, its position, and the number of the next token.
+fn operator(tokens: &Tokens<'_>, level: Level, at: usize) -> Option<(BinOp, Place, usize)>
+    ensures { MatchOption result (operator_at (class_at tokens.now at) (operators_of level) ≡ None) (λ x. HasOperator tokens.now level x.0 x.1 at x.2) }
 {
-    let kind = ExprKind::Sext(Boxed::new(alloc, inner)?, width);
-    Ok(Expr { place, kind })
-}
-
-// The operator of the level at this token, if there is one.
-fn operator(tokens: &Tokens<'_>, level: Level, at: usize) -> Option<(Mark, BinOp)>
-    ensures { result ≡ operator_at (class_at tokens.now at) (operators_of level) }
-{
-    operator_among(tokens, level.operators(), at)
-}
-
-fn operator_among(
-    tokens: &Tokens<'_>,
-    operators: &[(Mark, BinOp)],
-    at: usize,
-) -> Option<(Mark, BinOp)>
-    ensures { result ≡ operator_at (class_at tokens.now at) operators.now }
-{
+    let operators = level.operators();
     for operator in operators {
-        if tokens.is_mark(operator.0, at) {
-            return Some(*operator);
+        if let Some((place, next)) = tokens.next_mark(operator.0, at) {
+            return Some((operator.1, place, next));
         }
     }
     None
@@ -169,10 +163,9 @@ fn chain(
 {
     let (mut left, mut count, mut here) = operand(alloc, tokens, level, count, at)?;
     'operators: loop {
-        let Some((mark, op)) = operator(tokens, level, here) else {
+        let Some((op, place, next)) = operator(tokens, level, here) else {
             return Ok((left, count, here));
         };
-        let (place, next) = tokens.mark(mark, here)?;
         let deeper = counted(count, here)?;
         let (right, more, behind) = operand(alloc, tokens, level, deeper, next)?;
         let both = binary(alloc, place, op, left, right)?;
@@ -219,10 +212,9 @@ fn unary(
     requires { count ≤ 64 }
     ensures { MatchResult result (λ x. Reads tokens.now UNARY count (expr_value x.0 ∷ []) x.1 at x.2) (Fails tokens.now UNARY count at) }
 {
-    if !tokens.is_mark(Mark::Tilde, at) {
+    let Some((place, next)) = tokens.next_mark(Mark::Tilde, at) else {
         return post(alloc, tokens, count, at);
-    }
-    let (place, next) = tokens.mark(Mark::Tilde, at)?;
+    };
     let deeper = counted(count, at)?;
     let (inner, count, behind) = unary(alloc, tokens, deeper, next)?;
     let made = negation(alloc, place, inner)?;
@@ -261,8 +253,7 @@ fn bounds(
     ensures bounds { MatchResult result (λ x. ReadsAll tokens.now bound_symbols count (number_value x.2 ∷ number_value x.1 ∷ place_value x.0 ∷ []) x.3 at x.4) (FailsAll tokens.now bound_symbols count at) }
     ensures deeper { IfOk result (λ x. x.3 ≡ count + 1) }
 {
-    let (place, next) = tokens.mark(Mark::OpenBracket, at)?;
-    let deeper = counted(count, at)?;
+    let (place, deeper, next) = opened(tokens, Mark::OpenBracket, count, at)?;
     let (hi, next) = tokens.number(next)?;
     let (lo, next) = low_of(tokens, hi, next)?;
     let (_close, next) = tokens.mark(Mark::CloseBracket, next)?;
@@ -273,12 +264,10 @@ fn bounds(
 fn low_of(tokens: &Tokens<'_>, hi: Num, at: usize) -> Result<(Num, usize), Fault>
     ensures { MatchResult result (λ x. Turns tokens.now (Nonterminal LOW) (number_value hi ∷ []) (number_value x.0 ∷ number_value hi ∷ []) at x.1 0) (Ends tokens.now (Nonterminal LOW) (number_value hi ∷ []) at) }
 {
-    if !tokens.is_mark(Mark::Colon, at) {
-        return Ok((hi, at));
+    match tokens.next_mark(Mark::Colon, at) {
+        Some((_colon, next)) => tokens.number(next),
+        None => Ok((hi, at)),
     }
-    let (_colon, next) = tokens.mark(Mark::Colon, at)?;
-    let (lo, next) = tokens.number(next)?;
-    Ok((lo, next))
 }
 
 #[cycle(expression)]
@@ -296,8 +285,10 @@ fn prim(
         Some(TokenKind::Ident) => named(alloc, tokens, count, at),
         Some(TokenKind::Mark(Mark::OpenParenthesis)) => bracket(alloc, tokens, count, at),
         Some(TokenKind::Mark(Mark::OpenBrace)) => concatenation(alloc, tokens, count, at),
-        Some(TokenKind::Keyword(Keyword::Zext)) => zext(alloc, tokens, count, at),
-        _ => sext(alloc, tokens, count, at),
+        Some(TokenKind::Keyword(Keyword::Zext)) => {
+            extension(alloc, tokens, Keyword::Zext, count, at)
+        }
+        _ => extension(alloc, tokens, Keyword::Sext, count, at),
     }
 }
 
@@ -324,8 +315,7 @@ fn bracket(
     requires first { true ≡ (class_at tokens.now at == mark_class marks.OpenParenthesis) }
     ensures { MatchResult result (λ x. Reads tokens.now PRIM count (expr_value x.0 ∷ []) x.1 at x.2) (Fails tokens.now PRIM count at) }
 {
-    let (_open, next) = tokens.mark(Mark::OpenParenthesis, at)?;
-    let deeper = counted(count, at)?;
+    let (_open, deeper, next) = opened(tokens, Mark::OpenParenthesis, count, at)?;
     let (inner, _count, next) = expression(alloc, tokens, deeper, next)?;
     let (_close, next) = tokens.mark(Mark::CloseParenthesis, next)?;
     Ok((inner, count, next))
@@ -345,14 +335,12 @@ fn named(
 {
     let (named, behind) = tokens.name(alloc, at)?;
     let place = named.at;
-    if !tokens.is_mark(Mark::OpenParenthesis, behind) {
+    let Some((_open, next)) = tokens.next_mark(Mark::OpenParenthesis, behind) else {
         let kind = ExprKind::Name(named.name);
         return Ok((Expr { place, kind }, count, behind));
-    }
-    let (_open, next) = tokens.mark(Mark::OpenParenthesis, behind)?;
+    };
     let deeper = counted(count, behind)?;
-    let (args, next) = expressions(alloc, tokens, deeper, next)?;
-    let (_close, next) = tokens.mark(Mark::CloseParenthesis, next)?;
+    let (args, next) = expressions(alloc, tokens, Mark::CloseParenthesis, deeper, next)?;
     let kind = ExprKind::Call(named.name, List::new(args));
     Ok((Expr { place, kind }, count, next))
 }
@@ -368,10 +356,8 @@ fn concatenation(
     requires first { true ≡ (class_at tokens.now at == mark_class marks.OpenBrace) }
     ensures { MatchResult result (λ x. Reads tokens.now PRIM count (expr_value x.0 ∷ []) x.1 at x.2) (Fails tokens.now PRIM count at) }
 {
-    let (place, next) = tokens.mark(Mark::OpenBrace, at)?;
-    let deeper = counted(count, at)?;
-    let (parts, next) = expressions(alloc, tokens, deeper, next)?;
-    let (_close, next) = tokens.mark(Mark::CloseBrace, next)?;
+    let (place, deeper, next) = opened(tokens, Mark::OpenBrace, count, at)?;
+    let (parts, next) = expressions(alloc, tokens, Mark::CloseBrace, deeper, next)?;
     Ok((joined(place, parts), count, next))
 }
 
@@ -392,86 +378,59 @@ fn joined(place: Place, mut parts: Vec<Expr>) -> Expr
     }
 }
 
-// Expressions in a bracket, with commas between them; `count` is the count after the opening bracket.
+// Expressions in a bracket, with commas between them, and the punctuator that closes it; `count` is the count after the
+// opening bracket.
 #[cycle(expression)]
 fn expressions(
     alloc: Global,
     tokens: &Tokens<'_>,
+    close: Mark,
     count: u32,
     at: usize,
 ) -> Result<(Vec<Expr>, usize), Fault>
     requires { count ≤ 64 }
-    ensures { MatchResult result (λ x. Lists tokens.now x.0.items count at x.1) (FailsList tokens.now count at) }
+    ensures { MatchResult result (λ x. Lists tokens.now (mark_class close) x.0.items count at x.1) (FailsList tokens.now (mark_class close) count at) }
 {
     let (first, _count, behind) = expression(alloc, tokens, count, at)?;
     let mut all = Vec::new(alloc);
     all.push(first)?;
     let mut here = behind;
-    'parts: while tokens.is_mark(Mark::Comma, here) {
-        let (_comma, next) = tokens.mark(Mark::Comma, here)?;
+    'parts: while let Some((_comma, next)) = tokens.next_mark(Mark::Comma, here) {
         let (one, _count, behind) = expression(alloc, tokens, count, next)?;
         all.push(one)?;
         here = behind;
     }
-    Ok((all, here))
+    let (_close, next) = tokens.mark(close, here)?;
+    Ok((all, next))
 }
 
-// `zext(a, width)`
+// `zext(a, width)` or `sext(a, width)`
 #[cycle(expression)]
-fn zext(
+fn extension(
     alloc: Global,
     tokens: &Tokens<'_>,
+    keyword: Keyword,
     count: u32,
     at: usize,
 ) -> Result<(Expr, u32, usize), Fault>
     requires limit { count ≤ 64 }
-    requires first { true ≡ (class_at tokens.now at == keyword_class keywords.Zext) }
+    requires first { ExtendsAt (class_at tokens.now at) keyword }
     ensures { MatchResult result (λ x. Reads tokens.now PRIM count (expr_value x.0 ∷ []) x.1 at x.2) (Fails tokens.now PRIM count at) }
 {
-    let (place, next) = tokens.keyword(Keyword::Zext, at)?;
-    let (inner, width, next) = extended(alloc, tokens, count, next)?;
-    let made = with_zeros(alloc, place, inner, width)?;
-    Ok((made, count, next))
-}
-
-// `sext(a, width)`
-#[cycle(expression)]
-fn sext(
-    alloc: Global,
-    tokens: &Tokens<'_>,
-    count: u32,
-    at: usize,
-) -> Result<(Expr, u32, usize), Fault>
-    requires limit { count ≤ 64 }
-    requires no_literal { false ≡ (class_at tokens.now at == LITERAL) }
-    requires no_name { false ≡ (class_at tokens.now at == IDENTIFIER) }
-    requires no_bracket { false ≡ (class_at tokens.now at == mark_class marks.OpenParenthesis) }
-    requires no_brace { false ≡ (class_at tokens.now at == mark_class marks.OpenBrace) }
-    requires no_zext { false ≡ (class_at tokens.now at == keyword_class keywords.Zext) }
-    ensures { MatchResult result (λ x. Reads tokens.now PRIM count (expr_value x.0 ∷ []) x.1 at x.2) (Fails tokens.now PRIM count at) }
-{
-    let (place, next) = tokens.keyword(Keyword::Sext, at)?;
-    let (inner, width, next) = extended(alloc, tokens, count, next)?;
-    let made = with_signs(alloc, place, inner, width)?;
-    Ok((made, count, next))
-}
-
-// `(a, width)`
-#[cycle(expression)]
-fn extended(
-    alloc: Global,
-    tokens: &Tokens<'_>,
-    count: u32,
-    at: usize,
-) -> Result<(Expr, Num, usize), Fault>
-    requires { count ≤ 64 }
-    ensures { MatchResult result (λ x. Reads tokens.now EXTENDED count (number_value x.1 ∷ expr_value x.0 ∷ []) count at x.2) (Fails tokens.now EXTENDED count at) }
-{
-    let (_open, next) = tokens.mark(Mark::OpenParenthesis, at)?;
-    let deeper = counted(count, at)?;
+    let (place, next) = tokens.keyword(keyword, at)?;
+    let (_open, deeper, next) = opened(tokens, Mark::OpenParenthesis, count, next)?;
     let (inner, _count, next) = expression(alloc, tokens, deeper, next)?;
-    let (_comma, next) = tokens.mark(Mark::Comma, next)?;
+    let (width, next) = width(tokens, next)?;
+    let made = extended(alloc, place, keyword, inner, width)?;
+    Ok((made, count, next))
+}
+
+// `, width)`
+fn width(tokens: &Tokens<'_>, at: usize) -> Result<(Num, usize), Fault>
+    ensures { MatchResult result (λ x. ReadsOut tokens.now width_symbols (number_value x.0 ∷ []) at x.1) (FailsOut tokens.now width_symbols at) }
+{
+    let (_comma, next) = tokens.mark(Mark::Comma, at)?;
     let (width, next) = tokens.number(next)?;
     let (_close, next) = tokens.mark(Mark::CloseParenthesis, next)?;
-    Ok((inner, width, next))
+    Ok((width, next))
 }

@@ -1,10 +1,11 @@
 // The tokens of a text, as the parser reads them.
-ghost use Rattle.std.specs.Prelude.{◌≡◌, ◌==◌, ◌+◌, [], ◌∷◌, drop, MatchOption, MatchResult, IfSome, All};
+ghost use Rattle.std.specs.Prelude.{◌≡◌, ◌==◌, ◌+◌, ℕ, [], ◌∷◌, drop, true, false, MatchOption, MatchResult, IfSome, All};
 ghost use Rattle.kp_ast.specs.Name.{IsName};
 ghost use Rattle.kp_lex.specs.declared.token.TokenKind.TheVariants as kinds;
 ghost use Rattle.kp_parse_grammar.specs.Tokens.{kind_class, keyword_class, mark_class, IDENTIFIER, NUMBER, IsSpelled, lexemes};
 ghost use Rattle.kp_parse_grammar.specs.Language.{NAME, NUM, LIT, named, number as number_value, literal as literal_value};
 ghost use Rattle.kp_parse_grammar.specs.Reading.{class_at, class_of, Finds, Misses, Follows, Turns, Ends};
+ghost use Rattle.kp_grammar.specs.Tables.{END_OF_TEXT};
 
 use crate::fault::Fault;
 use kp_ast::{Lit, Name, Named, Num};
@@ -124,30 +125,57 @@ impl<'t> Tokens<'t> {
         }
     }
 
+    /// The position of this token, and the number of the next one, where the text has not ended.
+    pub fn taken(&self, at: usize) -> (Place, usize)
+        requires { false ≡ (class_at self.now at == END_OF_TEXT) }
+        ensures { (class : ℕ) → true ≡ (class_at self.now at == class) → Finds self.now class result.0 at result.1 }
+    {
+        let Some((token, next)) = self.token(at) else {
+            unreachable!()
+        };
+        (token.place, next)
+    }
+
+    /// The position of this keyword, and the number of the next token, if the token is this keyword.
+    pub fn next_keyword(&self, keyword: Keyword, at: usize) -> Option<(Place, usize)>
+        ensures { MatchOption result (false ≡ (class_at self.now at == keyword_class keyword)) (λ x. Finds self.now (keyword_class keyword) x.0 at x.1) }
+    {
+        let (token, next) = self.token(at)?;
+        if !is_this_keyword(token.kind, keyword) {
+            return None;
+        }
+        Some((token.place, next))
+    }
+
+    /// The position of this punctuator, and the number of the next token, if the token is this punctuator.
+    pub fn next_mark(&self, mark: Mark, at: usize) -> Option<(Place, usize)>
+        ensures { MatchOption result (false ≡ (class_at self.now at == mark_class mark)) (λ x. Finds self.now (mark_class mark) x.0 at x.1) }
+    {
+        let (token, next) = self.token(at)?;
+        if !is_this_mark(token.kind, mark) {
+            return None;
+        }
+        Some((token.place, next))
+    }
+
     /// The position of this keyword, and the number of the next token.
     pub fn keyword(&self, keyword: Keyword, at: usize) -> Result<(Place, usize), Fault>
         ensures { MatchResult result (λ x. Finds self.now (keyword_class keyword) x.0 at x.1) (Misses self.now (keyword_class keyword) at) }
     {
-        let Some((token, next)) = self.token(at) else {
-            return Err(Fault::Wrong(at));
-        };
-        if !is_this_keyword(token.kind, keyword) {
-            return Err(Fault::Wrong(at));
+        match self.next_keyword(keyword, at) {
+            Some(found) => Ok(found),
+            None => Err(Fault::Wrong(at)),
         }
-        Ok((token.place, next))
     }
 
     /// The position of this punctuator, and the number of the next token.
     pub fn mark(&self, mark: Mark, at: usize) -> Result<(Place, usize), Fault>
         ensures { MatchResult result (λ x. Finds self.now (mark_class mark) x.0 at x.1) (Misses self.now (mark_class mark) at) }
     {
-        let Some((token, next)) = self.token(at) else {
-            return Err(Fault::Wrong(at));
-        };
-        if !is_this_mark(token.kind, mark) {
-            return Err(Fault::Wrong(at));
+        match self.next_mark(mark, at) {
+            Some(found) => Ok(found),
+            None => Err(Fault::Wrong(at)),
         }
-        Ok((token.place, next))
     }
 
     /// A name, and the number of the next token.

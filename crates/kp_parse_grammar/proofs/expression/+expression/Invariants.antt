@@ -6,9 +6,6 @@ use Rattle.kp_parse_grammar.proofs.expression.+expression.Given as goal
 abbrev pub decreases-expression : goal.decreases-expression
 decreases-expression l = (65 - l.count) * 21 + 19
 
-abbrev pub decreases-branches : goal.decreases-branches
-decreases-branches l = (65 - l.count) * 21
-
 abbrev pub decreases-chain : goal.decreases-chain
 decreases-chain l = (65 - l.count) * 21 + (rank l.level + 2)
 
@@ -36,14 +33,8 @@ decreases-expressions l = (65 - l.count) * 21 + 20
 abbrev pub decreases-bracket : goal.decreases-bracket
 decreases-bracket l = (65 - l.count) * 21
 
-abbrev pub decreases-zext : goal.decreases-zext
-decreases-zext l = (65 - l.count) * 21
-
-abbrev pub decreases-sext : goal.decreases-sext
-decreases-sext l = (65 - l.count) * 21
-
-abbrev pub decreases-extended : goal.decreases-extended
-decreases-extended l = (64 - l.count) * 21 + 20
+abbrev pub decreases-extension : goal.decreases-extension
+decreases-extension l = (65 - l.count) * 21
 
 abbrev pub invariant-chain-operators : goal.invariant-chain-operators
 invariant-chain-operators l = ReadsYet l.tokens (CHAIN l.level) l.fn.count (MORE l.level) (expr l.left ∷ []) l.count l.at l.here
