@@ -1,6 +1,7 @@
 // The token at a place.
-ghost use Rattle.std.specs.Prelude.{Some};
-ghost use Rattle.kp_view_help.specs.Texts.{found_text};
+ghost use Rattle.std.specs.Prelude.{◌++◌, Some, codes};
+ghost use Rattle.std.specs.Fmt.{WritesOnOk};
+ghost use Rattle.kp_view_help.specs.Texts.{found_text, word_text};
 
 use crate::word::Word;
 use std::fmt;
@@ -21,12 +22,23 @@ impl<'t> fmt::Display for FoundToken<'t> {
 
     fn fmt<W: fmt::Write>(&self, f: &mut fmt::Formatter<W>) -> fmt::Result {
         match self {
-            FoundToken::Keyword(word) => write!(f, "the word `{word}`"),
-            FoundToken::Mark(word) => write!(f, "`{word}`"),
-            FoundToken::Name(word) => write!(f, "the name `{word}`"),
-            FoundToken::Number(word) => write!(f, "the number `{word}`"),
-            FoundToken::Literal(word) => write!(f, "the literal `{word}`"),
-            FoundToken::End => f.write_str("the end of the text"),
+            FoundToken::Keyword(word) => return write_quoted(f, "the word `", word),
+            FoundToken::Mark(word) => return write_quoted(f, "`", word),
+            FoundToken::Name(word) => return write_quoted(f, "the name `", word),
+            FoundToken::Number(word) => return write_quoted(f, "the number `", word),
+            FoundToken::Literal(word) => return write_quoted(f, "the literal `", word),
+            FoundToken::End => return f.write_str("the end of the text"),
         }
     }
+}
+
+// A text that ends with a backquote, the word, and another backquote.
+fn write_quoted<W: fmt::Write>(
+    f: &mut fmt::Formatter<W>,
+    before: &str,
+    word: &Word<'_>,
+) -> fmt::Result
+    ensures { WritesOnOk W.write_str_gives f.old result (before.now ++ word_text word.now ++ codes "`") f.new }
+{
+    write!(f, "{before}{word}`")
 }

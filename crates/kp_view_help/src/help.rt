@@ -1,6 +1,6 @@
 // What helps where a rule is broken.
 use crate::found::FoundToken;
-use crate::phrase::{Phrase, Term};
+use crate::phrase::{Term, Terms, write_phrase};
 use crate::word::Word;
 use kp_lex::Mark;
 use kp_view_expected::{Expected, TokenClass};
@@ -120,194 +120,142 @@ fn has_mark(expected: Expected, mark: Mark) -> bool {
 }
 
 impl<'t> Help<'t> {
-    // The line, up to the numbers of lines that some end with. Each branch returns: branches that pass different texts don't join.
-    fn phrase(&self) -> Phrase<'t> {
+    // The line, up to the numbers of lines that some end with.
+    fn text(&self) -> &'static str {
+        match self {
+            Help::NumberAsValue(_, _) => "a value is written with its width: for {}, `{}'d{}`",
+            Help::AddressInPipe =>
+                "a result is written at the address in a pipe: declare `pipe AD : w;`, `put` it in an earlier stage, and write `[AD]`",
+            Help::WhenBeforeAt => "`when` stands before `at`: `-> X when W at 3;`",
+            Help::PipeIsPut => "`read` and `let` name a new value; a pipe gets its value by `put`",
+            Help::MoveUp => "a name is declared before it is used: move the declaration up",
+            Help::KnownThere(_) =>
+                "a name that `read` or `let` defines is known only in its own stage, here stage {}",
+            Help::ThroughPipe { width: Some(_), .. } =>
+                "a later stage sees it through a pipe: declare `pipe P : {};`, write `put P = {};` in stage {}, and use `P`",
+            Help::ThroughPipe { width: None, .. } =>
+                "a later stage sees it through a pipe: declare `pipe P : w;`, write `put P = {};` in stage {}, and use `P`",
+            Help::ReadRegister(_) => "a register is read by a statement first: `read x = {};`",
+            Help::ReadFile(_) => "a file is read by a statement first: `read x = {}[..];`",
+            Help::WritePut(_) => "a pipe gets its value by `put {} = ..;`",
+            Help::WriteSet(_) => "a result gets its value by `set {} = ..;`",
+            Help::WriteAim(_) => "a hint gets its value by `aim {} = ..;`",
+            Help::SetItsResult(_) =>
+                "a register changes by its result: `result C : w -> {} at k;` and `set C = ..;`",
+            Help::WithAddress(_) => "write `{}[..]`",
+            Help::WithNumber(_) => "write `{}[0] = ..;` for the words from address 0 on",
+            Help::Literal(_, _) => "give the literal {} bits: `{}'d{}`",
+            Help::LiteralBits(_) => "it needs {} bits: `{}'d{}`",
+            Help::Extend(_) => "widen it by `zext(.., {})`, or `sext(.., {})` for a signed number",
+            Help::Cut(_) => "cut it by a slice: `(..)[{}:0]`",
+            Help::Compare => "compare it, as `x == 8'h00`, or take a bit, as `x[0]`",
+            Help::AddressWords { .. } =>
+                "the number is the width of an address: for {} words write `[{}]`",
+            Help::EmptyStage(_) => "an empty stage is written too: `stage {} { }`",
+            Help::PutIt(_) =>
+                "write `put {} = ..;` in the stage that computes it, or remove the declaration",
+            Help::OnePut =>
+                "a pipe has one value for an instruction, given in one stage; for a value that a later stage changes take a second pipe",
+            Help::SameStage(_) => "in stage {} use the value itself",
+            Help::ReadEarlier =>
+                "read it earlier and pass it on in a pipe, or write its result in a later stage",
+            Help::PutBefore =>
+                "the address and the enable of a result are put at least one stage before `at`",
+            Help::WriteLater { .. } => "write `at {}` in line {}, or set it by stage {}",
+            Help::OneSet(_) =>
+                "write one `set` with a choice: `set {} = c ? a : b;`, and where both have a condition `set {} = c ? a : b when c | d;`",
+            Help::OneAim(_) => "write one `aim` with a choice: `aim {} = c ? a : b;`",
+            Help::OneResult(_) =>
+                "a register or a file has one result: choose between the values, `set {} = c ? a : b;`, or set it in several stages by `when`",
+            Help::NotWritten =>
+                "an instruction that may be squashed must not have written: choose a later stage",
+            Help::NotSampled =>
+                "an instruction that may be squashed must not have taken a sample: choose a later stage",
+            Help::NamePart => "name a part of it by `let`",
+            Help::SamplePipe => "pass it on in a pipe, or change its `at`",
+            Help::SetOnlyIn { .. } => "`{}` is set only where",
+            Help::EnableIt { file: false, .. } =>
+                "to leave `{}` as it is, give the result an enable: declare `pipe E : 1;` before it, `put` it in an earlier stage, and write `-> {} when E at {};`",
+            Help::EnableIt { file: true, .. } =>
+                "to leave `{}` as it is, give the result an enable: declare `pipe E : 1;` before it, `put` it in an earlier stage, and write `-> {}[A] when E at {};`",
+            Help::FirstCounts =>
+                "the first `set` that takes place counts: give that one a condition, `set .. when ..;`",
+        }
+    }
+
+    // The terms of the line.
+    fn terms(&self) -> Terms<'t> {
+        match self {
+            Help::ReadRegister(name)
+            | Help::ReadFile(name)
+            | Help::WritePut(name)
+            | Help::WriteSet(name)
+            | Help::WriteAim(name)
+            | Help::SetItsResult(name)
+            | Help::WithAddress(name)
+            | Help::WithNumber(name)
+            | Help::PutIt(name)
+            | Help::OneAim(name)
+            | Help::OneResult(name)
+            | Help::SetOnlyIn { name, .. } => Terms::One(Term::Word(*name)),
+            Help::OneSet(name) => Terms::Two(Term::Word(*name), Term::Word(*name)),
+            Help::KnownThere(stage) | Help::EmptyStage(stage) | Help::SameStage(stage) => {
+                Terms::One(Term::Number(*stage as u64))
+            }
+            _ => self.other_terms(),
+        }
+    }
+
+    // The terms of a line with numbers of bits, with addresses or with several facts.
+    fn other_terms(&self) -> Terms<'t> {
         match self {
             Help::NumberAsValue(word, width) => {
                 let width = width.unwrap_or(8);
-                return Phrase::three(
-                    "a value is written with its width: for {}, `{}'d{}`",
-                    Term::Bits(width),
-                    Term::Number(width),
-                    Term::Word(*word),
-                );
+                Terms::Three(Term::Bits(width), Term::Number(width), Term::Word(*word))
             }
-            Help::AddressInPipe => return Phrase::plain(
-                "a result is written at the address in a pipe: declare `pipe AD : w;`, `put` it in an earlier stage, and write `[AD]`",
-            ),
-            Help::WhenBeforeAt => return Phrase::plain(
-                "`when` stands before `at`: `-> X when W at 3;`",
-            ),
-            Help::PipeIsPut => return Phrase::plain(
-                "`read` and `let` name a new value; a pipe gets its value by `put`",
-            ),
-            Help::MoveUp => return Phrase::plain(
-                "a name is declared before it is used: move the declaration up",
-            ),
-            Help::KnownThere(stage) => return Phrase::one(
-                "a name that `read` or `let` defines is known only in its own stage, here stage {}",
-                Term::Number(*stage as u64),
-            ),
-            Help::ThroughPipe { name, stage, width } => return through_pipe(*name, *stage, *width),
-            Help::ReadRegister(name) => return Phrase::one(
-                "a register is read by a statement first: `read x = {};`",
-                Term::Word(*name),
-            ),
-            Help::ReadFile(name) => return Phrase::one(
-                "a file is read by a statement first: `read x = {}[..];`",
-                Term::Word(*name),
-            ),
-            Help::WritePut(name) => return Phrase::one(
-                "a pipe gets its value by `put {} = ..;`",
-                Term::Word(*name),
-            ),
-            Help::WriteSet(name) => return Phrase::one(
-                "a result gets its value by `set {} = ..;`",
-                Term::Word(*name),
-            ),
-            Help::WriteAim(name) => return Phrase::one(
-                "a hint gets its value by `aim {} = ..;`",
-                Term::Word(*name),
-            ),
-            Help::SetItsResult(name) => return Phrase::one(
-                "a register changes by its result: `result C : w -> {} at k;` and `set C = ..;`",
-                Term::Word(*name),
-            ),
-            Help::WithAddress(name) => return Phrase::one("write `{}[..]`", Term::Word(*name)),
-            Help::WithNumber(name) => return Phrase::one(
-                "write `{}[0] = ..;` for the words from address 0 on",
-                Term::Word(*name),
-            ),
-            Help::Literal(width, value) => return Phrase::three(
-                "give the literal {} bits: `{}'d{}`",
-                Term::Number(*width),
-                Term::Number(*width),
-                Term::Number(*value),
-            ),
-            Help::LiteralBits(value) => {
-                let width = Term::Number(u64::from(64 - value.leading_zeros()));
-                return Phrase::three(
-                    "it needs {} bits: `{}'d{}`",
-                    width,
-                    width,
-                    Term::Number(*value),
-                );
+            Help::ThroughPipe { name, stage, width } => through_pipe(*name, *stage, *width),
+            Help::Literal(width, value) => of_literal(*width, *value),
+            Help::LiteralBits(value) => of_literal((64 - value.leading_zeros()) as u64, *value),
+            Help::Extend(width) => Terms::Two(Term::Number(*width), Term::Number(*width)),
+            Help::Cut(width) => Terms::One(Term::Number(width.saturating_sub(1))),
+            Help::AddressWords { words, bits } => {
+                Terms::Two(Term::Number(*words), Term::Number(*bits as u64))
             }
-            Help::Extend(width) => return Phrase::two(
-                "widen it by `zext(.., {})`, or `sext(.., {})` for a signed number",
-                Term::Number(*width),
-                Term::Number(*width),
-            ),
-            Help::Cut(width) => return Phrase::one(
-                "cut it by a slice: `(..)[{}:0]`",
-                Term::Number(width.saturating_sub(1)),
-            ),
-            Help::Compare => return Phrase::plain(
-                "compare it, as `x == 8'h00`, or take a bit, as `x[0]`",
-            ),
-            Help::AddressWords { words, bits } => return Phrase::two(
-                "the number is the width of an address: for {} words write `[{}]`",
-                Term::Number(*words),
-                Term::Number(u64::from(*bits)),
-            ),
-            Help::EmptyStage(stage) => return Phrase::one(
-                "an empty stage is written too: `stage {} { }`",
+            Help::WriteLater { line, stage, write } => Terms::Three(
                 Term::Number(*stage as u64),
-            ),
-            Help::PutIt(name) => return Phrase::one(
-                "write `put {} = ..;` in the stage that computes it, or remove the declaration",
-                Term::Word(*name),
-            ),
-            Help::OnePut => return Phrase::plain(
-                "a pipe has one value for an instruction, given in one stage; for a value that a later stage changes take a second pipe",
-            ),
-            Help::SameStage(stage) => return Phrase::one(
-                "in stage {} use the value itself",
-                Term::Number(*stage as u64),
-            ),
-            Help::ReadEarlier => return Phrase::plain(
-                "read it earlier and pass it on in a pipe, or write its result in a later stage",
-            ),
-            Help::PutBefore => return Phrase::plain(
-                "the address and the enable of a result are put at least one stage before `at`",
-            ),
-            Help::WriteLater { line, stage, write } => return Phrase::three(
-                "write `at {}` in line {}, or set it by stage {}",
-                Term::Number(*stage as u64),
-                Term::Number(u64::from(*line)),
+                Term::Number(*line as u64),
                 Term::Number(*write),
             ),
-            Help::OneSet(name) => return Phrase::two(
-                "write one `set` with a choice: `set {} = c ? a : b;`, and where both have a condition `set {} = c ? a : b when c | d;`",
-                Term::Word(*name),
-                Term::Word(*name),
+            Help::EnableIt { target, stage, .. } => Terms::Three(
+                Term::Word(*target),
+                Term::Word(*target),
+                Term::Number(*stage),
             ),
-            Help::OneAim(name) => return Phrase::one(
-                "write one `aim` with a choice: `aim {} = c ? a : b;`",
-                Term::Word(*name),
-            ),
-            Help::OneResult(name) => return Phrase::one(
-                "a register or a file has one result: choose between the values, `set {} = c ? a : b;`, or set it in several stages by `when`",
-                Term::Word(*name),
-            ),
-            Help::NotWritten => return Phrase::plain(
-                "an instruction that may be squashed must not have written: choose a later stage",
-            ),
-            Help::NotSampled => return Phrase::plain(
-                "an instruction that may be squashed must not have taken a sample: choose a later stage",
-            ),
-            Help::NamePart => return Phrase::plain("name a part of it by `let`"),
-            Help::SamplePipe => return Phrase::plain("pass it on in a pipe, or change its `at`"),
-            Help::SetOnlyIn { name, .. } => return Phrase::one(
-                "`{}` is set only where",
-                Term::Word(*name),
-            ),
-            Help::EnableIt {
-                target,
-                stage,
-                file,
-            } => return enable_it(*target, *stage, *file),
-            Help::FirstCounts => return Phrase::plain(
-                "the first `set` that takes place counts: give that one a condition, `set .. when ..;`",
-            ),
+            _ => Terms::None,
         }
     }
 }
 
-fn through_pipe(name: Word<'_>, stage: usize, width: Option<u8>) -> Phrase<'_> {
+fn through_pipe(name: Word<'_>, stage: usize, width: Option<u8>) -> Terms<'_> {
+    let (name, stage) = (Term::Word(name), Term::Number(stage as u64));
     match width {
-        Some(width) => return Phrase::three(
-            "a later stage sees it through a pipe: declare `pipe P : {};`, write `put P = {};` in stage {}, and use `P`",
-            Term::Number(u64::from(width)),
-            Term::Word(name),
-            Term::Number(stage as u64),
-        ),
-        None => return Phrase::two(
-            "a later stage sees it through a pipe: declare `pipe P : w;`, write `put P = {};` in stage {}, and use `P`",
-            Term::Word(name),
-            Term::Number(stage as u64),
-        ),
+        Some(width) => Terms::Three(Term::Number(width as u64), name, stage),
+        None => Terms::Two(name, stage),
     }
 }
 
-fn enable_it(target: Word<'_>, stage: u64, file: bool) -> Phrase<'_> {
-    let address = if file { "[A]" } else { "" };
-    Phrase::many(
-        "to leave `{}` as it is, give the result an enable: declare `pipe E : 1;` before it, `put` it in an earlier stage, and write `-> {}{} when E at {};`",
-        [
-            Some(Term::Word(target)),
-            Some(Term::Word(target)),
-            Some(Term::Text(address)),
-            Some(Term::Number(stage)),
-            None,
-            None,
-        ],
+// A number of bits, and the literal of this width and this value.
+fn of_literal<'t>(width: u64, value: u64) -> Terms<'t> {
+    Terms::Three(
+        Term::Number(width),
+        Term::Number(width),
+        Term::Number(value),
     )
 }
 
 impl<'t> fmt::Display for Help<'t> {
     fn fmt<W: fmt::Write>(&self, f: &mut fmt::Formatter<W>) -> fmt::Result {
-        self.phrase().fmt(f)?;
+        write_phrase(f, self.text(), &self.terms())?;
         match self {
             Help::SetOnlyIn { lines, .. } => write_lines(f, lines),
             _ => Ok(()),

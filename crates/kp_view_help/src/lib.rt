@@ -1,4 +1,4 @@
-//! The terms of messages: words of a text, kinds of names, numbers of bits, the token at a place; sentences with such terms in them (`Phrase`); and the lines of help.
+//! The terms of messages: words of a text, kinds of names, numbers of bits, the token at a place; sentences with such terms in them (`write_phrase`); and the lines of help.
 //!
 //! None of them owns anything: names are slices of the source text or of its tree.
 #![tactic(auto)]
@@ -12,5 +12,5 @@ mod word;
 pub use found::FoundToken;
 pub use help::Help;
 pub use kind::{Kind, Wanted};
-pub use phrase::{Phrase, Term};
+pub use phrase::{Term, Terms, write_phrase};
 pub use word::{Bits, Word};

@@ -16,6 +16,8 @@ pub enum Term<'t> {
     Wanted(Wanted),
     Class(TokenClass),
     Found(FoundToken<'t>),
+    /// The first byte of what is no token.
+    Byte(u8),
     Text(&'t str),
 }
 
@@ -29,76 +31,67 @@ impl<'t> Display for Term<'t> {
             Term::Wanted(wanted) => wanted.fmt(f),
             Term::Class(class) => class.fmt(f),
             Term::Found(found) => found.fmt(f),
+            Term::Byte(byte) => write_byte(f, *byte),
             Term::Text(text) => f.write_str(text),
         }
     }
 }
 
-/// A sentence: a text, and the terms that are printed in the place of each `{}` in it, in order. Nothing is printed for a
-/// `{}` after the last term.
+// A byte, as the character that it is, or as its number where that isn't printed.
+fn write_byte<W: fmt::Write>(f: &mut fmt::Formatter<W>, byte: u8) -> fmt::Result {
+    let shown = char::from(byte);
+    if byte > 32 && byte < 127 {
+        write!(f, "`{shown}`")
+    } else {
+        write!(f, "the byte {byte}")
+    }
+}
+
+/// The terms of a sentence, in order.
 #[derive(Clone, Copy)]
-pub struct Phrase<'t> {
-    text: &'static str,
-    terms: [Option<Term<'t>>; 6],
+pub enum Terms<'t> {
+    None,
+    One(Term<'t>),
+    Two(Term<'t>, Term<'t>),
+    Three(Term<'t>, Term<'t>, Term<'t>),
+    Four(Term<'t>, Term<'t>, Term<'t>, Term<'t>),
+    Five(Term<'t>, Term<'t>, Term<'t>, Term<'t>, Term<'t>),
 }
 
-impl<'t> Phrase<'t> {
-    /// A sentence without terms.
-    pub fn plain(text: &'static str) -> Phrase<'t> {
-        Phrase {
-            text,
-            terms: [None; 6],
+impl<'t> Terms<'t> {
+    // The terms, and none after the last.
+    fn listed(&self) -> [Option<&Term<'t>>; 5] {
+        match self {
+            Terms::None => [None, None, None, None, None],
+            Terms::One(a) => [Some(a), None, None, None, None],
+            Terms::Two(a, b) => [Some(a), Some(b), None, None, None],
+            Terms::Three(a, b, c) => [Some(a), Some(b), Some(c), None, None],
+            Terms::Four(a, b, c, d) => [Some(a), Some(b), Some(c), Some(d), None],
+            Terms::Five(a, b, c, d, e) => [Some(a), Some(b), Some(c), Some(d), Some(e)],
         }
-    }
-
-    /// A sentence with one term.
-    pub fn one(text: &'static str, a: Term<'t>) -> Phrase<'t> {
-        Phrase {
-            text,
-            terms: [Some(a), None, None, None, None, None],
-        }
-    }
-
-    /// A sentence with two terms.
-    pub fn two(text: &'static str, a: Term<'t>, b: Term<'t>) -> Phrase<'t> {
-        Phrase {
-            text,
-            terms: [Some(a), Some(b), None, None, None, None],
-        }
-    }
-
-    /// A sentence with three terms.
-    pub fn three(text: &'static str, a: Term<'t>, b: Term<'t>, c: Term<'t>) -> Phrase<'t> {
-        Phrase {
-            text,
-            terms: [Some(a), Some(b), Some(c), None, None, None],
-        }
-    }
-
-    /// A sentence with up to six terms.
-    pub fn many(text: &'static str, terms: [Option<Term<'t>>; 6]) -> Phrase<'t> {
-        Phrase { text, terms }
     }
 }
 
-impl<'t> Display for Phrase<'t> {
-    fn fmt<W: fmt::Write>(&self, f: &mut fmt::Formatter<W>) -> fmt::Result {
-        let mut terms = self.terms.iter();
-        let mut is_first = true;
-        for piece in self.text.split("{}") {
-            if !is_first {
-                write_term(f, terms.next())?;
-            }
-            is_first = false;
-            f.write_str(piece)?;
+/// Writes a sentence: a text with the terms in the place of each `{}` in it, in order. Nothing is written for a `{}` after the
+/// last term.
+pub fn write_phrase<W: fmt::Write>(
+    f: &mut fmt::Formatter<W>,
+    text: &str,
+    terms: &Terms<'_>,
+) -> fmt::Result {
+    let listed = terms.listed();
+    for (number, piece) in text.split("{}").enumerate() {
+        if number > 0 {
+            write_term(f, listed.get(number - 1))?;
         }
-        Ok(())
+        f.write_str(piece)?;
     }
+    Ok(())
 }
 
 fn write_term<W: fmt::Write>(
     f: &mut fmt::Formatter<W>,
-    term: Option<&Option<Term<'_>>>,
+    term: Option<&Option<&Term<'_>>>,
 ) -> fmt::Result {
     match term {
         Some(Some(term)) => term.fmt(f),

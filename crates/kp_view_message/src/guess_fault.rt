@@ -1,6 +1,5 @@
 // A wrong guess, hint or sample, or a write that a guess forbids.
-use kp_view_help::{Help, Phrase, Term, Word};
-use std::fmt::{self, Display};
+use kp_view_help::{Help, Term, Terms, Word};
 
 /// A wrong guess, hint or sample, or a write that a guess forbids.
 #[derive(Clone, Copy)]
@@ -45,61 +44,53 @@ impl<'t> GuessFault<'t> {
         }
     }
 
-    /// What helps, in up to three lines.
-    pub fn helps(&self) -> [Option<Help<'t>>; 3] {
+    // What helps, if anything is known to.
+    pub(crate) fn help(&self) -> Option<Help<'t>> {
+        Some(match self {
+            GuessFault::EarlyWrite { .. } => Help::NotWritten,
+            GuessFault::EarlySample { .. } => Help::NotSampled,
+            GuessFault::SampleElsewhere { .. } => Help::SamplePipe,
+            _ => return None,
+        })
+    }
+
+    // The sentence, in which the terms are printed.
+    pub(crate) fn text(&self) -> &'static str {
         match self {
-            GuessFault::EarlyWrite { .. } => [Some(Help::NotWritten), None, None],
-            GuessFault::EarlySample { .. } => [Some(Help::NotSampled), None, None],
-            GuessFault::SampleElsewhere { .. } => [Some(Help::SamplePipe), None, None],
-            _ => [None, None, None],
+            GuessFault::GuessedFile(_) => "`{}` is a file, and only a register can be guessed",
+            GuessFault::GuessWithoutResult(_) =>
+                "`{}` has no result: it never changes, and there is nothing to guess",
+            GuessFault::GuessLate { .. } =>
+                "`{}` is written in stage {}; a guess stands at least two stages before, and this is stage {}",
+            GuessFault::EarlyWrite { .. } =>
+                "beside a guess of a register that is written in stage {}, a result is written in stage {} at the earliest",
+            GuessFault::EarlySample { .. } =>
+                "beside a guess of a register that is written in stage {}, a sample is taken in stage {} at the earliest",
+            GuessFault::HintAsValue(_) => "`{}` is a hint, and counts in `guess` and `aim` alone",
+            GuessFault::SampleElsewhere { .. } =>
+                "the sample `{}` is seen in stage {} alone (line {})",
         }
     }
-}
 
-impl<'t> GuessFault<'t> {
-    // Each branch returns: branches that pass different texts don't join.
-    fn phrase(&self) -> Phrase<'t> {
+    // The terms of the sentence.
+    pub(crate) fn terms(&self) -> Terms<'t> {
         match self {
-            GuessFault::GuessedFile(name) => return Phrase::one(
-                "`{}` is a file, and only a register can be guessed",
-                Term::Word(*name),
-            ),
-            GuessFault::GuessWithoutResult(name) => return Phrase::one(
-                "`{}` has no result: it never changes, and there is nothing to guess",
-                Term::Word(*name),
-            ),
-            GuessFault::GuessLate { name, write, here } => return Phrase::three(
-                "`{}` is written in stage {}; a guess stands at least two stages before, and this is stage {}",
+            GuessFault::GuessedFile(name)
+            | GuessFault::GuessWithoutResult(name)
+            | GuessFault::HintAsValue(name) => Terms::One(Term::Word(*name)),
+            GuessFault::EarlyWrite { top } | GuessFault::EarlySample { top } => {
+                Terms::Two(Term::Number(*top), Term::Number(top.saturating_sub(1)))
+            }
+            GuessFault::GuessLate { name, write, here } => Terms::Three(
                 Term::Word(*name),
                 Term::Number(*write),
                 Term::Number(*here as u64),
             ),
-            GuessFault::EarlyWrite { top } => return Phrase::two(
-                "beside a guess of a register that is written in stage {}, a result is written in stage {} at the earliest",
-                Term::Number(*top),
-                Term::Number(top.saturating_sub(1)),
-            ),
-            GuessFault::EarlySample { top } => return Phrase::two(
-                "beside a guess of a register that is written in stage {}, a sample is taken in stage {} at the earliest",
-                Term::Number(*top),
-                Term::Number(top.saturating_sub(1)),
-            ),
-            GuessFault::HintAsValue(name) => return Phrase::one(
-                "`{}` is a hint, and counts in `guess` and `aim` alone",
-                Term::Word(*name),
-            ),
-            GuessFault::SampleElsewhere { name, stage, line } => return Phrase::three(
-                "the sample `{}` is seen in stage {} alone (line {})",
+            GuessFault::SampleElsewhere { name, stage, line } => Terms::Three(
                 Term::Word(*name),
                 Term::Number(*stage),
-                Term::Number(u64::from(*line)),
+                Term::Number(*line as u64),
             ),
         }
-    }
-}
-
-impl<'t> Display for GuessFault<'t> {
-    fn fmt<W: fmt::Write>(&self, f: &mut fmt::Formatter<W>) -> fmt::Result {
-        self.phrase().fmt(f)
     }
 }

@@ -7,8 +7,8 @@ use crate::reading_fault::ReadingFault;
 use crate::section_fault::SectionFault;
 use crate::stage_fault::StageFault;
 use crate::width_fault::WidthFault;
-use kp_view_help::Help;
-use std::fmt;
+use kp_view_help::{Help, Terms, write_phrase};
+use std::fmt::{self, Display};
 
 /// A way to violate a rule, with the facts that it rests on. Lines are those of declarations and earlier statements.
 #[derive(Clone, Copy)]
@@ -39,30 +39,66 @@ impl<'t> Message<'t> {
 
     /// What helps, in up to three lines.
     pub fn helps(&self) -> [Option<Help<'t>>; 3] {
+        [self.help(), self.second_help(), None]
+    }
+
+    fn help(&self) -> Option<Help<'t>> {
         match self {
-            Message::Reading(fault) => fault.helps(),
-            Message::Name(fault) => fault.helps(),
-            Message::Width(fault) => fault.helps(),
-            Message::Stage(fault) => fault.helps(),
-            Message::Guess(fault) => fault.helps(),
-            Message::Section(fault) => fault.helps(),
-            Message::Fixed(_) => [None, None, None],
+            Message::Reading(fault) => fault.help(),
+            Message::Name(fault) => fault.help(),
+            Message::Width(fault) => fault.help(),
+            Message::Stage(fault) => fault.help(),
+            Message::Guess(fault) => fault.help(),
+            Message::Section(fault) => fault.help(),
+            Message::Fixed(_) => None,
+        }
+    }
+
+    fn second_help(&self) -> Option<Help<'t>> {
+        match self {
+            Message::Name(fault) => fault.second_help(),
+            _ => None,
+        }
+    }
+
+    fn text(&self) -> &'static str {
+        match self {
+            Message::Reading(fault) => fault.text(),
+            Message::Name(fault) => fault.text(),
+            Message::Width(fault) => fault.text(),
+            Message::Stage(fault) => fault.text(),
+            Message::Guess(fault) => fault.text(),
+            Message::Section(fault) => fault.text(),
+            Message::Fixed(number) => fixed(*number),
+        }
+    }
+
+    fn terms(&self) -> Terms<'t> {
+        match self {
+            Message::Reading(fault) => fault.terms(),
+            Message::Name(fault) => fault.terms(),
+            Message::Width(fault) => fault.terms(),
+            Message::Stage(fault) => fault.terms(),
+            Message::Guess(fault) => fault.terms(),
+            Message::Section(fault) => fault.terms(),
+            Message::Fixed(_) => Terms::None,
         }
     }
 }
 
-impl<'t> fmt::Display for Message<'t> {
+impl<'t> Display for Message<'t> {
     ghost output = { message_text };
 
     fn fmt<W: fmt::Write>(&self, f: &mut fmt::Formatter<W>) -> fmt::Result {
         match self {
-            Message::Reading(fault) => write!(f, "{fault}"),
-            Message::Name(fault) => write!(f, "{fault}"),
-            Message::Width(fault) => write!(f, "{fault}"),
-            Message::Stage(fault) => write!(f, "{fault}"),
-            Message::Guess(fault) => write!(f, "{fault}"),
-            Message::Section(fault) => write!(f, "{fault}"),
-            Message::Fixed(number) => f.write_str(fixed(*number)),
+            Message::Reading(
+                ReadingFault::Unexpected {
+                    found,
+                    expected,
+                    ..
+                },
+            ) => { write!(f, "expected {expected}, found {found}") }
+            _ => { write_phrase(f, self.text(), &self.terms()) }
         }
     }
 }

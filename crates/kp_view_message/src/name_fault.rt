@@ -1,6 +1,5 @@
 // A wrong name.
-use kp_view_help::{Help, Kind, Phrase, Term, Wanted, Word};
-use std::fmt::{self, Display};
+use kp_view_help::{Help, Kind, Term, Terms, Wanted, Word};
 
 /// A wrong name.
 #[derive(Clone, Copy)]
@@ -73,187 +72,133 @@ impl<'t> NameFault<'t> {
         }
     }
 
-    /// What helps, in up to three lines.
-    pub fn helps(&self) -> [Option<Help<'t>>; 3] {
-        match self {
+    // What helps, if anything is known to.
+    pub(crate) fn help(&self) -> Option<Help<'t>> {
+        Some(match self {
             NameFault::Redeclared {
                 kind: Kind::Pipe,
                 read: true,
                 ..
-            } => { [Some(Help::PipeIsPut), None, None] },
-            NameFault::DeclaredBelow { .. } => [Some(Help::MoveUp), None, None],
+            } => Help::PipeIsPut,
+            NameFault::DeclaredBelow { .. } => Help::MoveUp,
+            NameFault::OtherStage { stage, .. } => Help::KnownThere(*stage),
+            NameFault::WrongKind {
+                name,
+                kind,
+                wanted,
+                ..
+            } => return instead(*name, *kind, *wanted),
+            NameFault::NoAddress { name, .. } => Help::WithAddress(*name),
+            _ => return None,
+        })
+    }
+
+    // A second thing that helps.
+    pub(crate) fn second_help(&self) -> Option<Help<'t>> {
+        match self {
             NameFault::OtherStage {
                 name,
                 stage,
                 width,
                 here,
                 ..
-            } => {
-                if *stage < *here {
-                    [
-                        Some(Help::KnownThere(*stage)),
-                        Some(Help::ThroughPipe {
-                            name: *name,
-                            stage: *stage,
-                            width: *width,
-                        }),
-                        None,
-                    ]
-                } else {
-                    [Some(Help::KnownThere(*stage)), None, None]
-                }
-            },
-            NameFault::WrongKind {
-                name,
-                kind: Kind::Register,
-                wanted: Wanted::Value,
-                ..
-            } => { [Some(Help::ReadRegister(*name)), None, None] },
-            NameFault::WrongKind {
-                name,
-                kind: Kind::File,
-                wanted: Wanted::Value,
-                ..
-            } => { [Some(Help::ReadFile(*name)), None, None] },
-            NameFault::WrongKind {
-                name,
-                kind: Kind::Pipe,
-                wanted: Wanted::Output,
-                ..
-            } => { [Some(Help::WritePut(*name)), None, None] },
-            NameFault::WrongKind {
-                name,
-                kind: Kind::Output,
-                wanted: Wanted::Pipe,
-                ..
-            } => { [Some(Help::WriteSet(*name)), None, None] },
-            NameFault::WrongKind {
-                name,
-                kind: Kind::Register,
-                wanted: Wanted::Pipe | Wanted::Output,
-                ..
-            } => { [Some(Help::SetItsResult(*name)), None, None] },
-            NameFault::WrongKind {
-                name,
-                kind: Kind::Hint,
-                wanted: Wanted::Pipe | Wanted::Output,
-                ..
-            } => { [Some(Help::WriteAim(*name)), None, None] },
-            NameFault::NoAddress { name, .. } => [Some(Help::WithAddress(*name)), None, None],
-            _ => [None, None, None],
+            } if *stage < *here => Some(Help::ThroughPipe {
+                name: *name,
+                stage: *stage,
+                width: *width,
+            }),
+            _ => None,
         }
     }
-}
 
-impl<'t> NameFault<'t> {
-    // Each branch returns: branches that pass different texts don't join.
-    fn phrase(&self) -> Phrase<'t> {
+    // The sentence, in which the terms are printed.
+    pub(crate) fn text(&self) -> &'static str {
         match self {
+            NameFault::Redeclared { .. } => "`{}` is declared already, as a {} (line {})",
+            NameFault::Undeclared { .. } => "`{}` is declared nowhere before this",
+            NameFault::DeclaredBelow { .. } => "`{}` is declared only in line {}, after this use",
+            NameFault::OtherStage {
+                kind: Kind::Read,
+                ..
+            } => "`{}` isn't known here: it is read in stage {} (line {})",
+            NameFault::OtherStage { .. } =>
+                "`{}` isn't known here: it is defined by `let` in stage {} (line {})",
+            NameFault::WrongKind { .. } => "`{}` is a {} (line {}); {} is wanted here",
+            NameFault::NoAddress { .. } => "`{}` is a file (line {}), and needs an address",
+            NameFault::NeedlessAddress { .. } => "`{}` is a register (line {}), and has no address",
+            NameFault::Arguments { .. } =>
+                "the function `{}` (line {}) takes {} arguments; this call has {}",
+            NameFault::CalledEarly { own: true, .. } => "the function `{}` can't call itself",
+            NameFault::CalledEarly { own: false, .. } =>
+                "the function `{}` is declared only in line {}, after this call",
+        }
+    }
+
+    // The terms of the sentence.
+    pub(crate) fn terms(&self) -> Terms<'t> {
+        match self {
+            NameFault::Undeclared { name } => Terms::One(Term::Word(*name)),
+            NameFault::DeclaredBelow { name, line }
+            | NameFault::NoAddress { name, line }
+            | NameFault::NeedlessAddress { name, line }
+            | NameFault::CalledEarly { name, line, .. } => {
+                Terms::Two(Term::Word(*name), Term::Number(*line as u64))
+            }
             NameFault::Redeclared {
                 name,
                 kind,
                 line,
                 ..
-            } => return Phrase::three(
-                "`{}` is declared already, as a {} (line {})",
+            } => Terms::Three(
                 Term::Word(*name),
                 Term::Kind(*kind),
-                Term::Number(u64::from(*line)),
-            ),
-            NameFault::Undeclared { name } => return Phrase::one(
-                "`{}` is declared nowhere before this",
-                Term::Word(*name),
-            ),
-            NameFault::DeclaredBelow { name, line } => return Phrase::two(
-                "`{}` is declared only in line {}, after this use",
-                Term::Word(*name),
-                Term::Number(u64::from(*line)),
+                Term::Number(*line as u64),
             ),
             NameFault::OtherStage {
                 name,
-                kind,
                 line,
                 stage,
                 ..
-            } => return other_stage(*name, *kind, *line, *stage),
+            } => Terms::Three(
+                Term::Word(*name),
+                Term::Number(*stage as u64),
+                Term::Number(*line as u64),
+            ),
             NameFault::WrongKind {
                 name,
                 kind,
                 line,
                 wanted,
-            } => return Phrase::many(
-                "`{}` is a {} (line {}); {} is wanted here",
-                [
-                    Some(Term::Word(*name)),
-                    Some(Term::Kind(*kind)),
-                    Some(Term::Number(u64::from(*line))),
-                    Some(Term::Wanted(*wanted)),
-                    None,
-                    None,
-                ],
-            ),
-            NameFault::NoAddress { name, line } => return Phrase::two(
-                "`{}` is a file (line {}), and needs an address",
+            } => Terms::Four(
                 Term::Word(*name),
-                Term::Number(u64::from(*line)),
-            ),
-            NameFault::NeedlessAddress { name, line } => return Phrase::two(
-                "`{}` is a register (line {}), and has no address",
-                Term::Word(*name),
-                Term::Number(u64::from(*line)),
+                Term::Kind(*kind),
+                Term::Number(*line as u64),
+                Term::Wanted(*wanted),
             ),
             NameFault::Arguments {
                 name,
                 line,
                 wanted,
                 found,
-            } => return Phrase::many(
-                "the function `{}` (line {}) takes {} arguments; this call has {}",
-                [
-                    Some(Term::Word(*name)),
-                    Some(Term::Number(u64::from(*line))),
-                    Some(Term::Number(*wanted as u64)),
-                    Some(Term::Number(*found as u64)),
-                    None,
-                    None,
-                ],
+            } => Terms::Four(
+                Term::Word(*name),
+                Term::Number(*line as u64),
+                Term::Number(*wanted as u64),
+                Term::Number(*found as u64),
             ),
-            NameFault::CalledEarly { name, line, own } => return called_early(*name, *line, *own),
         }
     }
 }
 
-fn other_stage(name: Word<'_>, kind: Kind, line: u32, stage: usize) -> Phrase<'_> {
-    match kind {
-        Kind::Read => return Phrase::three(
-            "`{}` isn't known here: it is read in stage {} (line {})",
-            Term::Word(name),
-            Term::Number(stage as u64),
-            Term::Number(u64::from(line)),
-        ),
-        _ => return Phrase::three(
-            "`{}` isn't known here: it is defined by `let` in stage {} (line {})",
-            Term::Word(name),
-            Term::Number(stage as u64),
-            Term::Number(u64::from(line)),
-        ),
-    }
-}
-
-fn called_early(name: Word<'_>, line: u32, own: bool) -> Phrase<'_> {
-    if own {
-        return Phrase::one("the function `{}` can't call itself", Term::Word(name));
-    } else {
-        return Phrase::two(
-            "the function `{}` is declared only in line {}, after this call",
-            Term::Word(name),
-            Term::Number(u64::from(line)),
-        );
-    }
-}
-
-impl<'t> Display for NameFault<'t> {
-    fn fmt<W: fmt::Write>(&self, f: &mut fmt::Formatter<W>) -> fmt::Result {
-        self.phrase().fmt(f)
-    }
+// What to write in the place of a name of another kind than is wanted.
+fn instead<'t>(name: Word<'t>, kind: Kind, wanted: Wanted) -> Option<Help<'t>> {
+    Some(match (kind, wanted) {
+        (Kind::Register, Wanted::Value) => Help::ReadRegister(name),
+        (Kind::File, Wanted::Value) => Help::ReadFile(name),
+        (Kind::Pipe, Wanted::Output) => Help::WritePut(name),
+        (Kind::Output, Wanted::Pipe) => Help::WriteSet(name),
+        (Kind::Register, Wanted::Pipe | Wanted::Output) => Help::SetItsResult(name),
+        (Kind::Hint, Wanted::Pipe | Wanted::Output) => Help::WriteAim(name),
+        _ => return None,
+    })
 }

@@ -1,9 +1,6 @@
 // Why a text is no sentence of the language.
-ghost use Rattle.kp_view_message.specs.Texts.{reading_text};
-
 use kp_view_expected::Expected;
-use kp_view_help::{FoundToken, Help};
-use std::fmt;
+use kp_view_help::{FoundToken, Help, Term, Terms};
 
 /// Why a text is no sentence of the language.
 #[derive(Clone, Copy)]
@@ -36,49 +33,39 @@ impl<'t> ReadingFault<'t> {
         }
     }
 
-    /// What helps, in up to three lines.
-    pub fn helps(&self) -> [Option<Help<'t>>; 3] {
+    // What helps, if anything is known to.
+    pub(crate) fn help(&self) -> Option<Help<'t>> {
         match self {
             ReadingFault::Unexpected {
                 found,
                 expected,
                 width,
-            } => { [Help::at_token(*found, *expected, *width), None, None] },
-            ReadingFault::TooDeep => [Some(Help::NamePart), None, None],
-            _ => [None, None, None],
+            } => Help::at_token(*found, *expected, *width),
+            ReadingFault::TooDeep => Some(Help::NamePart),
+            _ => None,
         }
     }
-}
 
-impl<'t> fmt::Display for ReadingFault<'t> {
-    ghost output = { reading_text };
-
-    fn fmt<W: fmt::Write>(&self, f: &mut fmt::Formatter<W>) -> fmt::Result {
+    // The sentence, in which the terms are printed. Where a token is unexpected, the message has a list in it and is printed apart.
+    pub(crate) fn text(&self) -> &'static str {
         match self {
-            ReadingFault::NoToken(byte) => {
-                let (byte, shown) = (*byte, char::from(*byte));
-                if byte > 32 && byte < 127 {
-                    write!(f, "no word of the language begins with `{shown}`")
-                } else {
-                    write!(f, "no word of the language begins with the byte {byte}")
-                }
-            }
-            ReadingFault::LongName(len) => write!(
-                f,
-                "a name has at most 64 letters, digits and `_`; this has {len}"
-            ),
-            ReadingFault::NoNumber => {
-                f.write_str("neither a number below 2^64 nor a literal such as `8'h1f`")
-            }
-            ReadingFault::Unexpected {
-                found,
-                expected,
-                ..
-            } => { write!(f, "expected {expected}, found {found}") }
-            ReadingFault::AfterEnd => f.write_str("expected the end of the text after `end`"),
-            ReadingFault::TooDeep => {
-                f.write_str("more than 64 brackets and operators of this expression are open here")
-            }
+            ReadingFault::NoToken(_) => "no word of the language begins with {}",
+            ReadingFault::LongName(_) =>
+                "a name has at most 64 letters, digits and `_`; this has {}",
+            ReadingFault::NoNumber => "neither a number below 2^64 nor a literal such as `8'h1f`",
+            ReadingFault::Unexpected { .. } => "expected ",
+            ReadingFault::AfterEnd => "expected the end of the text after `end`",
+            ReadingFault::TooDeep =>
+                "more than 64 brackets and operators of this expression are open here",
+        }
+    }
+
+    // The terms of the sentence.
+    pub(crate) fn terms(&self) -> Terms<'t> {
+        match self {
+            ReadingFault::NoToken(byte) => Terms::One(Term::Byte(*byte)),
+            ReadingFault::LongName(length) => Terms::One(Term::Number(*length as u64)),
+            _ => Terms::None,
         }
     }
 }

@@ -1,6 +1,5 @@
 // A wrong entry of a section.
-use kp_view_help::{Help, Kind, Phrase, Term, Word};
-use std::fmt::{self, Display};
+use kp_view_help::{Help, Kind, Term, Terms, Word};
 
 /// A wrong entry of a section.
 #[derive(Clone, Copy)]
@@ -67,78 +66,65 @@ impl<'t> SectionFault<'t> {
         }
     }
 
-    /// What helps, in up to three lines.
-    pub fn helps(&self) -> [Option<Help<'t>>; 3] {
+    // What helps, if anything is known to.
+    pub(crate) fn help(&self) -> Option<Help<'t>> {
         match self {
-            SectionFault::NoAddress { name, .. } => [Some(Help::WithNumber(*name)), None, None],
-            _ => [None, None, None],
+            SectionFault::NoAddress { name, .. } => Some(Help::WithNumber(*name)),
+            _ => None,
         }
     }
-}
 
-impl<'t> SectionFault<'t> {
-    // Each branch returns: branches that pass different texts don't join.
-    fn phrase(&self) -> Phrase<'t> {
+    // The sentence, in which the terms are printed.
+    pub(crate) fn text(&self) -> &'static str {
         match self {
-            SectionFault::Unknown(name) => return Phrase::one(
+            SectionFault::Unknown(_) =>
                 "`{}` is declared nowhere; an image fills registers and files",
-                Term::Word(*name),
-            ),
-            SectionFault::Empty { name, kind, line } => return Phrase::three(
+            SectionFault::Empty { .. } =>
                 "`{}` is a {} (line {}); an image fills registers and files",
+            SectionFault::NoAddress { .. } => "`{}` is a file (line {}), and needs an address",
+            SectionFault::NeedlessAddress { .. } =>
+                "`{}` is a register (line {}), and has no address",
+            SectionFault::AddressBeyond { .. } =>
+                "the addresses of `{}` are 0 to {}, and {} isn't one of them",
+            SectionFault::WordBeyond { .. } =>
+                "this word lies after the last one of `{}`, whose address is {}",
+            SectionFault::SecondStart(_) => "`{}` is a register, and has one value",
+            SectionFault::NoStage { .. } => "there is no stage {}: the stages are 0 to {}",
+            SectionFault::UnknownSample(_) =>
+                "`{}` is declared nowhere; inputs are the values of samples",
+            SectionFault::NoSample { .. } =>
+                "`{}` is a {} (line {}); inputs are the values of samples",
+            SectionFault::StallStep | SectionFault::InputStep => "a step is 1 or more",
+        }
+    }
+
+    // The terms of the sentence.
+    pub(crate) fn terms(&self) -> Terms<'t> {
+        match self {
+            SectionFault::Unknown(name)
+            | SectionFault::SecondStart(name)
+            | SectionFault::UnknownSample(name) => Terms::One(Term::Word(*name)),
+            SectionFault::NoAddress { name, line } | SectionFault::NeedlessAddress { name, line } =>
+                { Terms::Two(Term::Word(*name), Term::Number(*line as u64)) }
+            SectionFault::Empty { name, kind, line }
+            | SectionFault::NoSample { name, kind, line } => Terms::Three(
                 Term::Word(*name),
                 Term::Kind(*kind),
-                Term::Number(u64::from(*line)),
+                Term::Number(*line as u64),
             ),
-            SectionFault::NoAddress { name, line } => return Phrase::two(
-                "`{}` is a file (line {}), and needs an address",
-                Term::Word(*name),
-                Term::Number(u64::from(*line)),
-            ),
-            SectionFault::NeedlessAddress { name, line } => return Phrase::two(
-                "`{}` is a register (line {}), and has no address",
-                Term::Word(*name),
-                Term::Number(u64::from(*line)),
-            ),
-            SectionFault::AddressBeyond { name, last, value } => return Phrase::three(
-                "the addresses of `{}` are 0 to {}, and {} isn't one of them",
+            SectionFault::AddressBeyond { name, last, value } => Terms::Three(
                 Term::Word(*name),
                 Term::Number(*last),
                 Term::Number(*value),
             ),
-            SectionFault::WordBeyond { name, last } => return Phrase::two(
-                "this word lies after the last one of `{}`, whose address is {}",
-                Term::Word(*name),
-                Term::Number(*last),
-            ),
-            SectionFault::SecondStart(name) => return Phrase::one(
-                "`{}` is a register, and has one value",
-                Term::Word(*name),
-            ),
-            SectionFault::NoStage { found, stages } => return Phrase::two(
-                "there is no stage {}: the stages are 0 to {}",
+            SectionFault::WordBeyond { name, last } => {
+                Terms::Two(Term::Word(*name), Term::Number(*last))
+            }
+            SectionFault::NoStage { found, stages } => Terms::Two(
                 Term::Number(*found),
                 Term::Number(stages.saturating_sub(1)),
             ),
-            SectionFault::UnknownSample(name) => return Phrase::one(
-                "`{}` is declared nowhere; inputs are the values of samples",
-                Term::Word(*name),
-            ),
-            SectionFault::NoSample { name, kind, line } => return Phrase::three(
-                "`{}` is a {} (line {}); inputs are the values of samples",
-                Term::Word(*name),
-                Term::Kind(*kind),
-                Term::Number(u64::from(*line)),
-            ),
-            SectionFault::StallStep | SectionFault::InputStep => return Phrase::plain(
-                "a step is 1 or more",
-            ),
+            SectionFault::StallStep | SectionFault::InputStep => Terms::None,
         }
-    }
-}
-
-impl<'t> Display for SectionFault<'t> {
-    fn fmt<W: fmt::Write>(&self, f: &mut fmt::Formatter<W>) -> fmt::Result {
-        self.phrase().fmt(f)
     }
 }

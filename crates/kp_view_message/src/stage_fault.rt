@@ -1,6 +1,5 @@
 // A wrong stage, or too many of something.
-use kp_view_help::{Help, Phrase, Term, Word};
-use std::fmt::{self, Display};
+use kp_view_help::{Help, Term, Terms, Word};
 
 /// What a machine has a limited number of.
 #[derive(Clone, Copy)]
@@ -107,161 +106,135 @@ impl<'t> StageFault<'t> {
         }
     }
 
-    /// What helps, in up to three lines.
-    pub fn helps(&self) -> [Option<Help<'t>>; 3] {
-        match self {
-            StageFault::FewBlocks { blocks, .. } => [Some(Help::EmptyStage(*blocks)), None, None],
-            StageFault::NeverPut(name) => [Some(Help::PutIt(*name)), None, None],
-            StageFault::PutAgain { .. } => [Some(Help::OnePut), None, None],
-            StageFault::UsedEarly { put, here, .. } => {
-                if *put == *here {
-                    [Some(Help::SameStage(*put)), None, None]
-                } else {
-                    [None, None, None]
-                }
-            },
-            StageFault::ReadLate { .. } => [Some(Help::ReadEarlier), None, None],
-            StageFault::PutLate { .. } => [Some(Help::PutBefore), None, None],
+    // What helps, if anything is known to.
+    pub(crate) fn help(&self) -> Option<Help<'t>> {
+        Some(match self {
+            StageFault::FewBlocks { blocks, .. } => Help::EmptyStage(*blocks),
+            StageFault::NeverPut(name) => Help::PutIt(*name),
+            StageFault::PutAgain { .. } => Help::OnePut,
+            StageFault::UsedEarly { put, here, .. } if *put == *here => Help::SameStage(*put),
+            StageFault::ReadLate { .. } => Help::ReadEarlier,
+            StageFault::PutLate { .. } => Help::PutBefore,
             StageFault::SetLate {
                 line,
                 here,
                 write,
                 ..
-            } => {
-                [
-                    Some(Help::WriteLater {
-                        line: *line,
-                        stage: *here,
-                        write: *write,
-                    }),
-                    None,
-                    None,
-                ]
+            } => Help::WriteLater {
+                line: *line,
+                stage: *here,
+                write: *write,
             },
-            StageFault::SetAgain { name, .. } => [Some(Help::OneSet(*name)), None, None],
-            StageFault::AimedAgain { name, .. } => [Some(Help::OneAim(*name)), None, None],
-            StageFault::SecondResult { first, .. } => [Some(Help::OneResult(*first)), None, None],
-            _ => [None, None, None],
+            StageFault::SetAgain { name, .. } => Help::OneSet(*name),
+            StageFault::AimedAgain { name, .. } => Help::OneAim(*name),
+            StageFault::SecondResult { first, .. } => Help::OneResult(*first),
+            _ => return None,
+        })
+    }
+
+    // The sentence, in which the terms are printed.
+    pub(crate) fn text(&self) -> &'static str {
+        match self {
+            StageFault::StageCount(_) => "a machine has 2 to 12 stages, not {}",
+            StageFault::FewBlocks { .. } => "{} stages are declared, but there are {} blocks",
+            StageFault::BlockNumber { .. } => "blocks stand in order: this is stage {}, not {}",
+            StageFault::BlockBeyond { .. } => "only {} stages are declared; this is one more",
+            StageFault::NoStage { .. } => "there is no stage {}: the stages are 0 to {}",
+            StageFault::NeverPut(_) => "the pipe `{}` is never put",
+            StageFault::PutAgain { .. } =>
+                "the pipe `{}` is put a second time; the first is in line {}",
+            StageFault::UsedEarly { .. } =>
+                "the pipe `{}` is put in stage {} (line {}), and can be used in later stages only; this is stage {}",
+            StageFault::ReadLate { .. } =>
+                "`{}` is written in stage {} (line {}), and can't be read in a later stage",
+            StageFault::PutLate { .. } =>
+                "the pipe `{}` is put in stage {}, which isn't before the write stage {}",
+            StageFault::SetLate { .. } =>
+                "`{}` is written at the end of stage {} (line {}), and can't be set later",
+            StageFault::SetAgain { .. } =>
+                "`{}` is set a second time in this stage; the first is in line {}",
+            StageFault::AimedAgain { .. } => "the hint `{}` is aimed already in line {}",
+            StageFault::SecondResult { .. } => "`{}` has a result already: `{}` (line {})",
+            StageFault::TooMany(counted) => counted.most(),
         }
     }
-}
 
-impl<'t> StageFault<'t> {
-    // Each branch returns: branches that pass different texts don't join.
-    fn phrase(&self) -> Phrase<'t> {
+    // The terms of the sentence.
+    pub(crate) fn terms(&self) -> Terms<'t> {
         match self {
-            StageFault::StageCount(value) => return Phrase::one(
-                "a machine has 2 to 12 stages, not {}",
-                Term::Number(*value),
-            ),
-            StageFault::FewBlocks { stages, blocks } => return Phrase::two(
-                "{} stages are declared, but there are {} blocks",
-                Term::Number(*stages),
-                Term::Number(*blocks as u64),
-            ),
-            StageFault::BlockNumber { found, wanted } => return Phrase::two(
-                "blocks stand in order: this is stage {}, not {}",
-                Term::Number(*wanted as u64),
-                Term::Number(*found),
-            ),
-            StageFault::BlockBeyond { stages } => return Phrase::one(
-                "only {} stages are declared; this is one more",
-                Term::Number(*stages),
-            ),
-            StageFault::NoStage { found, stages } => return Phrase::two(
-                "there is no stage {}: the stages are 0 to {}",
-                Term::Number(*found),
-                Term::Number(stages.saturating_sub(1)),
-            ),
-            StageFault::NeverPut(name) => return Phrase::one(
-                "the pipe `{}` is never put",
+            StageFault::StageCount(count) | StageFault::BlockBeyond { stages: count } => {
+                Terms::One(Term::Number(*count))
+            }
+            StageFault::NeverPut(name) => Terms::One(Term::Word(*name)),
+            StageFault::PutAgain { name, line }
+            | StageFault::SetAgain { name, line }
+            | StageFault::AimedAgain { name, line } => {
+                Terms::Two(Term::Word(*name), Term::Number(*line as u64))
+            }
+            StageFault::ReadLate { name, write, line }
+            | StageFault::SetLate {
+                name,
+                write,
+                line,
+                ..
+            } => Terms::Three(
                 Term::Word(*name),
+                Term::Number(*write),
+                Term::Number(*line as u64),
             ),
-            StageFault::PutAgain { name, line } => return Phrase::two(
-                "the pipe `{}` is put a second time; the first is in line {}",
+            StageFault::PutLate { name, put, write } => Terms::Three(
                 Term::Word(*name),
-                Term::Number(u64::from(*line)),
+                Term::Number(*put as u64),
+                Term::Number(*write),
+            ),
+            StageFault::SecondResult {
+                target,
+                first,
+                line,
+            } => Terms::Three(
+                Term::Word(*target),
+                Term::Word(*first),
+                Term::Number(*line as u64),
             ),
             StageFault::UsedEarly {
                 name,
                 put,
                 here,
                 line,
-            } => return Phrase::many(
-                "the pipe `{}` is put in stage {} (line {}), and can be used in later stages only; this is stage {}",
-                [
-                    Some(Term::Word(*name)),
-                    Some(Term::Number(*put as u64)),
-                    Some(Term::Number(u64::from(*line))),
-                    Some(Term::Number(*here as u64)),
-                    None,
-                    None,
-                ],
-            ),
-            StageFault::ReadLate { name, write, line } => return Phrase::three(
-                "`{}` is written in stage {} (line {}), and can't be read in a later stage",
-                Term::Word(*name),
-                Term::Number(*write),
-                Term::Number(u64::from(*line)),
-            ),
-            StageFault::PutLate { name, put, write } => return Phrase::three(
-                "the pipe `{}` is put in stage {}, which isn't before the write stage {}",
+            } => Terms::Four(
                 Term::Word(*name),
                 Term::Number(*put as u64),
-                Term::Number(*write),
+                Term::Number(*line as u64),
+                Term::Number(*here as u64),
             ),
-            StageFault::SetLate {
-                name,
-                write,
-                line,
-                ..
-            } => return Phrase::three(
-                "`{}` is written at the end of stage {} (line {}), and can't be set later",
-                Term::Word(*name),
-                Term::Number(*write),
-                Term::Number(u64::from(*line)),
+            StageFault::FewBlocks { stages, blocks } => {
+                Terms::Two(Term::Number(*stages), Term::Number(*blocks as u64))
+            }
+            StageFault::BlockNumber { found, wanted } => {
+                Terms::Two(Term::Number(*wanted as u64), Term::Number(*found))
+            }
+            StageFault::NoStage { found, stages } => Terms::Two(
+                Term::Number(*found),
+                Term::Number(stages.saturating_sub(1)),
             ),
-            StageFault::SetAgain { name, line } => return Phrase::two(
-                "`{}` is set a second time in this stage; the first is in line {}",
-                Term::Word(*name),
-                Term::Number(u64::from(*line)),
-            ),
-            StageFault::AimedAgain { name, line } => return Phrase::two(
-                "the hint `{}` is aimed already in line {}",
-                Term::Word(*name),
-                Term::Number(u64::from(*line)),
-            ),
-            StageFault::SecondResult {
-                target,
-                first,
-                line,
-            } => return Phrase::three(
-                "`{}` has a result already: `{}` (line {})",
-                Term::Word(*target),
-                Term::Word(*first),
-                Term::Number(u64::from(*line)),
-            ),
-            StageFault::TooMany(counted) => return too_many(*counted),
+            StageFault::TooMany(_) => Terms::None,
         }
     }
 }
 
-fn too_many<'t>(counted: Counted) -> Phrase<'t> {
-    match counted {
-        Counted::Registers => return Phrase::plain("a machine has at most 64 registers"),
-        Counted::Files => return Phrase::plain("a machine has at most 16 files"),
-        Counted::Pipes => return Phrase::plain("a machine has at most 128 pipes"),
-        Counted::Results => return Phrase::plain("a machine has at most 64 results"),
-        Counted::Hints => return Phrase::plain("a machine has at most 16 hints"),
-        Counted::Functions => return Phrase::plain("a machine has at most 64 functions"),
-        Counted::Reads => return Phrase::plain("a machine has at most 256 reads"),
-        Counted::Guesses => return Phrase::plain("a machine has at most 8 guesses"),
-        Counted::Samples => return Phrase::plain("a machine has at most 16 samples"),
-    }
-}
-
-impl<'t> Display for StageFault<'t> {
-    fn fmt<W: fmt::Write>(&self, f: &mut fmt::Formatter<W>) -> fmt::Result {
-        self.phrase().fmt(f)
+impl Counted {
+    // The sentence for more than there may be.
+    fn most(self) -> &'static str {
+        match self {
+            Counted::Registers => "a machine has at most 64 registers",
+            Counted::Files => "a machine has at most 16 files",
+            Counted::Pipes => "a machine has at most 128 pipes",
+            Counted::Results => "a machine has at most 64 results",
+            Counted::Hints => "a machine has at most 16 hints",
+            Counted::Functions => "a machine has at most 64 functions",
+            Counted::Reads => "a machine has at most 256 reads",
+            Counted::Guesses => "a machine has at most 8 guesses",
+            Counted::Samples => "a machine has at most 16 samples",
+        }
     }
 }

@@ -1,5 +1,5 @@
 // What is said of an accepted job that may not be meant so.
-use kp_view_help::{Help, Kind, Phrase, Term, Word};
+use kp_view_help::{Help, Kind, Term, Terms, Word, write_phrase};
 use std::fmt::{self, Display};
 
 /// A warning, with the facts that it rests on.
@@ -66,99 +66,79 @@ impl<'t> Warning<'t> {
                 file,
                 stage,
                 lines,
-            } => [
-                Some(Help::SetOnlyIn {
+            } => {
+                let set = Help::SetOnlyIn {
                     name: *result,
                     lines: *lines,
-                }),
-                Some(Help::EnableIt {
+                };
+                let enable = Help::EnableIt {
                     target: *target,
                     stage: *stage,
                     file: *file,
-                }),
-                None,
-            ],
+                };
+                [Some(set), Some(enable), None]
+            }
             Warning::SetInVain { .. } => [Some(Help::FirstCounts), None, None],
-            _ => [None, None, None],
+            _ => [None; 3],
         }
     }
-}
 
-impl<'t> Warning<'t> {
-    // Each branch returns: branches that pass different texts don't join.
-    fn phrase(&self) -> Phrase<'t> {
+    // The sentence, in which the terms are printed.
+    fn text(&self) -> &'static str {
         match self {
-            Warning::NeverSet { result, target } => return Phrase::two(
+            Warning::NeverSet { .. } =>
                 "`{}` is never set: each instruction that writes `{}` makes it 0",
-                Term::Word(*result),
-                Term::Word(*target),
-            ),
-            Warning::MaybeUnset {
-                result,
-                target,
-                file,
-                ..
-            } => return maybe_unset(*result, *target, *file),
+            Warning::MaybeUnset { file: true, .. } =>
+                "an instruction that sets no `{}` writes 0 to `{}[..]`",
+            Warning::MaybeUnset { file: false, .. } =>
+                "an instruction that sets no `{}` writes 0 to `{}`",
+            Warning::SetInVain { .. } =>
+                "this `set` never takes place: stage {} (line {}) has set `{}` in every instruction",
+            Warning::UnusedPipe(_) => "the pipe `{}` is used nowhere",
+            Warning::UnusedLocal { .. } => "`{}` is used nowhere in stage {}",
+            Warning::UnusedName { .. } => "the {} `{}` is used nowhere",
+            Warning::PutLate { .. } =>
+                "the pipe `{}` can be put in stage {} already: instructions that read `{}` wait until it is put",
+            Warning::NoResult(_) => "the register `{}` has no result, and never changes",
+        }
+    }
+
+    // The terms of the sentence.
+    fn terms(&self) -> Terms<'t> {
+        match self {
+            Warning::NeverSet { result, target } | Warning::MaybeUnset { result, target, .. } =>
+                Terms::Two(Term::Word(*result), Term::Word(*target)),
             Warning::SetInVain {
                 result,
                 stage,
                 line,
-            } => return Phrase::three(
-                "this `set` never takes place: stage {} (line {}) has set `{}` in every instruction",
+            } => Terms::Three(
                 Term::Number(*stage as u64),
-                Term::Number(u64::from(*line)),
+                Term::Number(*line as u64),
                 Term::Word(*result),
             ),
-            Warning::UnusedPipe(name) => return Phrase::one(
-                "the pipe `{}` is used nowhere",
-                Term::Word(*name),
-            ),
-            Warning::UnusedLocal { name, stage } => return Phrase::two(
-                "`{}` is used nowhere in stage {}",
-                Term::Word(*name),
-                Term::Number(*stage as u64),
-            ),
-            Warning::UnusedName { name, kind } => return Phrase::two(
-                "the {} `{}` is used nowhere",
-                Term::Kind(*kind),
-                Term::Word(*name),
-            ),
+            Warning::UnusedPipe(name) | Warning::NoResult(name) => Terms::One(Term::Word(*name)),
+            Warning::UnusedLocal { name, stage } => {
+                Terms::Two(Term::Word(*name), Term::Number(*stage as u64))
+            }
+            Warning::UnusedName { name, kind } => {
+                Terms::Two(Term::Kind(*kind), Term::Word(*name))
+            }
             Warning::PutLate {
                 name,
                 target,
                 earliest,
-            } => return Phrase::three(
-                "the pipe `{}` can be put in stage {} already: instructions that read `{}` wait until it is put",
+            } => Terms::Three(
                 Term::Word(*name),
                 Term::Number(*earliest as u64),
                 Term::Word(*target),
             ),
-            Warning::NoResult(name) => return Phrase::one(
-                "the register `{}` has no result, and never changes",
-                Term::Word(*name),
-            ),
         }
-    }
-}
-
-fn maybe_unset<'t>(name: Word<'t>, target: Word<'t>, file: bool) -> Phrase<'t> {
-    if file {
-        return Phrase::two(
-            "an instruction that sets no `{}` writes 0 to `{}[..]`",
-            Term::Word(name),
-            Term::Word(target),
-        );
-    } else {
-        return Phrase::two(
-            "an instruction that sets no `{}` writes 0 to `{}`",
-            Term::Word(name),
-            Term::Word(target),
-        );
     }
 }
 
 impl<'t> Display for Warning<'t> {
     fn fmt<W: fmt::Write>(&self, f: &mut fmt::Formatter<W>) -> fmt::Result {
-        self.phrase().fmt(f)
+        write_phrase(f, self.text(), &self.terms())
     }
 }

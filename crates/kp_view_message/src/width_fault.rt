@@ -1,8 +1,7 @@
 // A wrong width.
 use kp_lex::Mark;
 use kp_view_expected::TokenClass;
-use kp_view_help::{Help, Kind, Phrase, Term, Word};
-use std::fmt::{self, Display};
+use kp_view_help::{Help, Kind, Term, Terms, Word};
 
 /// What a value goes to, or comes from.
 #[derive(Clone, Copy)]
@@ -104,239 +103,204 @@ impl<'t> WidthFault<'t> {
         }
     }
 
-    /// What helps, in up to three lines.
-    pub fn helps(&self) -> [Option<Help<'t>>; 3] {
-        match self {
+    // What helps, if anything is known to.
+    pub(crate) fn help(&self) -> Option<Help<'t>> {
+        Some(match self {
             WidthFault::Operands {
-                left,
-                right,
+                left: a,
+                right: b,
                 literal,
                 ..
-            } => { [Some(widen(*left, *right, *literal)), None, None] },
-            WidthFault::Branches { yes, no, literal } => [
-                Some(widen(*yes, *no, *literal)),
-                None,
-                None,
-            ],
+            }
+            | WidthFault::Branches {
+                yes: a,
+                no: b,
+                literal,
+            } => widen(*a, *b, *literal),
             WidthFault::ValueWidth {
                 found,
                 wanted,
                 literal,
                 ..
-            } => { [Some(fit(u64::from(*found), *wanted, *literal)), None, None] },
+            } => fit(*found, *wanted, *literal),
             WidthFault::StartWidth { wanted, value, .. } => {
-                [Some(Help::Literal(u64::from(*wanted), *value)), None, None]
-            },
-            WidthFault::Condition { .. } => [Some(Help::Compare), None, None],
-            WidthFault::LiteralValue { value, .. } => [Some(Help::LiteralBits(*value)), None, None],
-            WidthFault::AddressRange(value) => [Help::words(*value), None, None],
-            WidthFault::Address { found, wanted, .. } => {
-                [
-                    Some(fit(u64::from(*found), u64::from(*wanted), None)),
-                    None,
-                    None,
-                ]
-            },
-            _ => [None, None, None],
-        }
-    }
-}
-
-// Two values that are to have one width. A literal among them, with the width of the other, is what to change where its value fits.
-fn widen<'t>(left: u8, right: u8, literal: Option<(u8, u64)>) -> Help<'t> {
-    match literal {
-        Some((width, value)) => Help::Literal(u64::from(width), value),
-        None => Help::Extend(u64::from(left.max(right))),
-    }
-}
-
-// A value that is to have another width.
-fn fit<'t>(found: u64, wanted: u64, literal: Option<u64>) -> Help<'t> {
-    match literal {
-        Some(value) => Help::Literal(wanted, value),
-        None => {
-            if found < wanted {
-                Help::Extend(wanted)
-            } else {
-                Help::Cut(wanted)
+                Help::Literal(*wanted as u64, *value)
             }
+            WidthFault::Condition { .. } => Help::Compare,
+            WidthFault::LiteralValue { value, .. } => Help::LiteralBits(*value),
+            WidthFault::AddressRange(value) => return Help::words(*value),
+            WidthFault::Address { found, wanted, .. } => fit(*found, *wanted as u64, None),
+            _ => return None,
+        })
+    }
+
+    // The sentence, in which the terms are printed.
+    pub(crate) fn text(&self) -> &'static str {
+        match self {
+            WidthFault::WidthRange(_) => "a width is 1 to 64, not {}",
+            WidthFault::LiteralWidth(_) => "a literal has 1 to 64 bits, not {}",
+            WidthFault::JoinedWidth => "the parts have more than 64 bits together",
+            WidthFault::Operands { .. } => "the operands of {} have different widths: {} and {}",
+            WidthFault::Branches { .. } =>
+                "the branches of this choice have different widths: {} and {}",
+            WidthFault::ValueWidth { goal, .. } => goal.text(),
+            WidthFault::StartWidth { .. } => "the start value has {}; `{}` has {}",
+            WidthFault::TargetWidth { .. } => "the result has {}; the {} `{}` (line {}) has {}",
+            WidthFault::Condition { .. } => "a condition has 1 bit; this has {}",
+            WidthFault::Enable { .. } => "an enable has 1 bit; the pipe `{}` (line {}) has {}",
+            WidthFault::Slice { hi, lo, .. } if *hi < *lo =>
+                "the high number stands first: `[{}:{}]`",
+            WidthFault::Slice { .. } => "bits {} to {} of {}: the bits are numbered {} to 0",
+            WidthFault::Shortened { .. } => "an extension of {} can't give {}",
+            WidthFault::LiteralValue { width, .. } if largest(*width).is_some() =>
+                "{} doesn't fit {}: the largest value is {}",
+            WidthFault::LiteralValue { .. } => "{} doesn't fit {}",
+            WidthFault::AddressRange(_) => "an address has 1 to 16 bits, not {}",
+            WidthFault::Address { .. } =>
+                "this address has {}; addresses of `{}` (line {}) have {}",
         }
     }
-}
 
-impl<'t> WidthFault<'t> {
-    // Each branch returns: branches that pass different texts don't join.
-    fn phrase(&self) -> Phrase<'t> {
+    // The terms of the sentence.
+    pub(crate) fn terms(&self) -> Terms<'t> {
         match self {
-            WidthFault::WidthRange(value) => return Phrase::one(
-                "a width is 1 to 64, not {}",
-                Term::Number(*value),
-            ),
-            WidthFault::LiteralWidth(value) => return Phrase::one(
-                "a literal has 1 to 64 bits, not {}",
-                Term::Number(*value),
-            ),
-            WidthFault::JoinedWidth => return Phrase::plain(
-                "the parts have more than 64 bits together",
-            ),
-            WidthFault::Operands {
-                mark,
-                left,
-                right,
-                ..
-            } => return Phrase::three(
-                "the operands of {} have different widths: {} and {}",
-                Term::Class(TokenClass::Mark(*mark)),
-                Term::Bits(u64::from(*left)),
-                Term::Bits(u64::from(*right)),
-            ),
-            WidthFault::Branches { yes, no, .. } => return Phrase::two(
-                "the branches of this choice have different widths: {} and {}",
-                Term::Bits(u64::from(*yes)),
-                Term::Bits(u64::from(*no)),
-            ),
+            WidthFault::WidthRange(value)
+            | WidthFault::LiteralWidth(value)
+            | WidthFault::AddressRange(value) => Terms::One(Term::Number(*value)),
+            WidthFault::JoinedWidth => Terms::None,
+            WidthFault::Branches { yes, no, .. } => Terms::Two(bits(*yes), bits(*no)),
             WidthFault::ValueWidth {
                 found,
                 wanted,
                 goal,
                 ..
-            } => return value_width(*found, *wanted, *goal),
+            } => goal.terms(bits(*found), Term::Bits(*wanted)),
+            WidthFault::Condition { found } => Terms::One(bits(*found)),
+            WidthFault::Slice { hi, lo, width } => slice(*hi, *lo, *width),
+            WidthFault::Shortened { to, from } => Terms::Two(bits(*from), Term::Bits(*to)),
+            WidthFault::LiteralValue { value, width } => literal_value(*value, *width),
+            _ => self.named_terms(),
+        }
+    }
+
+    // The terms of a sentence with a name or an operator in it.
+    fn named_terms(&self) -> Terms<'t> {
+        match self {
+            WidthFault::Operands {
+                mark,
+                left,
+                right,
+                ..
+            } => Terms::Three(
+                Term::Class(TokenClass::Mark(*mark)),
+                bits(*left),
+                bits(*right),
+            ),
             WidthFault::StartWidth {
                 found,
                 wanted,
                 name,
                 ..
-            } => return Phrase::three(
-                "the start value has {}; `{}` has {}",
-                Term::Bits(u64::from(*found)),
-                Term::Word(*name),
-                Term::Bits(u64::from(*wanted)),
-            ),
+            } => Terms::Three(bits(*found), Term::Word(*name), bits(*wanted)),
             WidthFault::TargetWidth {
                 result,
                 target,
                 name,
                 kind,
                 line,
-            } => return Phrase::many(
-                "the result has {}; the {} `{}` (line {}) has {}",
-                [
-                    Some(Term::Bits(u64::from(*result))),
-                    Some(Term::Kind(*kind)),
-                    Some(Term::Word(*name)),
-                    Some(Term::Number(u64::from(*line))),
-                    Some(Term::Bits(u64::from(*target))),
-                    None,
-                ],
-            ),
-            WidthFault::Condition { found } => return Phrase::one(
-                "a condition has 1 bit; this has {}",
-                Term::Bits(u64::from(*found)),
-            ),
-            WidthFault::Enable { found, name, line } => return Phrase::three(
-                "an enable has 1 bit; the pipe `{}` (line {}) has {}",
+            } => Terms::Five(
+                bits(*result),
+                Term::Kind(*kind),
                 Term::Word(*name),
-                Term::Number(u64::from(*line)),
-                Term::Bits(u64::from(*found)),
+                Term::Number(*line as u64),
+                bits(*target),
             ),
-            WidthFault::Slice { hi, lo, width } => return slice(*hi, *lo, *width),
-            WidthFault::Shortened { to, from } => return Phrase::two(
-                "an extension of {} can't give {}",
-                Term::Bits(u64::from(*from)),
-                Term::Bits(*to),
-            ),
-            WidthFault::LiteralValue { value, width } => return literal_value(*value, *width),
-            WidthFault::AddressRange(value) => return Phrase::one(
-                "an address has 1 to 16 bits, not {}",
-                Term::Number(*value),
+            WidthFault::Enable { found, name, line } => Terms::Three(
+                Term::Word(*name),
+                Term::Number(*line as u64),
+                bits(*found),
             ),
             WidthFault::Address {
                 found,
                 wanted,
                 file,
                 line,
-            } => return Phrase::many(
-                "this address has {}; addresses of `{}` (line {}) have {}",
-                [
-                    Some(Term::Bits(u64::from(*found))),
-                    Some(Term::Word(*file)),
-                    Some(Term::Number(u64::from(*line))),
-                    Some(Term::Bits(u64::from(*wanted))),
-                    None,
-                    None,
-                ],
+            } => Terms::Four(
+                bits(*found),
+                Term::Word(*file),
+                Term::Number(*line as u64),
+                bits(*wanted),
             ),
+            _ => Terms::None,
         }
     }
 }
 
-fn value_width(found: u8, wanted: u64, goal: Goal<'_>) -> Phrase<'_> {
-    let (found, wanted) = (Term::Bits(u64::from(found)), Term::Bits(wanted));
-    match goal {
-        Goal::Named(kind, name) => return Phrase::many(
-            "this value has {}; the {} `{}` has {}",
-            [
-                Some(found),
-                Some(Term::Kind(kind)),
-                Some(Term::Word(name)),
-                Some(wanted),
-                None,
-                None,
-            ],
-        ),
-        Goal::Argument(name) => return Phrase::three(
-            "this value has {}; the parameter `{}` has {}",
-            found,
-            Term::Word(name),
-            wanted,
-        ),
-        Goal::Body(name) => return Phrase::three(
-            "this value has {}; the function `{}` has {}",
-            found,
-            Term::Word(name),
-            wanted,
-        ),
+impl<'t> Goal<'t> {
+    // The sentence for a value of another width.
+    fn text(self) -> &'static str {
+        match self {
+            Goal::Named(_, _) => "this value has {}; the {} `{}` has {}",
+            Goal::Argument(_) => "this value has {}; the parameter `{}` has {}",
+            Goal::Body(_) => "this value has {}; the function `{}` has {}",
+        }
+    }
+
+    // Its terms.
+    fn terms(self, found: Term<'t>, wanted: Term<'t>) -> Terms<'t> {
+        match self {
+            Goal::Named(kind, name) => {
+                Terms::Four(found, Term::Kind(kind), Term::Word(name), wanted)
+            }
+            Goal::Argument(name) | Goal::Body(name) => {
+                Terms::Three(found, Term::Word(name), wanted)
+            }
+        }
     }
 }
 
-fn slice<'t>(hi: u64, lo: u64, width: u8) -> Phrase<'t> {
+fn bits<'t>(count: u8) -> Term<'t> {
+    Term::Bits(count as u64)
+}
+
+// Two values that are to have one width. A literal among them, with the width of the other, is what to change where its value fits.
+fn widen<'t>(left: u8, right: u8, literal: Option<(u8, u64)>) -> Help<'t> {
+    match literal {
+        Some((width, value)) => Help::Literal(width as u64, value),
+        None => Help::Extend(left.max(right) as u64),
+    }
+}
+
+// A value that is to have another width.
+fn fit<'t>(found: u8, wanted: u64, literal: Option<u64>) -> Help<'t> {
+    match literal {
+        Some(value) => Help::Literal(wanted, value),
+        None if (found as u64) < wanted => Help::Extend(wanted),
+        None => Help::Cut(wanted),
+    }
+}
+
+fn slice<'t>(hi: u64, lo: u64, width: u8) -> Terms<'t> {
     if hi < lo {
-        return Phrase::two(
-            "the high number stands first: `[{}:{}]`",
-            Term::Number(lo),
-            Term::Number(hi),
-        );
+        Terms::Two(Term::Number(lo), Term::Number(hi))
     } else {
-        return Phrase::many(
-            "bits {} to {} of {}: the bits are numbered {} to 0",
-            [
-                Some(Term::Number(hi)),
-                Some(Term::Number(lo)),
-                Some(Term::Bits(u64::from(width))),
-                Some(Term::Number(u64::from(width.saturating_sub(1)))),
-                None,
-                None,
-            ],
-        );
+        let last = Term::Number(width.saturating_sub(1) as u64);
+        Terms::Four(Term::Number(hi), Term::Number(lo), bits(width), last)
     }
 }
 
-fn literal_value<'t>(value: u64, width: u64) -> Phrase<'t> {
+fn literal_value<'t>(value: u64, width: u64) -> Terms<'t> {
+    match largest(width) {
+        Some(most) => Terms::Three(Term::Number(value), Term::Bits(width), Term::Number(most)),
+        None => Terms::Two(Term::Number(value), Term::Bits(width)),
+    }
+}
+
+// The largest value of a width of 1 to 63.
+fn largest(width: u64) -> Option<u64> {
     if width >= 1 && width < 64 {
-        let most = (u64::MAX >> (64 - width)) as u64;
-        return Phrase::three(
-            "{} doesn't fit {}: the largest value is {}",
-            Term::Number(value),
-            Term::Bits(width),
-            Term::Number(most),
-        );
+        Some(u64::MAX >> (64 - width))
     } else {
-        return Phrase::two("{} doesn't fit {}", Term::Number(value), Term::Bits(width));
-    }
-}
-
-impl<'t> Display for WidthFault<'t> {
-    fn fmt<W: fmt::Write>(&self, f: &mut fmt::Formatter<W>) -> fmt::Result {
-        self.phrase().fmt(f)
+        None
     }
 }

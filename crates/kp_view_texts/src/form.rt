@@ -90,9 +90,9 @@ const FORMS: [(&'static str, Form); 26] = [
 impl Form {
     /// The form of the instruction with this mnemonic, upper and lower case taken as the same.
     pub fn of(mnemonic: &[u8]) -> Option<Form> {
-        for (name, form) in FORMS {
-            if name.as_bytes().eq_ignore_ascii_case(mnemonic) {
-                return Some(form);
+        for row in &FORMS {
+            if row.0.as_bytes().eq_ignore_ascii_case(mnemonic) {
+                return Some(row.1);
             }
         }
         None

@@ -1,6 +1,6 @@
 // A way to violate a rule of assembler programs.
 use crate::form::{Form, Operand};
-use kp_view_help::{Phrase, Term, Word};
+use kp_view_help::{Term, Terms, Word, write_phrase};
 use std::fmt::{self, Display};
 
 /// A token of a line, or its end.
@@ -52,108 +52,82 @@ pub(crate) enum ProgramFault<'t> {
 }
 
 impl<'t> ProgramFault<'t> {
-    // The sentence, up to the byte that one ends with. Each branch returns: branches that pass different texts don't join.
-    fn phrase(&self) -> Phrase<'t> {
+    // The sentence, in which the terms are printed.
+    fn text(&self) -> &'static str {
         match self {
-            ProgramFault::NoToken(_) => return Phrase::plain("no word of a program begins with "),
-            ProgramFault::LongName(length) => return Phrase::one(
+            ProgramFault::NoToken(_) => "no word of a program begins with {}",
+            ProgramFault::LongName(_) =>
                 "a name has at most 64 letters, digits and `_`; this has {}",
-                Term::Number(*length as u64),
-            ),
-            ProgramFault::NoDigits => return Phrase::plain("decimal digits follow `-`"),
-            ProgramFault::NoDirective => return Phrase::plain(
-                "the only word that begins with `.` is `.word`",
-            ),
-            ProgramFault::NoMnemonic(word) => return Phrase::one(
-                "there is no instruction `{}`",
-                Term::Word(*word),
-            ),
-            ProgramFault::Capitals(word) => return Phrase::one(
+            ProgramFault::NoDigits => "decimal digits follow `-`",
+            ProgramFault::NoDirective => "the only word that begins with `.` is `.word`",
+            ProgramFault::NoMnemonic(_) => "there is no instruction `{}`",
+            ProgramFault::Capitals(_) =>
                 "there is no instruction `{}`: instructions have small letters",
-                Term::Word(*word),
-            ),
-            ProgramFault::SecondLabel(word) => return Phrase::one(
+            ProgramFault::SecondLabel(_) =>
                 "a line has one label at most, and `{}` would be a second one",
-                Term::Word(*word),
-            ),
-            ProgramFault::NoInstruction(found) => return expected("an instruction", *found),
-            ProgramFault::WrongOperand { found, wanted, .. } => {
-                return expected(wanted.text(), *found);
-            }
-            ProgramFault::NoRegister(word) => return Phrase::one(
+            ProgramFault::NoInstruction(found) | ProgramFault::WrongOperand { found, .. } =>
+                found.text(),
+            ProgramFault::NoRegister(_) =>
                 "there is no register `{}`: the registers are `r0` to `r31`",
-                Term::Word(*word),
-            ),
+            ProgramFault::OutOfRange { .. } => "the number of `{}` is {}, not {}",
+            ProgramFault::LabelAgain { .. } => "the label `{}` is declared already in line {}",
+            ProgramFault::LabelNowhere(_) => "the label `{}` is declared nowhere",
+            ProgramFault::TooMany =>
+                "a program has at most 1,024 words, and this would be one more",
+            ProgramFault::Unknown => "this violates a rule (docs/DLX.md)",
+        }
+    }
+
+    // The terms of the sentence.
+    fn terms(&self) -> Terms<'t> {
+        match self {
+            ProgramFault::NoToken(byte) => Terms::One(Term::Byte(*byte)),
+            ProgramFault::LongName(length) => Terms::One(Term::Number(*length as u64)),
+            ProgramFault::NoMnemonic(word)
+            | ProgramFault::Capitals(word)
+            | ProgramFault::SecondLabel(word)
+            | ProgramFault::NoRegister(word)
+            | ProgramFault::LabelNowhere(word) => Terms::One(Term::Word(*word)),
+            ProgramFault::NoInstruction(found) => found.terms("an instruction"),
+            ProgramFault::WrongOperand { found, wanted, .. } => found.terms(wanted.text()),
             ProgramFault::OutOfRange {
                 number,
                 mnemonic,
                 kind,
-            } => return Phrase::three(
-                "the number of `{}` is {}, not {}",
+            } => Terms::Three(
                 Term::Word(*mnemonic),
                 Term::Text(range(*kind)),
                 Term::Word(*number),
             ),
-            ProgramFault::LabelAgain { name, line } => return Phrase::two(
-                "the label `{}` is declared already in line {}",
-                Term::Word(*name),
-                Term::Number(*line as u64),
-            ),
-            ProgramFault::LabelNowhere(name) => return Phrase::one(
-                "the label `{}` is declared nowhere",
-                Term::Word(*name),
-            ),
-            ProgramFault::TooMany => return Phrase::plain(
-                "a program has at most 1,024 words, and this would be one more",
-            ),
-            ProgramFault::Unknown => return Phrase::plain("this violates a rule (docs/DLX.md)"),
+            ProgramFault::LabelAgain { name, line } => {
+                Terms::Two(Term::Word(*name), Term::Number(*line as u64))
+            }
+            _ => Terms::None,
         }
     }
 }
 
-fn expected<'t>(wanted: &'static str, found: Found<'t>) -> Phrase<'t> {
-    match found {
-        Found::Token(word) => return Phrase::two(
-            "expected {}, found `{}`",
-            Term::Text(wanted),
-            Term::Word(word),
-        ),
-        Found::LineEnd => return Phrase::one(
-            "expected {}, found the end of the line",
-            Term::Text(wanted),
-        ),
+impl<'t> Found<'t> {
+    // The sentence where something else is expected.
+    fn text(&self) -> &'static str {
+        match self {
+            Found::Token(_) => "expected {}, found `{}`",
+            Found::LineEnd => "expected {}, found the end of the line",
+        }
+    }
+
+    // Its terms.
+    fn terms(&self, wanted: &'static str) -> Terms<'t> {
+        match self {
+            Found::Token(word) => Terms::Two(Term::Text(wanted), Term::Word(*word)),
+            Found::LineEnd => Terms::One(Term::Text(wanted)),
+        }
     }
 }
 
 impl<'t> Display for ProgramFault<'t> {
     fn fmt<W: fmt::Write>(&self, f: &mut fmt::Formatter<W>) -> fmt::Result {
-        self.phrase().fmt(f)?;
-        match self {
-            ProgramFault::NoToken(byte) => write_byte(f, *byte),
-            ProgramFault::LongName(_)
-            | ProgramFault::NoDigits
-            | ProgramFault::NoDirective
-            | ProgramFault::NoMnemonic(_)
-            | ProgramFault::Capitals(_)
-            | ProgramFault::SecondLabel(_)
-            | ProgramFault::NoInstruction(_)
-            | ProgramFault::WrongOperand { .. }
-            | ProgramFault::NoRegister(_)
-            | ProgramFault::OutOfRange { .. }
-            | ProgramFault::LabelAgain { .. }
-            | ProgramFault::LabelNowhere(_)
-            | ProgramFault::TooMany
-            | ProgramFault::Unknown => Ok(()),
-        }
-    }
-}
-
-fn write_byte<W: fmt::Write>(f: &mut fmt::Formatter<W>, byte: u8) -> fmt::Result {
-    let shown = char::from(byte);
-    if byte > 32 && byte < 127 {
-        write!(f, "`{shown}`")
-    } else {
-        write!(f, "the byte {byte}")
+        write_phrase(f, self.text(), &self.terms())
     }
 }
 
@@ -179,48 +153,51 @@ pub(crate) enum ProgramHelp<'t> {
 impl<'t> ProgramFault<'t> {
     /// What helps, if anything is known to.
     pub fn help(&self) -> Option<ProgramHelp<'t>> {
-        match self {
-            ProgramFault::NoToken(b'#' | b'/') => Some(ProgramHelp::Comment),
-            ProgramFault::SecondLabel(_) => Some(ProgramHelp::OwnLine),
-            ProgramFault::WrongOperand { mnemonic, form, .. } => Some(ProgramHelp::Form {
+        Some(match self {
+            ProgramFault::NoToken(b'#' | b'/') => ProgramHelp::Comment,
+            ProgramFault::SecondLabel(_) => ProgramHelp::OwnLine,
+            ProgramFault::WrongOperand { mnemonic, form, .. } => ProgramHelp::Form {
                 mnemonic: *mnemonic,
                 form: *form,
-            }),
+            },
             ProgramFault::OutOfRange {
                 kind: Operand::Signed,
                 ..
-            } => Some(ProgramHelp::TwoHalves),
-            ProgramFault::LabelNowhere(name) => Some(ProgramHelp::Declare(*name)),
-            _ => None,
-        }
+            } => ProgramHelp::TwoHalves,
+            ProgramFault::LabelNowhere(name) => ProgramHelp::Declare(*name),
+            _ => return None,
+        })
     }
 }
 
 impl<'t> ProgramHelp<'t> {
-    fn phrase(&self) -> Phrase<'t> {
+    // The line, in which the terms are printed.
+    fn text(&self) -> &'static str {
         match self {
-            ProgramHelp::Comment => return Phrase::plain("a comment begins with `;`"),
-            ProgramHelp::OwnLine => return Phrase::plain(
-                "write the first label in a line of its own",
-            ),
-            ProgramHelp::Form { mnemonic, form } => return Phrase::two(
-                "the form is `{}{}`",
-                Term::Word(*mnemonic),
-                Term::Text(form.text()),
-            ),
-            ProgramHelp::TwoHalves => return Phrase::plain(
+            ProgramHelp::Comment => "a comment begins with `;`",
+            ProgramHelp::OwnLine => "write the first label in a line of its own",
+            ProgramHelp::Form { .. } => "the form is `{}{}`",
+            ProgramHelp::TwoHalves =>
                 "a number of 32 bits comes in two halves: `lhi r1, 0x1234` and `ori r1, r1, 0x5678`",
-            ),
-            ProgramHelp::Declare(name) => return Phrase::one(
+            ProgramHelp::Declare(_) =>
                 "declare it before an instruction or in a line of its own: `{}:`",
-                Term::Word(*name),
-            ),
+        }
+    }
+
+    // The terms of the line.
+    fn terms(&self) -> Terms<'t> {
+        match self {
+            ProgramHelp::Form { mnemonic, form } => {
+                Terms::Two(Term::Word(*mnemonic), Term::Text(form.text()))
+            }
+            ProgramHelp::Declare(name) => Terms::One(Term::Word(*name)),
+            _ => Terms::None,
         }
     }
 }
 
 impl<'t> Display for ProgramHelp<'t> {
     fn fmt<W: fmt::Write>(&self, f: &mut fmt::Formatter<W>) -> fmt::Result {
-        self.phrase().fmt(f)
+        write_phrase(f, self.text(), &self.terms())
     }
 }

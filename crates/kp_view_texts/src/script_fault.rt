@@ -1,5 +1,5 @@
 // A way to violate a rule of scripts.
-use kp_view_help::{Kind, Phrase, Term, Word};
+use kp_view_help::{Kind, Term, Terms, Word, write_phrase};
 use std::fmt::{self, Display};
 
 /// The keyword of a command.
@@ -12,12 +12,14 @@ pub(crate) enum Verb {
     Row,
 }
 
+const VERBS: [Verb; 5] = [Verb::Step, Verb::Back, Verb::Until, Verb::Show, Verb::Row];
+
 impl Verb {
     /// The keyword that this word is, if it is one.
     pub fn of(word: &[u8]) -> Option<Verb> {
-        for verb in [Verb::Step, Verb::Back, Verb::Until, Verb::Show, Verb::Row] {
+        for verb in &VERBS {
             if word == verb.spelling().as_bytes() {
-                return Some(verb);
+                return Some(*verb);
             }
         }
         None
@@ -83,40 +85,42 @@ pub(crate) enum ScriptFault<'t> {
 }
 
 impl<'t> ScriptFault<'t> {
-    // The sentence. Each branch returns: branches that pass different texts don't join.
-    fn phrase(&self) -> Phrase<'t> {
+    // The sentence, in which the terms are printed.
+    fn text(&self) -> &'static str {
         match self {
-            ScriptFault::NoCommand(word) => return Phrase::one(
-                "a script has no command `{}`",
-                Term::Word(*word),
-            ),
-            ScriptFault::Words(verb) => return Phrase::two(
-                "`{}` is followed by {}",
-                Term::Text(verb.spelling()),
-                Term::Text(rest(*verb)),
-            ),
-            ScriptFault::NoCount { verb, word } => return Phrase::two(
+            ScriptFault::NoCommand(_) => "a script has no command `{}`",
+            ScriptFault::Words(_) => "`{}` is followed by {}",
+            ScriptFault::NoCount { .. } =>
                 "the number of cycles of `{}` is decimal digits, not `{}`",
-                Term::Text(verb.spelling()),
-                Term::Word(*word),
-            ),
-            ScriptFault::NoLiteral(word) => return Phrase::one(
+            ScriptFault::NoLiteral(_) =>
                 "the value of `until` is a literal such as 8'h1f, not `{}`",
-                Term::Word(*word),
-            ),
-            ScriptFault::ManyCycles(word) => return Phrase::one(
-                "a number of cycles is at most 100,000, not {}",
-                Term::Word(*word),
-            ),
-            ScriptFault::Undeclared(name) => return Phrase::one(
-                "`{}` is declared nowhere; `until` watches a register",
-                Term::Word(*name),
-            ),
-            ScriptFault::NoRegister { name, kind, line } => return Phrase::three(
-                "`{}` is a {} (line {}); `until` watches a register",
+            ScriptFault::ManyCycles(_) => "a number of cycles is at most 100,000, not {}",
+            ScriptFault::Undeclared(_) => "`{}` is declared nowhere; `until` watches a register",
+            ScriptFault::NoRegister { .. } => "`{}` is a {} (line {}); `until` watches a register",
+            ScriptFault::Width { .. } => "this value has {}; the register `{}` (line {}) has {}",
+            ScriptFault::Value { .. } => "{} doesn't fit {}",
+            ScriptFault::LargeValue => "a number of this literal is over 2^64-1",
+            ScriptFault::Unknown => "this violates a rule (docs/LANGUAGE.md)",
+        }
+    }
+
+    // The terms of the sentence. Branches that pass different texts don't join: they return.
+    fn terms(&self) -> Terms<'t> {
+        match self {
+            ScriptFault::NoCommand(word)
+            | ScriptFault::NoLiteral(word)
+            | ScriptFault::ManyCycles(word)
+            | ScriptFault::Undeclared(word) => Terms::One(Term::Word(*word)),
+            ScriptFault::Words(verb) => {
+                return Terms::Two(Term::Text(verb.spelling()), Term::Text(rest(*verb)));
+            }
+            ScriptFault::NoCount { verb, word } => {
+                return Terms::Two(Term::Text(verb.spelling()), Term::Word(*word));
+            }
+            ScriptFault::NoRegister { name, kind, line } => Terms::Three(
                 Term::Word(*name),
                 Term::Kind(*kind),
-                Term::Number(u64::from(*line)),
+                Term::Number(*line as u64),
             ),
             ScriptFault::Width {
                 found,
@@ -124,33 +128,23 @@ impl<'t> ScriptFault<'t> {
                 name,
                 line,
                 ..
-            } => return Phrase::many(
-                "this value has {}; the register `{}` (line {}) has {}",
-                [
-                    Some(Term::Bits(*found)),
-                    Some(Term::Word(*name)),
-                    Some(Term::Number(u64::from(*line))),
-                    Some(Term::Bits(*wanted)),
-                    None,
-                    None,
-                ],
+            } => Terms::Four(
+                Term::Bits(*found),
+                Term::Word(*name),
+                Term::Number(*line as u64),
+                Term::Bits(*wanted),
             ),
-            ScriptFault::Value { value, width } => return Phrase::two(
-                "{} doesn't fit {}",
-                Term::Number(*value),
-                Term::Bits(*width),
-            ),
-            ScriptFault::LargeValue => return Phrase::plain(
-                "a number of this literal is over 2^64-1",
-            ),
-            ScriptFault::Unknown => return Phrase::plain("this violates a rule (docs/LANGUAGE.md)"),
+            ScriptFault::Value { value, width } => {
+                Terms::Two(Term::Number(*value), Term::Bits(*width))
+            }
+            ScriptFault::LargeValue | ScriptFault::Unknown => Terms::None,
         }
     }
 }
 
 impl<'t> Display for ScriptFault<'t> {
     fn fmt<W: fmt::Write>(&self, f: &mut fmt::Formatter<W>) -> fmt::Result {
-        self.phrase().fmt(f)
+        write_phrase(f, self.text(), &self.terms())
     }
 }
 
@@ -175,49 +169,54 @@ pub(crate) enum ScriptHelp {
 impl<'t> ScriptFault<'t> {
     /// What helps, if anything is known to.
     pub fn help(&self) -> Option<ScriptHelp> {
-        match self {
-            ScriptFault::NoCommand(_) => Some(ScriptHelp::Commands),
+        Some(match self {
+            ScriptFault::NoCommand(_) => ScriptHelp::Commands,
             ScriptFault::Words(verb) | ScriptFault::NoCount { verb, .. } => {
-                Some(ScriptHelp::Example(*verb))
+                ScriptHelp::Example(*verb)
             }
-            ScriptFault::NoLiteral(_) => Some(ScriptHelp::Example(Verb::Until)),
-            ScriptFault::ManyCycles(_) => Some(ScriptHelp::Repeat),
+            ScriptFault::NoLiteral(_) => ScriptHelp::Example(Verb::Until),
+            ScriptFault::ManyCycles(_) => ScriptHelp::Repeat,
             ScriptFault::Width {
                 wanted,
                 value: Some(value),
                 ..
-            } => Some(ScriptHelp::Literal {
+            } => ScriptHelp::Literal {
                 width: *wanted,
                 value: *value,
-            }),
-            _ => None,
-        }
+            },
+            _ => return None,
+        })
     }
 }
 
 impl ScriptHelp {
-    fn phrase(&self) -> Phrase<'static> {
+    // The line, in which the terms are printed.
+    fn text(&self) -> &'static str {
         match self {
-            ScriptHelp::Commands => return Phrase::plain(
+            ScriptHelp::Commands =>
                 "a line is `step N`, `back N`, `until R LIT N`, `show` or `row`, or empty",
-            ),
-            ScriptHelp::Example(verb) => return Phrase::one(
-                "an example is `{}`",
-                Term::Text(verb.example()),
-            ),
-            ScriptHelp::Literal { width, value } => return Phrase::three(
-                "give the literal {} bits: `{}'d{}`",
+            ScriptHelp::Example(_) => "an example is `{}`",
+            ScriptHelp::Literal { .. } => "give the literal {} bits: `{}'d{}`",
+            ScriptHelp::Repeat => "write the command in several lines",
+        }
+    }
+
+    // The terms of the line.
+    fn terms(&self) -> Terms<'static> {
+        match self {
+            ScriptHelp::Example(verb) => Terms::One(Term::Text(verb.example())),
+            ScriptHelp::Literal { width, value } => Terms::Three(
                 Term::Number(*width),
                 Term::Number(*width),
                 Term::Number(*value),
             ),
-            ScriptHelp::Repeat => return Phrase::plain("write the command in several lines"),
+            ScriptHelp::Commands | ScriptHelp::Repeat => Terms::None,
         }
     }
 }
 
 impl Display for ScriptHelp {
     fn fmt<W: fmt::Write>(&self, f: &mut fmt::Formatter<W>) -> fmt::Result {
-        self.phrase().fmt(f)
+        write_phrase(f, self.text(), &self.terms())
     }
 }

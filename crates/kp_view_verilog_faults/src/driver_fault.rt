@@ -1,5 +1,5 @@
 // A violated rule of drivers: V5.
-use kp_view_help::{Phrase, Term, Word};
+use kp_view_help::{Term, Terms, Word, write_phrase};
 use std::fmt::{self, Display};
 
 /// A violated rule of drivers.
@@ -30,90 +30,59 @@ pub enum DriverFault<'m> {
 }
 
 impl<'m> DriverFault<'m> {
-    // The sentence. Each branch returns: branches that pass different texts don't join.
-    fn phrase(&self) -> Phrase<'m> {
+    // The sentence, in which the terms are printed.
+    fn text(&self) -> &'static str {
         match self {
-            DriverFault::NeverAssigned(name) => return Phrase::one(
-                "`{}` is assigned nowhere",
-                Term::Word(*name),
-            ),
-            DriverFault::NoValue(name) => return Phrase::one(
-                "the output `{}` is assigned nowhere",
-                Term::Word(*name),
-            ),
-            DriverFault::Itself(name) => return Phrase::one(
-                "`{}` is used in its own value",
-                Term::Word(*name),
-            ),
-            DriverFault::NoStart(name) => return Phrase::one(
-                "the register `{}` has no start value under `initial`",
-                Term::Word(*name),
-            ),
-            DriverFault::NoUpdate(name) => return Phrase::one(
-                "the register `{}` has no update under `always`",
-                Term::Word(*name),
-            ),
-            DriverFault::NoReset(name) => return Phrase::one(
-                "the register `{}` isn't in the reset list",
-                Term::Word(*name),
-            ),
-            DriverFault::NoFill(name) => return Phrase::one(
-                "the file `{}` has no `for` under `initial`",
-                Term::Word(*name),
-            ),
-            DriverFault::AssignedAgain { name, line } => return Phrase::two(
-                "`{}` is assigned already in line {}",
-                Term::Word(*name),
-                Term::Number(*line as u64),
-            ),
-            DriverFault::AssignedLate { name, line } => return Phrase::two(
-                "`{}` is assigned only in line {}, after this use",
-                Term::Word(*name),
-                Term::Number(*line as u64),
-            ),
-            DriverFault::StartedAgain { name, line } => return Phrase::two(
-                "`{}` has a start value already in line {}",
-                Term::Word(*name),
-                Term::Number(*line as u64),
-            ),
-            DriverFault::FilledLate(name) => return Phrase::one(
-                "the `for` of the file `{}` goes before its single words",
-                Term::Word(*name),
-            ),
-            DriverFault::FilledAgain { name, line } => return Phrase::two(
-                "the file `{}` has a `for` already in line {}",
-                Term::Word(*name),
-                Term::Number(*line as u64),
-            ),
-            DriverFault::ResetAgain { name, line } => return Phrase::two(
-                "`{}` is in the reset list already in line {}",
-                Term::Word(*name),
-                Term::Number(*line as u64),
-            ),
-            DriverFault::UpdatedAgain { name, line } => return Phrase::two(
-                "`{}` is updated already in line {}",
-                Term::Word(*name),
-                Term::Number(*line as u64),
-            ),
-            DriverFault::Wide(name) => return Phrase::one(
-                "`{}` has another width than `ext`",
-                Term::Word(*name),
-            ),
-            DriverFault::NoResetForm => return Phrase::plain(
-                "the module has the port `rst`, and no reset list",
-            ),
-            DriverFault::OtherStart { name, line } => return Phrase::two(
+            DriverFault::NeverAssigned(_) => "`{}` is assigned nowhere",
+            DriverFault::NoValue(_) => "the output `{}` is assigned nowhere",
+            DriverFault::Itself(_) => "`{}` is used in its own value",
+            DriverFault::NoStart(_) => "the register `{}` has no start value under `initial`",
+            DriverFault::NoUpdate(_) => "the register `{}` has no update under `always`",
+            DriverFault::NoReset(_) => "the register `{}` isn't in the reset list",
+            DriverFault::NoFill(_) => "the file `{}` has no `for` under `initial`",
+            DriverFault::AssignedAgain { .. } => "`{}` is assigned already in line {}",
+            DriverFault::AssignedLate { .. } => "`{}` is assigned only in line {}, after this use",
+            DriverFault::StartedAgain { .. } => "`{}` has a start value already in line {}",
+            DriverFault::FilledLate(_) => "the `for` of the file `{}` goes before its single words",
+            DriverFault::FilledAgain { .. } => "the file `{}` has a `for` already in line {}",
+            DriverFault::ResetAgain { .. } => "`{}` is in the reset list already in line {}",
+            DriverFault::UpdatedAgain { .. } => "`{}` is updated already in line {}",
+            DriverFault::Wide(_) => "`{}` has another width than `ext`",
+            DriverFault::NoResetForm => "the module has the port `rst`, and no reset list",
+            DriverFault::OtherStart { .. } =>
                 "`{}` has another value here than its start value in line {}",
-                Term::Word(*name),
-                Term::Number(*line as u64),
-            ),
+        }
+    }
+
+    // The terms of the sentence.
+    fn terms(&self) -> Terms<'m> {
+        match self {
+            DriverFault::NeverAssigned(name)
+            | DriverFault::NoValue(name)
+            | DriverFault::Itself(name)
+            | DriverFault::NoStart(name)
+            | DriverFault::NoUpdate(name)
+            | DriverFault::NoReset(name)
+            | DriverFault::NoFill(name)
+            | DriverFault::FilledLate(name)
+            | DriverFault::Wide(name) => Terms::One(Term::Word(*name)),
+            DriverFault::AssignedAgain { name, line }
+            | DriverFault::AssignedLate { name, line }
+            | DriverFault::StartedAgain { name, line }
+            | DriverFault::FilledAgain { name, line }
+            | DriverFault::ResetAgain { name, line }
+            | DriverFault::UpdatedAgain { name, line }
+            | DriverFault::OtherStart { name, line } => {
+                Terms::Two(Term::Word(*name), Term::Number(*line as u64))
+            }
+            DriverFault::NoResetForm => Terms::None,
         }
     }
 }
 
 impl<'m> Display for DriverFault<'m> {
     fn fmt<W: fmt::Write>(&self, f: &mut fmt::Formatter<W>) -> fmt::Result {
-        self.phrase().fmt(f)
+        write_phrase(f, self.text(), &self.terms())
     }
 }
 
@@ -135,68 +104,60 @@ pub enum DriverHelp<'m> {
 impl<'m> DriverFault<'m> {
     /// What helps, if anything is known to.
     pub fn help(&self) -> Option<DriverHelp<'m>> {
-        match self {
-            DriverFault::NeverAssigned(name) => Some(DriverHelp::Assign(*name)),
-            DriverFault::NoValue(name) => Some(DriverHelp::AssignWire(*name)),
-            DriverFault::Itself(_) => Some(DriverHelp::FromRegister),
-            DriverFault::NoStart(name) => Some(DriverHelp::Start(*name)),
-            DriverFault::NoUpdate(name) => Some(DriverHelp::Update(*name)),
-            DriverFault::NoFill(name) => Some(DriverHelp::Fill(*name)),
+        Some(match self {
+            DriverFault::NeverAssigned(name) => DriverHelp::Assign(*name),
+            DriverFault::NoValue(name) => DriverHelp::AssignWire(*name),
+            DriverFault::Itself(_) => DriverHelp::FromRegister,
+            DriverFault::NoStart(name) => DriverHelp::Start(*name),
+            DriverFault::NoUpdate(name) => DriverHelp::Update(*name),
+            DriverFault::NoFill(name) => DriverHelp::Fill(*name),
             DriverFault::UpdatedAgain { .. } | DriverFault::AssignedAgain { .. } => {
-                Some(DriverHelp::Choice)
+                DriverHelp::Choice
             }
-            DriverFault::AssignedLate { .. } => Some(DriverHelp::MoveDown),
-            DriverFault::Wide(_) => Some(DriverHelp::Stages),
-            DriverFault::NoResetForm => Some(DriverHelp::ResetForm),
-            _ => None,
-        }
+            DriverFault::AssignedLate { .. } => DriverHelp::MoveDown,
+            DriverFault::Wide(_) => DriverHelp::Stages,
+            DriverFault::NoResetForm => DriverHelp::ResetForm,
+            _ => return None,
+        })
     }
 }
 
 impl<'m> DriverHelp<'m> {
-    fn phrase(&self) -> Phrase<'m> {
+    // The line, in which the terms are printed.
+    fn text(&self) -> &'static str {
         match self {
-            DriverHelp::Assign(name) => return Phrase::one(
-                "write `assign {} = ..;`, or remove the declaration",
-                Term::Word(*name),
-            ),
-            DriverHelp::AssignWire(name) => return Phrase::one(
-                "write `assign {} = ..;`, with a wire",
-                Term::Word(*name),
-            ),
-            DriverHelp::Start(name) => return Phrase::one(
-                "write `{} = ..;` under `initial`",
-                Term::Word(*name),
-            ),
-            DriverHelp::Update(name) => return Phrase::one(
-                "write `{} <= ..;` under `always`",
-                Term::Word(*name),
-            ),
-            DriverHelp::Fill(name) => return Phrase::one(
+            DriverHelp::Assign(_) => "write `assign {} = ..;`, or remove the declaration",
+            DriverHelp::AssignWire(_) => "write `assign {} = ..;`, with a wire",
+            DriverHelp::Start(_) => "write `{} = ..;` under `initial`",
+            DriverHelp::Update(_) => "write `{} <= ..;` under `always`",
+            DriverHelp::Fill(_) =>
                 "write `for (i = 0; i < ..; i = i + 1) {}[i] = ..;` under `initial`",
-                Term::Word(*name),
-            ),
-            DriverHelp::Choice => return Phrase::plain(
-                "take one value by a choice: `n1 ? n2 : n3`",
-            ),
-            DriverHelp::MoveDown => return Phrase::plain(
+            DriverHelp::Choice => "take one value by a choice: `n1 ? n2 : n3`",
+            DriverHelp::MoveDown =>
                 "the assignments are in the order in which the values are computed: move this one down",
-            ),
-            DriverHelp::FromRegister => return Phrase::plain(
+            DriverHelp::FromRegister =>
                 "a register has the value of the cycle before: `assign n0 = r_X;`",
-            ),
-            DriverHelp::Stages => return Phrase::plain(
-                "`ext`, `full` and `ue` have a bit for each stage",
-            ),
-            DriverHelp::ResetForm => return Phrase::plain(
+            DriverHelp::Stages => "`ext`, `full` and `ue` have a bit for each stage",
+            DriverHelp::ResetForm =>
                 "write `if (rst) begin`, the reset list, `end else begin`, the updates, `end`",
-            ),
+        }
+    }
+
+    // The terms of the line.
+    fn terms(&self) -> Terms<'m> {
+        match self {
+            DriverHelp::Assign(name)
+            | DriverHelp::AssignWire(name)
+            | DriverHelp::Start(name)
+            | DriverHelp::Update(name)
+            | DriverHelp::Fill(name) => Terms::One(Term::Word(*name)),
+            _ => Terms::None,
         }
     }
 }
 
 impl<'m> Display for DriverHelp<'m> {
     fn fmt<W: fmt::Write>(&self, f: &mut fmt::Formatter<W>) -> fmt::Result {
-        self.phrase().fmt(f)
+        write_phrase(f, self.text(), &self.terms())
     }
 }

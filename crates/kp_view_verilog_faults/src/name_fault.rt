@@ -1,5 +1,5 @@
 // A violated rule of names: V3.
-use kp_view_help::{Phrase, Term, Word};
+use kp_view_help::{Term, Terms, Word, write_phrase};
 use std::fmt::{self, Display};
 
 /// What a name denotes.
@@ -23,12 +23,6 @@ impl Kind {
             Kind::Sample => "the port of a sample",
             Kind::Port => "a port",
         }
-    }
-}
-
-impl Display for Kind {
-    fn fmt<W: fmt::Write>(&self, f: &mut fmt::Formatter<W>) -> fmt::Result {
-        f.write_str(self.text())
     }
 }
 
@@ -59,27 +53,6 @@ impl Wanted {
             Wanted::Source => "a register, a sample or `ext`",
         }
     }
-
-    // Printed before and after the text.
-    fn quote(self) -> &'static str {
-        match self {
-            Wanted::Port(_) => "`",
-            Wanted::Register
-            | Wanted::File
-            | Wanted::Integer
-            | Wanted::Wire
-            | Wanted::WireOrOutput
-            | Wanted::Source => "",
-        }
-    }
-}
-
-impl Display for Wanted {
-    fn fmt<W: fmt::Write>(&self, f: &mut fmt::Formatter<W>) -> fmt::Result {
-        f.write_str(self.quote())?;
-        f.write_str(self.text())?;
-        f.write_str(self.quote())
-    }
 }
 
 /// What is declared, under a name of a form of its own.
@@ -103,12 +76,6 @@ impl Form {
             Form::Integer => "the integer is `i`",
             Form::Wire => "a wire is `n` and decimal digits",
         }
-    }
-}
-
-impl Display for Form {
-    fn fmt<W: fmt::Write>(&self, f: &mut fmt::Formatter<W>) -> fmt::Result {
-        f.write_str(self.text())
     }
 }
 
@@ -149,59 +116,52 @@ pub enum NameFault<'m> {
 }
 
 impl<'m> NameFault<'m> {
-    // The sentence. Each branch returns: branches that pass different texts don't join.
-    fn phrase(&self) -> Phrase<'m> {
+    // The sentence, in which the terms are printed.
+    fn text(&self) -> &'static str {
         match self {
-            NameFault::WrongForm(form) => return Phrase::one("{}", Term::Text(form.text())),
-            NameFault::Port { name, wanted } => return Phrase::two(
-                "this port is `{}`, not `{}`",
-                Term::Text(*wanted),
-                Term::Word(*name),
-            ),
-            NameFault::Again { name, line } => return Phrase::two(
-                "`{}` is declared already in line {}",
-                Term::Word(*name),
-                Term::Number(*line as u64),
-            ),
-            NameFault::Undeclared { name, wanted } => return Phrase::many(
-                "`{}` is declared nowhere; {}{}{} is wanted here",
-                [
-                    Some(Term::Word(*name)),
-                    Some(Term::Text(wanted.quote())),
-                    Some(Term::Text(wanted.text())),
-                    Some(Term::Text(wanted.quote())),
-                    None,
-                    None,
-                ],
-            ),
-            NameFault::Below { name, line } => return Phrase::two(
-                "`{}` is declared only in line {}, after this use",
-                Term::Word(*name),
-                Term::Number(*line as u64),
-            ),
+            NameFault::WrongForm(form) => form.text(),
+            NameFault::Port { .. } => "this port is `{}`, not `{}`",
+            NameFault::Again { .. } => "`{}` is declared already in line {}",
+            NameFault::Undeclared {
+                wanted: Wanted::Port(_),
+                ..
+            } => "`{}` is declared nowhere; `{}` is wanted here",
+            NameFault::Undeclared { .. } => "`{}` is declared nowhere; {} is wanted here",
+            NameFault::Below { .. } => "`{}` is declared only in line {}, after this use",
+            NameFault::WrongKind {
+                wanted: Wanted::Port(_),
+                ..
+            } => "`{}` is {} (line {}); `{}` is wanted here",
+            NameFault::WrongKind { .. } => "`{}` is {} (line {}); {} is wanted here",
+            NameFault::NoWire(_) => "the output `{}` takes a wire alone",
+            NameFault::NoPort(_) => "the module has no port `{}`",
+        }
+    }
+
+    // The terms of the sentence.
+    fn terms(&self) -> Terms<'m> {
+        match self {
+            NameFault::WrongForm(_) => Terms::None,
+            NameFault::NoWire(name) | NameFault::NoPort(name) => Terms::One(Term::Word(*name)),
+            NameFault::Again { name, line } | NameFault::Below { name, line } => {
+                Terms::Two(Term::Word(*name), Term::Number(*line as u64))
+            }
+            NameFault::Port { name, wanted } => {
+                Terms::Two(Term::Text(*wanted), Term::Word(*name))
+            }
+            NameFault::Undeclared { name, wanted } => {
+                Terms::Two(Term::Word(*name), Term::Text(wanted.text()))
+            }
             NameFault::WrongKind {
                 name,
                 kind,
                 line,
                 wanted,
-            } => return Phrase::many(
-                "`{}` is {} (line {}); {}{}{} is wanted here",
-                [
-                    Some(Term::Word(*name)),
-                    Some(Term::Text(kind.text())),
-                    Some(Term::Number(*line as u64)),
-                    Some(Term::Text(wanted.quote())),
-                    Some(Term::Text(wanted.text())),
-                    Some(Term::Text(wanted.quote())),
-                ],
-            ),
-            NameFault::NoWire(name) => return Phrase::one(
-                "the output `{}` takes a wire alone",
+            } => Terms::Four(
                 Term::Word(*name),
-            ),
-            NameFault::NoPort(name) => return Phrase::one(
-                "the module has no port `{}`",
-                Term::Word(*name),
+                Term::Text(kind.text()),
+                Term::Number(*line as u64),
+                Term::Text(wanted.text()),
             ),
         }
     }
@@ -209,7 +169,7 @@ impl<'m> NameFault<'m> {
 
 impl<'m> Display for NameFault<'m> {
     fn fmt<W: fmt::Write>(&self, f: &mut fmt::Formatter<W>) -> fmt::Result {
-        self.phrase().fmt(f)
+        write_phrase(f, self.text(), &self.terms())
     }
 }
 
@@ -225,44 +185,45 @@ pub enum NameHelp<'m> {
 impl<'m> NameFault<'m> {
     /// What helps, if anything is known to.
     pub fn help(&self) -> Option<NameHelp<'m>> {
-        match self {
-            NameFault::Port { .. } | NameFault::NoPort(_) => Some(NameHelp::Ports),
-            NameFault::Below { .. } => Some(NameHelp::MoveUp),
+        Some(match self {
+            NameFault::Port { .. } | NameFault::NoPort(_) => NameHelp::Ports,
+            NameFault::Below { .. } => NameHelp::MoveUp,
             NameFault::WrongKind {
                 name,
                 kind: Kind::Wire,
                 wanted: Wanted::Source,
                 ..
-            } => Some(NameHelp::Itself(*name)),
-            NameFault::NoWire(name) => Some(NameHelp::WireFirst(*name)),
-            _ => None,
-        }
+            } => NameHelp::Itself(*name),
+            NameFault::NoWire(name) => NameHelp::WireFirst(*name),
+            _ => return None,
+        })
     }
 }
 
 impl<'m> NameHelp<'m> {
-    fn phrase(&self) -> Phrase<'m> {
+    // The line, in which the terms are printed.
+    fn text(&self) -> &'static str {
         match self {
-            NameHelp::Ports => return Phrase::plain(
+            NameHelp::Ports =>
                 "the ports are `clk`, then `rst` if there is one, `ext`, those of the samples, `full`, `ue` and `back`",
-            ),
-            NameHelp::MoveUp => return Phrase::plain(
-                "a name is declared before it is used: move the declaration up",
-            ),
-            NameHelp::Itself(name) => return Phrase::one(
-                "no wire has the value of another wire alone: use `{}` itself",
-                Term::Word(*name),
-            ),
-            NameHelp::WireFirst(name) => return Phrase::one(
+            NameHelp::MoveUp => "a name is declared before it is used: move the declaration up",
+            NameHelp::Itself(_) => "no wire has the value of another wire alone: use `{}` itself",
+            NameHelp::WireFirst(_) =>
                 "assign the value to a wire, as `assign n0 = ..;`, and then write `assign {} = n0;`",
-                Term::Word(*name),
-            ),
+        }
+    }
+
+    // The terms of the line.
+    fn terms(&self) -> Terms<'m> {
+        match self {
+            NameHelp::Itself(name) | NameHelp::WireFirst(name) => Terms::One(Term::Word(*name)),
+            NameHelp::Ports | NameHelp::MoveUp => Terms::None,
         }
     }
 }
 
 impl<'m> Display for NameHelp<'m> {
     fn fmt<W: fmt::Write>(&self, f: &mut fmt::Formatter<W>) -> fmt::Result {
-        self.phrase().fmt(f)
+        write_phrase(f, self.text(), &self.terms())
     }
 }

@@ -1,5 +1,5 @@
 // How a netlist differs from those of a job: V6.
-use kp_view_help::{Phrase, Term, Word};
+use kp_view_help::{Term, Terms, Word, write_phrase};
 use std::fmt::{self, Display};
 
 /// How a netlist differs from those of a job.
@@ -30,61 +30,54 @@ pub enum OtherFault<'t> {
 }
 
 impl<'t> OtherFault<'t> {
-    // The sentence. Each branch returns: branches that pass different texts don't join.
-    fn phrase(&self) -> Phrase<'t> {
+    // The sentence, in which the terms are printed.
+    fn text(&self) -> &'static str {
         match self {
-            OtherFault::Stages { found, wanted } => return Phrase::two(
-                "`ext` of the module has {}, and the job has {} stages",
-                Term::Bits(u64::from(*found)),
-                Term::Number(*wanted),
-            ),
-            OtherFault::NoSample { name, width } => return Phrase::three(
+            OtherFault::Stages { .. } => "`ext` of the module has {}, and the job has {} stages",
+            OtherFault::NoSample { .. } =>
                 "the module has no port `s_{}` of {} for the sample `{}`",
-                Term::Word(*name),
-                Term::Bits(*width),
-                Term::Word(*name),
-            ),
-            OtherFault::NoRegister { name, width } => return Phrase::three(
+            OtherFault::NoRegister { .. } =>
                 "the module has no register `r_{}` of {} for the register `{}`",
-                Term::Word(*name),
-                Term::Bits(*width),
-                Term::Word(*name),
-            ),
+            OtherFault::NoFile { .. } =>
+                "the module has no file `f_{}` with words of {} and addresses of {} for the file `{}`",
+            OtherFault::MoreSamples(_) => "the port `{}` of the module is of no sample of the job",
+            OtherFault::MoreRegisters(_) =>
+                "the register `{}` of the module is no register of the job",
+            OtherFault::MoreFiles(_) => "the file `{}` of the module is no file of the job",
+            OtherFault::Unknown => "the module isn't one of the job",
+        }
+    }
+
+    // The terms of the sentence.
+    fn terms(&self) -> Terms<'t> {
+        match self {
+            OtherFault::Stages { found, wanted } => {
+                Terms::Two(Term::Bits(*found as u64), Term::Number(*wanted))
+            }
+            OtherFault::NoSample { name, width } | OtherFault::NoRegister { name, width } => {
+                Terms::Three(Term::Word(*name), Term::Bits(*width), Term::Word(*name))
+            }
             OtherFault::NoFile {
                 name,
                 width,
                 address,
-            } => return Phrase::many(
-                "the module has no file `f_{}` with words of {} and addresses of {} for the file `{}`",
-                [
-                    Some(Term::Word(*name)),
-                    Some(Term::Bits(*width)),
-                    Some(Term::Bits(*address)),
-                    Some(Term::Word(*name)),
-                    None,
-                    None,
-                ],
-            ),
-            OtherFault::MoreSamples(name) => return Phrase::one(
-                "the port `{}` of the module is of no sample of the job",
+            } => Terms::Four(
+                Term::Word(*name),
+                Term::Bits(*width),
+                Term::Bits(*address),
                 Term::Word(*name),
             ),
-            OtherFault::MoreRegisters(name) => return Phrase::one(
-                "the register `{}` of the module is no register of the job",
-                Term::Word(*name),
-            ),
-            OtherFault::MoreFiles(name) => return Phrase::one(
-                "the file `{}` of the module is no file of the job",
-                Term::Word(*name),
-            ),
-            OtherFault::Unknown => return Phrase::plain("the module isn't one of the job"),
+            OtherFault::MoreSamples(name)
+            | OtherFault::MoreRegisters(name)
+            | OtherFault::MoreFiles(name) => Terms::One(Term::Word(*name)),
+            OtherFault::Unknown => Terms::None,
         }
     }
 }
 
 impl<'t> Display for OtherFault<'t> {
     fn fmt<W: fmt::Write>(&self, f: &mut fmt::Formatter<W>) -> fmt::Result {
-        self.phrase().fmt(f)
+        write_phrase(f, self.text(), &self.terms())
     }
 }
 

@@ -1,6 +1,6 @@
 // Why a text is no module of the subset: V1 and V2.
 use crate::class::Class;
-use kp_view_help::{FoundToken, Phrase, Term};
+use kp_view_help::{FoundToken, Term, Terms, write_phrase};
 use std::fmt::{self, Display};
 
 /// Why a text is no module of the subset.
@@ -53,49 +53,38 @@ fn separator(index: usize, count: usize) -> &'static str {
 }
 
 impl<'t> ReadingFault<'t> {
-    // The sentence, up to the byte or the list that some end with. Each branch returns: branches that pass different texts don't join.
-    fn phrase(&self) -> Phrase<'t> {
+    // The sentence, in which the terms are printed. Where a token is unexpected, the message has a list in it and is printed apart.
+    fn text(&self) -> &'static str {
         match self {
-            ReadingFault::NoToken(_) => return Phrase::plain("no word of the subset begins with "),
-            ReadingFault::LongName(length) => return Phrase::one(
-                "a name has at most 70 bytes; this has {}",
-                Term::Number(*length as u64),
-            ),
-            ReadingFault::OpenComment => return Phrase::plain("no `*/` closes this comment"),
-            ReadingFault::NoNumber => return Phrase::plain(
-                "neither a number below 2^64 nor a literal such as 8'h1f",
-            ),
-            ReadingFault::Unexpected { .. } => return Phrase::plain("expected "),
-            ReadingFault::NoModule(found) => return Phrase::one(
-                "no module continues with {}",
-                Term::Found(*found),
-            ),
-            ReadingFault::Unknown => return Phrase::plain("this violates a rule (docs/VERILOG.md)"),
+            ReadingFault::NoToken(_) => "no word of the subset begins with {}",
+            ReadingFault::LongName(_) => "a name has at most 70 bytes; this has {}",
+            ReadingFault::OpenComment => "no `*/` closes this comment",
+            ReadingFault::NoNumber => "neither a number below 2^64 nor a literal such as 8'h1f",
+            ReadingFault::Unexpected { .. } => "expected ",
+            ReadingFault::NoModule(_) => "no module continues with {}",
+            ReadingFault::Unknown => "this violates a rule (docs/VERILOG.md)",
+        }
+    }
+
+    // The terms of the sentence.
+    fn terms(&self) -> Terms<'t> {
+        match self {
+            ReadingFault::NoToken(byte) => Terms::One(Term::Byte(*byte)),
+            ReadingFault::LongName(length) => Terms::One(Term::Number(*length as u64)),
+            ReadingFault::NoModule(found) => Terms::One(Term::Found(*found)),
+            _ => Terms::None,
         }
     }
 }
 
 impl<'t> Display for ReadingFault<'t> {
     fn fmt<W: fmt::Write>(&self, f: &mut fmt::Formatter<W>) -> fmt::Result {
-        self.phrase().fmt(f)?;
         match self {
-            ReadingFault::NoToken(byte) => write_byte(f, *byte),
-            ReadingFault::Unexpected { found, expected } => write!(f, "{expected}, found {found}"),
-            ReadingFault::LongName(_)
-            | ReadingFault::OpenComment
-            | ReadingFault::NoNumber
-            | ReadingFault::NoModule(_)
-            | ReadingFault::Unknown => Ok(()),
+            ReadingFault::Unexpected { found, expected } => {
+                write!(f, "expected {expected}, found {found}")
+            }
+            _ => { write_phrase(f, self.text(), &self.terms()) }
         }
-    }
-}
-
-fn write_byte<W: fmt::Write>(f: &mut fmt::Formatter<W>, byte: u8) -> fmt::Result {
-    let shown = char::from(byte);
-    if byte > 32 && byte < 127 {
-        write!(f, "`{shown}`")
-    } else {
-        write!(f, "the byte {byte}")
     }
 }
 

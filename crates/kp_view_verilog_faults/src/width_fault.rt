@@ -1,7 +1,7 @@
 // A violated rule of widths: V4.
 use crate::class::mark_text;
 use kp_bits::BinOp;
-use kp_view_help::{Phrase, Term, Word};
+use kp_view_help::{Term, Terms, Word, write_phrase};
 use kp_vlog::Mark;
 use std::fmt::{self, Display};
 
@@ -13,20 +13,14 @@ pub struct Side<'m> {
     pub line: usize,
 }
 
-impl<'m> Side<'m> {
-    fn phrase(&self) -> Phrase<'m> {
-        Phrase::three(
-            "`{}` (line {}) has {}",
+impl<'m> Display for Side<'m> {
+    fn fmt<W: fmt::Write>(&self, f: &mut fmt::Formatter<W>) -> fmt::Result {
+        let terms = Terms::Three(
             Term::Word(self.name),
             Term::Number(self.line as u64),
             Term::Bits(self.width),
-        )
-    }
-}
-
-impl<'m> Display for Side<'m> {
-    fn fmt<W: fmt::Write>(&self, f: &mut fmt::Formatter<W>) -> fmt::Result {
-        self.phrase().fmt(f)
+        );
+        write_phrase(f, "`{}` (line {}) has {}", &terms)
     }
 }
 
@@ -100,120 +94,96 @@ pub enum WidthFault<'m> {
 }
 
 impl<'m> WidthFault<'m> {
-    // The sentence, up to the names that some end with. Each branch returns: branches that pass different texts don't join.
-    fn phrase(&self) -> Phrase<'m> {
+    // The sentence, up to the names that some end with, in which the terms are printed.
+    fn text(&self) -> &'static str {
         match self {
-            WidthFault::Range => return Phrase::plain("a range is `[h:0]`, where h is 63 at most"),
-            WidthFault::StallRange(name) => return Phrase::one(
-                "the range of `{}` is `[h:0]`, where h is 1 to 11",
-                Term::Word(*name),
-            ),
-            WidthFault::BackRange => return Phrase::plain("the range of `back` is `[3:0]`"),
-            WidthFault::Words => return Phrase::plain(
+            WidthFault::Range => "a range is `[h:0]`, where h is 63 at most",
+            WidthFault::StallRange(_) => "the range of `{}` is `[h:0]`, where h is 1 to 11",
+            WidthFault::BackRange => "the range of `back` is `[3:0]`",
+            WidthFault::Words =>
                 "the words of a file are `[0:w]`, where w + 1 is 2, 4, 8 or another power of 2 up to 65,536",
-            ),
-            WidthFault::Files => return Phrase::plain("a module has at most 16 files"),
-            WidthFault::Value { target, found } => return value(*target, *found),
-            WidthFault::Operands { op, .. } => return Phrase::one(
+            WidthFault::Files => "a module has at most 16 files",
+            WidthFault::Value { .. } => "`{}` (line {}) has {}, and this value has {}",
+            WidthFault::Operands { .. } =>
                 "the target and the operands of `{}` have different widths: ",
-                Term::Text(spelling(*op)),
-            ),
-            WidthFault::Compared { op, .. } => return Phrase::one(
-                "the operands of `{}` have different widths: ",
-                Term::Text(spelling(*op)),
-            ),
-            WidthFault::Comparison { op, target } => return comparison(*op, *target),
-            WidthFault::Shifted { op, .. } => return Phrase::one(
+            WidthFault::Compared { .. } => "the operands of `{}` have different widths: ",
+            WidthFault::Comparison { .. } => "`{}` (line {}) has {}, and `{}` gives 1 bit",
+            WidthFault::Shifted { .. } =>
                 "the target and the left operand of `{}` have different widths: ",
-                Term::Text(spelling(*op)),
-            ),
-            WidthFault::Test(_) => return Phrase::plain("a test has 1 bit; "),
-            WidthFault::Branches { .. } => return Phrase::plain(
-                "the target and the branches have different widths: ",
-            ),
-            WidthFault::Slice { high, low, a } => return slice(*high, *low, a.width),
-            WidthFault::Address { file, wanted, .. } => return Phrase::two(
-                "an address of `{}` has {}; ",
-                Term::Word(*file),
-                Term::Bits(*wanted),
-            ),
-            WidthFault::LiteralWidth(width) => return Phrase::one(
-                "a literal has 1 to 64 bits, not {}",
-                Term::Number(*width),
-            ),
-            WidthFault::LiteralValue { value, width } => return Phrase::two(
-                "{} doesn't fit {}",
-                Term::Number(*value),
-                Term::Bits(*width),
-            ),
-            WidthFault::Index { file, words, found } => return Phrase::three(
+            WidthFault::Test(_) => "a test has 1 bit; ",
+            WidthFault::Branches { .. } => "the target and the branches have different widths: ",
+            WidthFault::Slice { high, low, .. } if *high < *low =>
+                "the high number is written first: `[{}:{}]`",
+            WidthFault::Slice { .. } => "bits {} to {} of {}: the bits are numbered {} to 0",
+            WidthFault::Address { .. } => "an address of `{}` has {}; ",
+            WidthFault::LiteralWidth(_) => "a literal has 1 to 64 bits, not {}",
+            WidthFault::LiteralValue { .. } => "{} doesn't fit {}",
+            WidthFault::Index { .. } =>
                 "the words of `{}` are numbered 0 to {}, and {} isn't one of them",
+            WidthFault::Loop { .. } => "the `for` of `{}` goes over all its {} words",
+        }
+    }
+
+    // The terms of the sentence.
+    fn terms(&self) -> Terms<'m> {
+        match self {
+            WidthFault::Operands { op, .. }
+            | WidthFault::Compared { op, .. }
+            | WidthFault::Shifted { op, .. } => Terms::One(Term::Text(spelling(*op))),
+            WidthFault::Value { target, found } => { of_target(*target, Term::Bits(*found)) }
+            WidthFault::Comparison { op, target } => {
+                of_target(*target, Term::Text(spelling(*op)))
+            }
+            WidthFault::Slice { high, low, a } => slice(*high, *low, a.width),
+            WidthFault::StallRange(name) => Terms::One(Term::Word(*name)),
+            WidthFault::Address { file, wanted, .. } => {
+                Terms::Two(Term::Word(*file), Term::Bits(*wanted))
+            }
+            WidthFault::LiteralWidth(width) => Terms::One(Term::Number(*width)),
+            WidthFault::LiteralValue { value, width } => {
+                Terms::Two(Term::Number(*value), Term::Bits(*width))
+            }
+            WidthFault::Index { file, words, found } => Terms::Three(
                 Term::Word(*file),
                 Term::Number(words.saturating_sub(1)),
                 Term::Number(*found),
             ),
-            WidthFault::Loop { file, words } => return Phrase::two(
-                "the `for` of `{}` goes over all its {} words",
-                Term::Word(*file),
-                Term::Number(*words),
-            ),
+            WidthFault::Loop { file, words } => {
+                Terms::Two(Term::Word(*file), Term::Number(*words))
+            }
+            _ => Terms::None,
         }
     }
 }
 
-fn value(target: Side<'_>, found: u64) -> Phrase<'_> {
-    Phrase::many(
-        "`{}` (line {}) has {}, and this value has {}",
-        [
-            Some(Term::Word(target.name)),
-            Some(Term::Number(target.line as u64)),
-            Some(Term::Bits(target.width)),
-            Some(Term::Bits(found)),
-            None,
-            None,
-        ],
+// The terms of a sentence that begins with a target, and one more.
+fn of_target<'m>(target: Side<'m>, last: Term<'m>) -> Terms<'m> {
+    Terms::Four(
+        Term::Word(target.name),
+        Term::Number(target.line as u64),
+        Term::Bits(target.width),
+        last,
     )
 }
 
-fn comparison(op: BinOp, target: Side<'_>) -> Phrase<'_> {
-    Phrase::many(
-        "`{}` (line {}) has {}, and `{}` gives 1 bit",
-        [
-            Some(Term::Word(target.name)),
-            Some(Term::Number(target.line as u64)),
-            Some(Term::Bits(target.width)),
-            Some(Term::Text(spelling(op))),
-            None,
-            None,
-        ],
-    )
-}
-
-// The sentence for the bits of a slice, of a name with this width.
-fn slice(high: u64, low: u64, width: u64) -> Phrase<'static> {
+// The terms of the sentence for the bits of a slice, of a name with this width.
+fn slice<'m>(high: u64, low: u64, width: u64) -> Terms<'m> {
     if high < low {
-        return Phrase::two(
-            "the high number is written first: `[{}:{}]`",
-            Term::Number(low),
+        Terms::Two(Term::Number(low), Term::Number(high))
+    } else {
+        let last = Term::Number(width.saturating_sub(1));
+        Terms::Four(
             Term::Number(high),
-        );
+            Term::Number(low),
+            Term::Bits(width),
+            last,
+        )
     }
-    return Phrase::many(
-        "bits {} to {} of {}: the bits are numbered {} to 0",
-        [
-            Some(Term::Number(high)),
-            Some(Term::Number(low)),
-            Some(Term::Bits(width)),
-            Some(Term::Number(width.saturating_sub(1))),
-            None,
-            None,
-        ],
-    );
 }
 
 impl<'m> Display for WidthFault<'m> {
     fn fmt<W: fmt::Write>(&self, f: &mut fmt::Formatter<W>) -> fmt::Result {
-        self.phrase().fmt(f)?;
+        write_phrase(f, self.text(), &self.terms())?;
         match self {
             WidthFault::Operands { a, b, target, .. } | WidthFault::Branches { a, b, target } => {
                 target.fmt(f)?;
@@ -223,18 +193,7 @@ impl<'m> Display for WidthFault<'m> {
             WidthFault::Compared { a, b, .. } => write_two(f, *a, *b),
             WidthFault::Shifted { a, target, .. } => write_two(f, *target, *a),
             WidthFault::Test(side) | WidthFault::Address { address: side, .. } => side.fmt(f),
-            WidthFault::Range
-            | WidthFault::StallRange(_)
-            | WidthFault::BackRange
-            | WidthFault::Words
-            | WidthFault::Files
-            | WidthFault::Value { .. }
-            | WidthFault::Comparison { .. }
-            | WidthFault::Slice { .. }
-            | WidthFault::LiteralWidth(_)
-            | WidthFault::LiteralValue { .. }
-            | WidthFault::Index { .. }
-            | WidthFault::Loop { .. } => Ok(()),
+            _ => Ok(()),
         }
     }
 }
@@ -286,25 +245,31 @@ impl<'m> WidthFault<'m> {
 }
 
 impl<'m> WidthHelp<'m> {
-    fn phrase(&self) -> Phrase<'m> {
+    // The line, in which the terms are printed.
+    fn text(&self) -> &'static str {
         match self {
-            WidthHelp::Literal { width, value } => return Phrase::three(
-                "it needs {}: `{}'d{}`",
+            WidthHelp::Literal { .. } => "it needs {}: `{}'d{}`",
+            WidthHelp::Loop { .. } => "write `for (i = 0; i < {}; i = i + 1) {}[i] = ..;`",
+        }
+    }
+
+    // The terms of the line.
+    fn terms(&self) -> Terms<'m> {
+        match self {
+            WidthHelp::Literal { width, value } => Terms::Three(
                 Term::Bits(*width),
                 Term::Number(*width),
                 Term::Number(*value),
             ),
-            WidthHelp::Loop { file, words } => return Phrase::two(
-                "write `for (i = 0; i < {}; i = i + 1) {}[i] = ..;`",
-                Term::Number(*words),
-                Term::Word(*file),
-            ),
+            WidthHelp::Loop { file, words } => {
+                Terms::Two(Term::Number(*words), Term::Word(*file))
+            }
         }
     }
 }
 
 impl<'m> Display for WidthHelp<'m> {
     fn fmt<W: fmt::Write>(&self, f: &mut fmt::Formatter<W>) -> fmt::Result {
-        self.phrase().fmt(f)
+        write_phrase(f, self.text(), &self.terms())
     }
 }
