@@ -1,3 +1,4 @@
 pub mod Text
 pub mod Unique
 pub mod Verdict
+mod Picks

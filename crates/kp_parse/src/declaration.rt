@@ -78,7 +78,7 @@ fn register(alloc: Global, tokens: &Tokens<'_>, at: usize) -> Result<(Decl, usiz
     requires { true ≡ (class_at tokens.now at == keyword_class keywords.Reg) }
     ensures { MatchResult result (λ x. Turns tokens.now (Nonterminal DECL) [] (decl_value x.0 ∷ []) at x.1 1) (Ends tokens.now (Nonterminal DECL) [] at) }
 {
-    let (_reg, next) = tokens.keyword(Keyword::Reg, at)?;
+    let (_reg, next) = tokens.taken(at);
     let (typed, next) = parameter(alloc, tokens, next)?;
     let (start, next) = start(tokens, next)?;
     Ok((Decl::Reg(typed.name, typed.width, start), next))
@@ -89,7 +89,7 @@ fn file(alloc: Global, tokens: &Tokens<'_>, at: usize) -> Result<(Decl, usize), 
     requires { true ≡ (class_at tokens.now at == keyword_class keywords.File) }
     ensures { MatchResult result (λ x. Turns tokens.now (Nonterminal DECL) [] (decl_value x.0 ∷ []) at x.1 1) (Ends tokens.now (Nonterminal DECL) [] at) }
 {
-    let (_file, next) = tokens.keyword(Keyword::File, at)?;
+    let (_file, next) = tokens.taken(at);
     let (typed, next) = parameter(alloc, tokens, next)?;
     let (address, next) = bracketed(tokens, next)?;
     let (_end, next) = tokens.mark(Mark::Semicolon, next)?;
@@ -111,7 +111,7 @@ fn pipe(alloc: Global, tokens: &Tokens<'_>, at: usize) -> Result<(Decl, usize), 
     requires { true ≡ (class_at tokens.now at == keyword_class keywords.Pipe) }
     ensures { MatchResult result (λ x. Turns tokens.now (Nonterminal DECL) [] (decl_value x.0 ∷ []) at x.1 1) (Ends tokens.now (Nonterminal DECL) [] at) }
 {
-    let (_pipe, next) = tokens.keyword(Keyword::Pipe, at)?;
+    let (_pipe, next) = tokens.taken(at);
     let (typed, next) = parameter(alloc, tokens, next)?;
     let (_end, next) = tokens.mark(Mark::Semicolon, next)?;
     Ok((Decl::Pipe(typed.name, typed.width), next))
@@ -122,7 +122,7 @@ fn target(alloc: Global, tokens: &Tokens<'_>, at: usize) -> Result<(Decl, usize)
     requires { true ≡ (class_at tokens.now at == keyword_class keywords.Result) }
     ensures { MatchResult result (λ x. Turns tokens.now (Nonterminal DECL) [] (decl_value x.0 ∷ []) at x.1 1) (Ends tokens.now (Nonterminal DECL) [] at) }
 {
-    let (_result, next) = tokens.keyword(Keyword::Result, at)?;
+    let (_result, next) = tokens.taken(at);
     let (typed, next) = parameter(alloc, tokens, next)?;
     let (_arrow, next) = tokens.mark(Mark::Arrow, next)?;
     let (target, next) = tokens.name(alloc, next)?;
@@ -143,10 +143,9 @@ fn target(alloc: Global, tokens: &Tokens<'_>, at: usize) -> Result<(Decl, usize)
 fn index(alloc: Global, tokens: &Tokens<'_>, at: usize) -> Result<(Option<Named>, usize), Fault>
     ensures { MatchResult result (λ x. Turns tokens.now (Nonterminal INDEX) [] (perhaps_named x.0 ∷ []) at x.1 0) (Ends tokens.now (Nonterminal INDEX) [] at) }
 {
-    if !tokens.is_mark(Mark::OpenBracket, at) {
+    let Some((_open, next)) = tokens.next_mark(Mark::OpenBracket, at) else {
         return Ok((None, at));
-    }
-    let (_open, next) = tokens.mark(Mark::OpenBracket, at)?;
+    };
     let (name, next) = tokens.name(alloc, next)?;
     let (_close, next) = tokens.mark(Mark::CloseBracket, next)?;
     Ok((Some(name), next))
@@ -155,10 +154,9 @@ fn index(alloc: Global, tokens: &Tokens<'_>, at: usize) -> Result<(Option<Named>
 fn enable(alloc: Global, tokens: &Tokens<'_>, at: usize) -> Result<(Option<Named>, usize), Fault>
     ensures { MatchResult result (λ x. Turns tokens.now (Nonterminal ENABLE) [] (perhaps_named x.0 ∷ []) at x.1 0) (Ends tokens.now (Nonterminal ENABLE) [] at) }
 {
-    if !tokens.is_keyword(Keyword::When, at) {
+    let Some((_when, next)) = tokens.next_keyword(Keyword::When, at) else {
         return Ok((None, at));
-    }
-    let (_when, next) = tokens.keyword(Keyword::When, at)?;
+    };
     let (name, next) = tokens.name(alloc, next)?;
     Ok((Some(name), next))
 }
@@ -168,7 +166,7 @@ fn hint(alloc: Global, tokens: &Tokens<'_>, at: usize) -> Result<(Decl, usize), 
     requires { true ≡ (class_at tokens.now at == keyword_class keywords.Hint) }
     ensures { MatchResult result (λ x. Turns tokens.now (Nonterminal DECL) [] (decl_value x.0 ∷ []) at x.1 1) (Ends tokens.now (Nonterminal DECL) [] at) }
 {
-    let (_hint, next) = tokens.keyword(Keyword::Hint, at)?;
+    let (_hint, next) = tokens.taken(at);
     let (typed, next) = parameter(alloc, tokens, next)?;
     let (start, next) = start(tokens, next)?;
     Ok((Decl::Hint(typed.name, typed.width, start), next))
@@ -179,7 +177,7 @@ fn sample(alloc: Global, tokens: &Tokens<'_>, at: usize) -> Result<(Decl, usize)
     requires { true ≡ (class_at tokens.now at == keyword_class keywords.Sample) }
     ensures { MatchResult result (λ x. Turns tokens.now (Nonterminal DECL) [] (decl_value x.0 ∷ []) at x.1 1) (Ends tokens.now (Nonterminal DECL) [] at) }
 {
-    let (_sample, next) = tokens.keyword(Keyword::Sample, at)?;
+    let (_sample, next) = tokens.taken(at);
     let (typed, next) = parameter(alloc, tokens, next)?;
     let (stage, next) = stage(tokens, next)?;
     Ok((Decl::Sample(typed.name, typed.width, stage), next))
@@ -265,8 +263,7 @@ fn parameters(
     let mut all = Vec::new(alloc);
     all.push(first)?;
     let mut here = at;
-    'all: while tokens.is_mark(Mark::Comma, here) {
-        let (_comma, next) = tokens.mark(Mark::Comma, here)?;
+    'all: while let Some((_comma, next)) = tokens.next_mark(Mark::Comma, here) {
         let (one, next) = parameter(alloc, tokens, next)?;
         all.push(one)?;
         here = next;

@@ -21,10 +21,9 @@ pub(crate) fn image_section(
 ) -> Result<(Option<List<Image>>, usize), Fault>
     ensures { MatchResult result (λ x. Turns tokens.now (Nonterminal IMAGE) [] (perhaps_images x.0 ∷ []) at x.1 0) (Ends tokens.now (Nonterminal IMAGE) [] at) }
 {
-    if !tokens.is_keyword(Keyword::Image, at) {
+    let Some((_image, next)) = tokens.next_keyword(Keyword::Image, at) else {
         return Ok((None, at));
-    }
-    let (_image, next) = tokens.keyword(Keyword::Image, at)?;
+    };
     let (_open, next) = tokens.mark(Mark::OpenBrace, next)?;
     let (all, next) = images(alloc, tokens, next)?;
     let (_close, next) = tokens.mark(Mark::CloseBrace, next)?;
@@ -92,8 +91,7 @@ fn literals(
     let mut all = Vec::new(alloc);
     all.push(first)?;
     let mut here = at;
-    'all: while tokens.is_mark(Mark::Comma, here) {
-        let (_comma, next) = tokens.mark(Mark::Comma, here)?;
+    'all: while let Some((_comma, next)) = tokens.next_mark(Mark::Comma, here) {
         let (one, next) = tokens.literal(next)?;
         all.push(one)?;
         here = next;
@@ -109,10 +107,9 @@ pub(crate) fn stall_section(
 ) -> Result<(Option<List<Stalls>>, usize), Fault>
     ensures { MatchResult result (λ x. Turns tokens.now (Nonterminal STALLS) [] (perhaps_stalls x.0 ∷ []) at x.1 0) (Ends tokens.now (Nonterminal STALLS) [] at) }
 {
-    if !tokens.is_keyword(Keyword::Stalls, at) {
+    let Some((_stalls, next)) = tokens.next_keyword(Keyword::Stalls, at) else {
         return Ok((None, at));
-    }
-    let (_stalls, next) = tokens.keyword(Keyword::Stalls, at)?;
+    };
     let (_open, next) = tokens.mark(Mark::OpenBrace, next)?;
     let (all, next) = spans(alloc, tokens, next)?;
     let (_close, next) = tokens.mark(Mark::CloseBrace, next)?;
@@ -163,10 +160,9 @@ fn cycles(tokens: &Tokens<'_>, at: usize) -> Result<(Num, Num, Option<Num>, usiz
 fn step(tokens: &Tokens<'_>, at: usize) -> Result<(Option<Num>, usize), Fault>
     ensures { MatchResult result (λ x. Turns tokens.now (Nonterminal STEP) [] (perhaps_number x.0 ∷ []) at x.1 0) (Ends tokens.now (Nonterminal STEP) [] at) }
 {
-    if !tokens.is_keyword(Keyword::Step, at) {
+    let Some((_step, next)) = tokens.next_keyword(Keyword::Step, at) else {
         return Ok((None, at));
-    }
-    let (_step, next) = tokens.keyword(Keyword::Step, at)?;
+    };
     let (number, next) = tokens.number(next)?;
     Ok((Some(number), next))
 }
@@ -179,10 +175,9 @@ pub(crate) fn input_section(
 ) -> Result<(Option<List<Inputs>>, usize), Fault>
     ensures { MatchResult result (λ x. Turns tokens.now (Nonterminal INPUTS) [] (perhaps_inputs x.0 ∷ []) at x.1 0) (Ends tokens.now (Nonterminal INPUTS) [] at) }
 {
-    if !tokens.is_keyword(Keyword::Inputs, at) {
+    let Some((_inputs, next)) = tokens.next_keyword(Keyword::Inputs, at) else {
         return Ok((None, at));
-    }
-    let (_inputs, next) = tokens.keyword(Keyword::Inputs, at)?;
+    };
     let (_open, next) = tokens.mark(Mark::OpenBrace, next)?;
     let (all, next) = entries(alloc, tokens, next)?;
     let (_close, next) = tokens.mark(Mark::CloseBrace, next)?;

@@ -100,7 +100,7 @@ fn read(alloc: Global, tokens: &Tokens<'_>, at: usize) -> Result<(Stmt, usize), 
     requires { true ≡ (class_at tokens.now at == keyword_class keywords.Read) }
     ensures { MatchResult result (λ x. Turns tokens.now (Nonterminal STMT) [] (stmt_value x.0 ∷ []) at x.1 1) (Ends tokens.now (Nonterminal STMT) [] at) }
 {
-    let (place, next) = tokens.keyword(Keyword::Read, at)?;
+    let (place, next) = tokens.taken(at);
     let (name, next) = tokens.name(alloc, next)?;
     let (_equals, next) = tokens.mark(Mark::Equals, next)?;
     let (target, address, terms, next) = source(alloc, tokens, next)?;
@@ -135,10 +135,9 @@ fn source(
 fn address(alloc: Global, tokens: &Tokens<'_>, at: usize) -> Result<(Option<Expr>, usize), Fault>
     ensures { MatchResult result (λ x. Turns tokens.now (Nonterminal ADDRESS) [] (perhaps_expr x.0 ∷ []) at x.1 0) (Ends tokens.now (Nonterminal ADDRESS) [] at) }
 {
-    if !tokens.is_mark(Mark::OpenBracket, at) {
+    let Some((_open, next)) = tokens.next_mark(Mark::OpenBracket, at) else {
         return Ok((None, at));
-    }
-    let (_open, next) = tokens.mark(Mark::OpenBracket, at)?;
+    };
     let (inner, next) = whole_expression(alloc, tokens, next)?;
     let close = tokens.mark(Mark::CloseBracket, next);
     let (closed, _close, next) = with(inner, close)?;
@@ -159,7 +158,7 @@ fn condition(alloc: Global, tokens: &Tokens<'_>, at: usize) -> Result<(Terms, us
     requires { true ≡ (class_at tokens.now at == keyword_class keywords.When) }
     ensures { MatchResult result (λ x. Turns tokens.now (Nonterminal HEDGE) [] (perhaps_expr x.0.guess ∷ perhaps_expr x.0.when ∷ []) at x.1 0) (Ends tokens.now (Nonterminal HEDGE) [] at) }
 {
-    let (_when, next) = tokens.keyword(Keyword::When, at)?;
+    let (_when, next) = tokens.taken(at);
     let (condition, next) = whole_expression(alloc, tokens, next)?;
     let terms = Terms {
         when: Some(condition),
@@ -172,14 +171,13 @@ fn guess(alloc: Global, tokens: &Tokens<'_>, at: usize) -> Result<(Terms, usize)
     requires { false ≡ (class_at tokens.now at == keyword_class keywords.When) }
     ensures { MatchResult result (λ x. Turns tokens.now (Nonterminal HEDGE) [] (perhaps_expr x.0.guess ∷ perhaps_expr x.0.when ∷ []) at x.1 0) (Ends tokens.now (Nonterminal HEDGE) [] at) }
 {
-    if !tokens.is_keyword(Keyword::Guess, at) {
+    let Some((_guess, next)) = tokens.next_keyword(Keyword::Guess, at) else {
         let terms = Terms {
             when: None,
             guess: None,
         };
         return Ok((terms, at));
-    }
-    let (_guess, next) = tokens.keyword(Keyword::Guess, at)?;
+    };
     let (guess, next) = whole_expression(alloc, tokens, next)?;
     let terms = Terms {
         when: None,
@@ -191,10 +189,9 @@ fn guess(alloc: Global, tokens: &Tokens<'_>, at: usize) -> Result<(Terms, usize)
 fn when(alloc: Global, tokens: &Tokens<'_>, at: usize) -> Result<(Option<Expr>, usize), Fault>
     ensures { MatchResult result (λ x. Turns tokens.now (Nonterminal WHEN) [] (perhaps_expr x.0 ∷ []) at x.1 0) (Ends tokens.now (Nonterminal WHEN) [] at) }
 {
-    if !tokens.is_keyword(Keyword::When, at) {
+    let Some((_when, next)) = tokens.next_keyword(Keyword::When, at) else {
         return Ok((None, at));
-    }
-    let (_when, next) = tokens.keyword(Keyword::When, at)?;
+    };
     let (condition, next) = whole_expression(alloc, tokens, next)?;
     Ok((Some(condition), next))
 }
@@ -224,7 +221,7 @@ fn local(alloc: Global, tokens: &Tokens<'_>, at: usize) -> Result<(Stmt, usize),
     requires { true ≡ (class_at tokens.now at == keyword_class keywords.Let) }
     ensures { MatchResult result (λ x. Turns tokens.now (Nonterminal STMT) [] (stmt_value x.0 ∷ []) at x.1 1) (Ends tokens.now (Nonterminal STMT) [] at) }
 {
-    let (place, next) = tokens.keyword(Keyword::Let, at)?;
+    let (place, next) = tokens.taken(at);
     let (name, value, next) = bound(alloc, tokens, next)?;
     let kind = StmtKind::Let(name, value);
     Ok((Stmt { at: place, kind }, next))
@@ -235,7 +232,7 @@ fn put(alloc: Global, tokens: &Tokens<'_>, at: usize) -> Result<(Stmt, usize), F
     requires { true ≡ (class_at tokens.now at == keyword_class keywords.Put) }
     ensures { MatchResult result (λ x. Turns tokens.now (Nonterminal STMT) [] (stmt_value x.0 ∷ []) at x.1 1) (Ends tokens.now (Nonterminal STMT) [] at) }
 {
-    let (place, next) = tokens.keyword(Keyword::Put, at)?;
+    let (place, next) = tokens.taken(at);
     let (name, value, next) = bound(alloc, tokens, next)?;
     let kind = StmtKind::Put(name, value);
     Ok((Stmt { at: place, kind }, next))
@@ -246,7 +243,7 @@ fn set(alloc: Global, tokens: &Tokens<'_>, at: usize) -> Result<(Stmt, usize), F
     requires { true ≡ (class_at tokens.now at == keyword_class keywords.Set) }
     ensures { MatchResult result (λ x. Turns tokens.now (Nonterminal STMT) [] (stmt_value x.0 ∷ []) at x.1 1) (Ends tokens.now (Nonterminal STMT) [] at) }
 {
-    let (place, next) = tokens.keyword(Keyword::Set, at)?;
+    let (place, next) = tokens.taken(at);
     let (name, value, next) = binding(alloc, tokens, next)?;
     let condition = when(alloc, tokens, next);
     let (bound, condition, next) = with((name, value), condition)?;

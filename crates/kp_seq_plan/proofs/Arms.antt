@@ -3,10 +3,10 @@ use Rattle.std.proofs.Common.{◌≡◌, ◌∙◌, ℕ, zero, suc, ◌+◌, ◌
 use Rattle.std.{proofs.lemmas.List.get_or-map, proofs.lemmas.List.length-map, specs.Prelude.sum_by, specs.Option.option_map, specs.Option.option_and_then}
 use Rattle.kp_bits.specs.{Word.Word, Word.not_of, Checked.checked_slice, Checked.checked_zext, Checked.checked_sext, declared.operator.BinOp.BinOp}
 use Rattle.kp_ast.specs.Checked.{all_there}
-use Rattle.kp_seq_plan.specs.{declared.plan.Plan.Plan, declared.code.Typed.Typed, Names.at_place}
+use Rattle.kp_seq_plan.specs.{declared.plan.Plan.Plan, declared.code.Typed.Typed}
 use Rattle.kp_seq_plan.specs.{Plans.Slots, Plans.meaning, Plans.meaning_level, Plans.space, Plans.space_level, Lowering.Gives}
 use Rattle.kp_seq_plan.specs.inner.Parts.{GivesOne, GivesTwo, GivesMux, GivesAll, GivesWord, binary_found, mux_found, joined_found, call_found, call_space}
-use Rattle.kp_seq_plan.proofs.Levels.{fold-Word, fold-Name, fold-Not, fold-Binary, fold-Mux, fold-Slice, fold-Zext, fold-Sext}
+use Rattle.kp_seq_plan.proofs.Levels.{fold-Word, fold-Not, fold-Binary, fold-Mux, fold-Slice, fold-Zext, fold-Sext}
 use Rattle.kp_seq_plan.proofs.{Meaning.V, Meaning.at, Meaning.meaning_parts, Meaning.meaning_call, Meaning.space_parts, Meaning.space_call, Typing.gives_same}
 use Rattle.kp_seq_plan.specs.declared.plan.Plan.TheVariants as ends
 use Rattle.kp_seq_plan.specs.declared.plan.Plan.TheViews as plans

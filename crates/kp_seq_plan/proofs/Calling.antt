@@ -1,9 +1,8 @@
 -- A call of the last function of a name: what its plan means.
-use Rattle.std.proofs.Common.{◌≡◌, ◌≢◌, ◌∙◌, ℕ, zero, suc, ◌+◌, ◌<◌, ◌≤◌, List, [], ◌∷◌, ◌++◌, Option, Some, None, Bool, true, false, cond, not, length, map, take, get_or, refl, ap, sym, subst, arith, ⊎_elim}
-use Rattle.std.proofs.Math.Dec.{eqb-suc-suc}
+use Rattle.std.proofs.Common.{◌≡◌, ◌≢◌, ◌∙◌, ℕ, suc, ◌+◌, ◌<◌, ◌≤◌, List, [], ◌∷◌, ◌++◌, Option, Some, None, Bool, true, false, cond, not, length, map, take, get_or, refl, ap, sym, subst, arith, ⊎_elim}
 use Rattle.std.proofs.lemmas.Bool.{cases_lt, cond-true, cond-false, eq-eqb, ne_eqb, le-ltb, lt-ltb}
 use Rattle.std.proofs.lemmas.List.{map_push, take_more, length-map, length_push, Sums.fold-append, Sums.sum_by_push}
-use Rattle.std.specs.{Prelude.sum_by, Prelude.◌==◌, Prelude.nat_lt, Option.option_map, Option.option_and_then, List.position, List.position_or_len}
+use Rattle.std.specs.{Prelude.◌==◌, Prelude.nat_lt, Option.option_map, Option.option_and_then, List.position, List.position_or_len}
 use Rattle.kp_bits.specs.Word.{Word}
 use Rattle.kp_ast.specs.declared.tree.{Param.Param, FuncDecl.FuncDecl, Decl.Decl, Expr.Expr}
 use Rattle.kp_ast.specs.Expressions.{is_same_name, is_function, look_up, arguments_of}

@@ -1,7 +1,7 @@
 -- What machine words of 64 bits make of numbers that fit a width, and that a value of a width is held.
-use Rattle.std.proofs.Common.{◌≡◌, ◌≢◌, ◌∙◌, ℕ, zero, suc, ◌+◌, ◌-◌, ◌*◌, ◌/◌, ◌%◌, ◌^◌, ◌<◌, ◌≤◌, ◌==◌, ◌&&◌, ◌||◌, Option, Some, None, Bool, true, false, cond, refl, ap, sym, subst, arith, bit_and, bit_or, ⊎_elim, ◌⊎◌}
+use Rattle.std.proofs.Common.{◌≡◌, ◌≢◌, ◌∙◌, ℕ, ◌+◌, ◌-◌, ◌*◌, ◌/◌, ◌%◌, ◌^◌, ◌<◌, ◌≤◌, ◌==◌, ◌&&◌, ◌||◌, Option, Some, None, Bool, true, false, cond, refl, ap, sym, subst, arith, bit_and, bit_or, ⊎_elim, ◌⊎◌}
 use Rattle.std.proofs.lemmas.Bool.{cases_lt, cond-true, cond-false, eqb-true, eq-eqb, ne_eqb, ltb-true, lt-ltb, le-ltb, le-leb, lt-leb, and_left, and_right}
-use Rattle.std.proofs.Math.{Nat.mod-eq_of_lt, Nat.mul-add, Nat.add-mul-mod_self_left, Dec.eqb-suc-suc}
+use Rattle.std.proofs.Math.{Nat.mod-eq_of_lt, Nat.mul-add, Nat.add-mul-mod_self_left}
 use Rattle.std.{proofs.lemmas.Nat.and_mask, proofs.lemmas.Nat.pow-add, proofs.lemmas.Nat.pow_pos, specs.Prelude.nat_lt, specs.Prelude.nat_le}
 use Rattle.std.specs.Option.{option_map, option_and_then}
 use Rattle.kp_bits.specs.Word.{Word, word, IsWord, not_of, and_of, or_of, xor_of, add_of, sub_of, mul_of, eq_of, lt_of, shl_of, shr_of, mux_of, concat_of, slice_of, zext_of, sext_of}

@@ -5,7 +5,7 @@ use Rattle.std.proofs.lemmas.Nat.Bits.{bit_at_or, bit_at-pow_same, bit_at-pow_ot
 use Rattle.std.specs.{Prelude.if◌then◌else◌, Int.bit_at}
 use Rattle.kp_bits.specs.{Word.Word, declared.operator.BinOp.BinOp}
 use Rattle.kp_seq_plan.specs.{declared.code.Code.Code, declared.code.Typed.Typed, Codes.value_of, Codes.value_level, Codes.space_level, Codes.member}
-use Rattle.kp_seq_plan.specs.{Lowering.Holds, inner.Parts.GivesOne, inner.Parts.GivesTwo, inner.Parts.GivesMux, inner.Parts.Replaces, inner.Parts.mux_found}
+use Rattle.kp_seq_plan.specs.{inner.Parts.GivesOne, inner.Parts.GivesTwo, inner.Parts.GivesMux, inner.Parts.Replaces, inner.Parts.mux_found}
 use Rattle.kp_seq_plan.proofs.{CodeCalls.N, CodeCalls.at, Typing.typed, Typing.held_as, Typing.mux_gives}
 use Rattle.kp_seq_plan.proofs.CodeLevels.{code-Word, code-Name, code-Not, code-Binary, code-Mux, code-Slice, code-Same, code-Field, code-Flip, code-Among, code-Case}
 use Rattle.kp_seq_plan.specs.declared.code.Code.TheVariants as leaf

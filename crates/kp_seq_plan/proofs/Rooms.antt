@@ -1,6 +1,6 @@
 -- The values of codes, in order, and the scratch space that they need.
-use Rattle.std.proofs.Common.{◌≡◌, ◌∙◌, ℕ, ◌+◌, ◌<◌, ◌≤◌, suc, zero, List, [], ◌∷◌, ◌++◌, length, get_or, set, take, map, refl, ap, sym, arith}
-use Rattle.std.proofs.lemmas.List.{take_all, take_more_set, map_more, Elements.All-cons, Sums.sum_by-cons}
+use Rattle.std.proofs.Common.{◌≡◌, ◌∙◌, ℕ, ◌+◌, ◌<◌, ◌≤◌, List, [], ◌∷◌, ◌++◌, length, get_or, set, take, map, ap, sym, arith}
+use Rattle.std.proofs.lemmas.List.{take_more_set, map_more, Elements.All-cons, Sums.sum_by-cons}
 use Rattle.std.specs.Prelude.{All, sum_by}
 
 -- if the space suffices for all together, it suffices for each one

@@ -1,6 +1,6 @@
 -- A code of each form has the values of a plan of that form, if its parts do.
 use Rattle.std.proofs.Common.{◌≡◌, ◌≢◌, ◌∙◌, ℕ, zero, suc, ◌+◌, ◌-◌, ◌/◌, ◌%◌, ◌^◌, ◌<◌, ◌≤◌, ◌==◌, List, [], ◌∷◌, ◌++◌, Option, Some, None, Bool, true, false, cond, length, get_or, take, drop, map, refl, ap, sym, subst, arith, ◌*◌, bit_or, bit_and, ⊎_elim, ◌⊎◌, ◌||◌, inl, inr}
-use Rattle.std.proofs.lemmas.List.{take_more, drop_more, drop_all, get_or_past, Sums.sum_by-cons}
+use Rattle.std.proofs.lemmas.List.{take_more, drop_more, get_or_past, Sums.sum_by-cons}
 use Rattle.std.specs.{Prelude.sum_by, Prelude.slice_index, Prelude.nat_le, Option.option_map, Option.option_and_then, Option.option_zip}
 use Rattle.kp_bits.specs.{Word.Word, Word.word, Word.IsWord, Word.not_of, Word.concat_of, Operators.is_shift}
 use Rattle.kp_bits.specs.Checked.{checked_join, checked_joined, checked_slice, checked_zext, checked_sext}

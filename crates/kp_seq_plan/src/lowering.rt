@@ -41,9 +41,15 @@ pub fn code_of(
             binary(alloc, *op, a, b)
         }
         Plan::Mux(test, a, b) => {
-            let test = code_of(alloc, test.get(), widths)?;
             let (a, b) = two_of(alloc, a.get(), b.get(), widths)?;
-            choice(alloc, test, a, b)
+            match code_of(alloc, test.get(), widths) {
+                Ok(test) => choice(alloc, test, a, b),
+                Err(error) => {
+                    drop(a);
+                    drop(b);
+                    Err(error)
+                }
+            }
         }
         Plan::Concat(parts) => joined_of(alloc, parts.as_slice(), widths),
         Plan::Slice(a, hi, lo) => {
@@ -73,8 +79,13 @@ fn two_of(
     ensures { IfOk result (λ c. Gives widths.now (meaning a.now) (space a.now) c.0 × Gives widths.now (meaning b.now) (space b.now) c.1) }
 {
     let a = code_of(alloc, a, widths)?;
-    let b = code_of(alloc, b, widths)?;
-    Ok((a, b))
+    match code_of(alloc, b, widths) {
+        Ok(b) => Ok((a, b)),
+        Err(error) => {
+            drop(a);
+            Err(error)
+        }
+    }
 }
 
 // The code of a concatenation, the first part in the high bits.
@@ -91,7 +102,13 @@ fn joined_of(
     };
     let mut all = code_of(alloc, first, widths)?;
     for part in rest {
-        let low = code_of(alloc, part, widths)?;
+        let low = match code_of(alloc, part, widths) {
+            Ok(low) => low,
+            Err(error) => {
+                drop(all);
+                return Err(error);
+            }
+        };
         all = join(alloc, all, low)?;
     }
     Ok(all)
@@ -152,10 +169,17 @@ fn call(alloc: Global, args: Vec<Code>, body: Option<Typed>) -> Result<Option<Ty
     let Some(body) = body else {
         return Ok(None);
     };
-    Ok(Some(Typed {
-        code: Code::Call(List::new(args), Boxed::new(alloc, body.code)?),
-        width: body.width,
-    }))
+    let width = body.width;
+    match Boxed::new(alloc, body.code) {
+        Ok(body) => {
+            let code = Code::Call(List::new(args), body);
+            Ok(Some(Typed { code, width }))
+        }
+        Err(error) => {
+            drop(args);
+            Err(error)
+        }
+    }
 }
 
 #[tactic(auto, using(crate::proofs::Typing::word_gives))]
@@ -230,6 +254,8 @@ fn operation(alloc: Global, op: BinOp, a: Typed, b: Typed) -> Result<Option<Type
     ensures { IfOk result (λ c. GivesTwo (binary_found op) (Some a) (Some b) c) }
 {
     if !is_meant(op, a.width, b.width) {
+        drop(a);
+        drop(b);
         return Ok(None);
     }
     let width = binary_width(op, a.width);
@@ -249,13 +275,24 @@ fn applied(
 ) -> Result<Code, NoMemory>
     ensures { IfOk result (λ c. Replaces c (codes.Binary op a b width mask)) }
 {
-    if let Some(code) = same(op, &a, &b) {
-        return Ok(code);
+    match single(op, &a, &b) {
+        Some(code) => {
+            drop(a);
+            drop(b);
+            Ok(code)
+        }
+        None => grouped(alloc, op, a, b, width, mask),
     }
-    if let Some(code) = union(op, &a, &b) {
-        return Ok(code);
+}
+
+// The code of a binary operator that a single step computes.
+fn single(op: BinOp, a: &Code, b: &Code) -> Option<Code>
+    ensures { (width mask : ℕ) → IfSome result (λ c. Replaces c (codes.Binary op a.now b.now width mask)) }
+{
+    match same(op, a, b) {
+        Some(code) => Some(code),
+        None => union(op, a, b),
     }
-    grouped(alloc, op, a, b, width, mask)
 }
 
 // The code of a binary operator that no single step computes. In a chain of `|` the last two operands become one set where they can.
@@ -305,17 +342,24 @@ fn regrouped(
 ) -> Result<Code, NoMemory>
     ensures { IfOk result (λ c. Replaces c (codes.Binary op (codes.Binary a.op a.first a.last a.width a.mask) b width mask)) }
 {
-    let set = last_set(op, a.op, a.last.get(), &b);
-    match set {
+    match last_set(op, a.op, a.last.get(), &b) {
         Some(set) => {
-            let last = Boxed::new(alloc, set)?;
-            Ok(Code::Binary(BinOp::Or, a.first, last, width, mask))
+            drop(b);
+            with_set(alloc, a, set, width, mask)
         }
         None => {
             let left = Code::Binary(a.op, a.first, a.last, a.width, a.mask);
             pair(alloc, op, left, b, width, mask)
         }
     }
+}
+
+// A chain of `|` whose last operand becomes this set.
+fn with_set(alloc: Global, a: Chain, set: Code, width: u64, mask: u64) -> Result<Code, NoMemory>
+    ensures { IfOk result (λ c. c ≡ codes.Binary BinOp.Or a.first set width mask) }
+{
+    let last = Boxed::new(alloc, set)?;
+    Ok(Code::Binary(BinOp::Or, a.first, last, width, mask))
 }
 
 // The code of a binary operator on two codes.
@@ -379,9 +423,16 @@ fn set_of(code: &Code) -> Option<(usize, u64)>
 fn boxed(alloc: Global, a: Code, b: Code) -> Result<(Boxed<Code>, Boxed<Code>), NoMemory>
     ensures { IfOk result (λ boxes. boxes ≡ (a, b)) }
 {
-    let a = Boxed::new(alloc, a)?;
-    let b = Boxed::new(alloc, b)?;
-    Ok((a, b))
+    match Boxed::new(alloc, a) {
+        Ok(a) => {
+            let b = Boxed::new(alloc, b)?;
+            Ok((a, b))
+        }
+        Err(error) => {
+            drop(b);
+            Err(error)
+        }
+    }
 }
 
 // Whether the operands have the same width, or the operator is a shift.
@@ -421,6 +472,9 @@ fn chosen(alloc: Global, test: Typed, a: Typed, b: Typed) -> Result<Option<Typed
     ensures { IfOk result (λ c. GivesMux (Some test) (Some a) (Some b) c) }
 {
     if test.width != 1 || a.width != b.width {
+        drop(test);
+        drop(a);
+        drop(b);
         return Ok(None);
     }
     let code = mux(alloc, test.code, a.code, b.code)?;
@@ -431,15 +485,41 @@ fn chosen(alloc: Global, test: Typed, a: Typed, b: Typed) -> Result<Option<Typed
 }
 
 // The code of a choice.
-#[tactic(auto, using(crate::proofs::Replacing::case_of_same, crate::proofs::Replacing::case_of_name, crate::proofs::Replacing::itself))]
+#[tactic(auto, using(crate::proofs::Replacing::itself))]
 fn mux(alloc: Global, test: Code, a: Code, b: Code) -> Result<Code, NoMemory>
     ensures { IfOk result (λ c. Replaces c (codes.Mux test a b)) }
 {
-    let (yes, no) = boxed(alloc, a, b)?;
+    match boxed(alloc, a, b) {
+        Ok((yes, no)) => chosen_by(alloc, test, yes, no),
+        Err(error) => {
+            drop(test);
+            Err(error)
+        }
+    }
+}
+
+// The code of a choice between these two.
+#[tactic(auto, using(crate::proofs::Replacing::itself))]
+fn chosen_by(alloc: Global, test: Code, yes: Boxed<Code>, no: Boxed<Code>) -> Result<Code, NoMemory>
+    ensures { IfOk result (λ c. Replaces c (codes.Mux test yes no)) }
+{
+    let Some((place, word)) = tested(&test) else {
+        let test = Boxed::new(alloc, test)?;
+        return Ok(Code::Mux(test, yes, no));
+    };
+    drop(test);
+    Ok(Code::Case(place, word, yes, no))
+}
+
+// The name that a code tests for being a word, and the word.
+#[tactic(auto, using(crate::proofs::Replacing::case_of_same, crate::proofs::Replacing::case_of_name))]
+fn tested(test: &Code) -> Option<(usize, u64)>
+    ensures { (a b : Code) → IfSome result (λ x. Replaces (codes.Case x.0 x.1 a b) (codes.Mux test.now a b)) }
+{
     match test {
-        Code::Same(place, word) => Ok(Code::Case(place, word, yes, no)),
-        Code::Name(place) => Ok(Code::Case(place, 1, yes, no)),
-        _ => Ok(Code::Mux(Boxed::new(alloc, test)?, yes, no)),
+        Code::Same(place, word) => Some((*place, *word)),
+        Code::Name(place) => Some((*place, 1)),
+        _ => None,
     }
 }
 
@@ -458,6 +538,8 @@ fn joined(alloc: Global, high: Typed, low: Typed) -> Result<Option<Typed>, NoMem
     ensures { IfOk result (λ c. GivesTwo join_found (Some high) (Some low) c) }
 {
     if high.width > 64 || low.width > 64 - high.width {
+        drop(high);
+        drop(low);
         return Ok(None);
     }
     let (top, bottom) = boxed(alloc, high.code, low.code)?;
@@ -475,6 +557,7 @@ fn slice(alloc: Global, a: Option<Typed>, hi: u64, lo: u64) -> Result<Option<Typ
         return Ok(None);
     };
     if lo > hi || hi >= a.width {
+        drop(a);
         return Ok(None);
     }
     let width = hi - lo + 1;
@@ -501,6 +584,7 @@ fn zero_extended(a: Option<Typed>, width: u64) -> Option<Typed>
         return None;
     };
     if a.width > width || width > 64 {
+        drop(a);
         return None;
     }
     Some(Typed {
@@ -517,6 +601,7 @@ fn sign_extended(alloc: Global, a: Option<Typed>, width: u64) -> Result<Option<T
         return Ok(None);
     };
     if a.width > width || width > 64 {
+        drop(a);
         return Ok(None);
     }
     let narrow = mask(a.width);

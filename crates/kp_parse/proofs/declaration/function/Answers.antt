@@ -1,26 +1,27 @@
-use Rattle.std.proofs.Common.{arith, refl}
-use Rattle.kp_grammar.specs.Machine.{make, goes}
-use Rattle.kp_parse_grammar.proofs.{Steps.by_dropped, Steps.one, Steps.exits, Picks.other}
+use Rattle.std.proofs.Common.{arith}
+use Rattle.kp_grammar.specs.Machine.{make}
+use Rattle.kp_parse_grammar.proofs.Steps.{by_dropped, one, exits}
+use Rattle.kp_parse.proofs.Picks.{decl_fn}
 use Rattle.kp_parse.proofs.declaration.function.Goals as goal
 
 pub returns-in_err-_fn : goal.returns-in_err-_fn
 returns-in_err-_fn c =
-    exits _ _ _ c.from_residual.ensures.1 c.in_err-_fn.ensures (λ o h s cs vs. goes _ (other _ _ _ _ c.requires.no_reg (other _ _ _ _ c.requires.no_file (other _ _ _ _ c.requires.no_pipe (other _ _ _ _ c.requires.no_result (other _ _ _ _ c.requires.no_hint (other _ _ _ _ c.requires.no_sample refl)))))) (h _ _ _))
+    exits _ _ _ c.from_residual.ensures.1 c.in_err-_fn.ensures (λ o h s cs vs. decl_fn c.requires.no_reg c.requires.no_file c.requires.no_pipe c.requires.no_result c.requires.no_hint c.requires.no_sample (h _ _ _))
 
 pub returns-in_err-name : goal.returns-in_err-name
 returns-in_err-name c =
-    exits _ _ _ c.from_residual-in_err-name.ensures.1 c.in_err-name.ensures (λ o h s cs vs. goes _ (other _ _ _ _ c.requires.no_reg (other _ _ _ _ c.requires.no_file (other _ _ _ _ c.requires.no_pipe (other _ _ _ _ c.requires.no_result (other _ _ _ _ c.requires.no_hint (other _ _ _ _ c.requires.no_sample refl)))))) (by_dropped c.in_ok-_fn.ensures (h _ _ _)))
+    exits _ _ _ c.from_residual-in_err-name.ensures.1 c.in_err-name.ensures (λ o h s cs vs. decl_fn c.requires.no_reg c.requires.no_file c.requires.no_pipe c.requires.no_result c.requires.no_hint c.requires.no_sample (by_dropped c.in_ok-_fn.ensures (h _ _ _)))
 
 pub returns-in_err-params : goal.returns-in_err-params
 returns-in_err-params c =
-    exits _ _ _ c.from_residual-in_err-params.ensures.1 c.in_err-params.ensures (λ o h s cs vs. goes _ (other _ _ _ _ c.requires.no_reg (other _ _ _ _ c.requires.no_file (other _ _ _ _ c.requires.no_pipe (other _ _ _ _ c.requires.no_result (other _ _ _ _ c.requires.no_hint (other _ _ _ _ c.requires.no_sample refl)))))) (by_dropped c.in_ok-_fn.ensures (c.in_ok-name.ensures.leads _ _ _ _ (h _ _ _))))
+    exits _ _ _ c.from_residual-in_err-params.ensures.1 c.in_err-params.ensures (λ o h s cs vs. decl_fn c.requires.no_reg c.requires.no_file c.requires.no_pipe c.requires.no_result c.requires.no_hint c.requires.no_sample (by_dropped c.in_ok-_fn.ensures (c.in_ok-name.ensures.leads _ _ _ _ (h _ _ _))))
 
 pub returns-in_err-width : goal.returns-in_err-width
 returns-in_err-width c =
-    exits _ _ _ c.from_residual-in_err-width.ensures.1 c.in_err-width.ensures (λ o h s cs vs. goes _ (other _ _ _ _ c.requires.no_reg (other _ _ _ _ c.requires.no_file (other _ _ _ _ c.requires.no_pipe (other _ _ _ _ c.requires.no_result (other _ _ _ _ c.requires.no_hint (other _ _ _ _ c.requires.no_sample refl)))))) (by_dropped c.in_ok-_fn.ensures (c.in_ok-name.ensures.leads _ _ _ _ (c.in_ok-params.ensures.leads _ _ _ _ (h _ _ _)))))
+    exits _ _ _ c.from_residual-in_err-width.ensures.1 c.in_err-width.ensures (λ o h s cs vs. decl_fn c.requires.no_reg c.requires.no_file c.requires.no_pipe c.requires.no_result c.requires.no_hint c.requires.no_sample (by_dropped c.in_ok-_fn.ensures (c.in_ok-name.ensures.leads _ _ _ _ (c.in_ok-params.ensures.leads _ _ _ _ (h _ _ _)))))
 
 pub returns : goal.returns
 returns c = record {
-  leads = λ s cs vs o h. goes _ (other _ _ _ _ c.requires.no_reg (other _ _ _ _ c.requires.no_file (other _ _ _ _ c.requires.no_pipe (other _ _ _ _ c.requires.no_result (other _ _ _ _ c.requires.no_hint (other _ _ _ _ c.requires.no_sample refl)))))) (by_dropped c.in_ok-_fn.ensures (c.in_ok-name.ensures.leads _ _ _ _ (c.in_ok-params.ensures.leads _ _ _ _ (c.in_ok-width.ensures.leads _ _ _ _ (make (rw c.new-params.ensures at h))))));
+  leads = λ s cs vs o h. decl_fn c.requires.no_reg c.requires.no_file c.requires.no_pipe c.requires.no_result c.requires.no_hint c.requires.no_sample (by_dropped c.in_ok-_fn.ensures (c.in_ok-name.ensures.leads _ _ _ _ (c.in_ok-params.ensures.leads _ _ _ _ (c.in_ok-width.ensures.leads _ _ _ _ (make (rw c.new-params.ensures at h))))));
   shrinks = omega (arith, one c.in_ok-_fn.ensures, c.in_ok-name.ensures.shrinks, c.in_ok-params.ensures.shrinks, c.in_ok-width.ensures.shrinks);
 }

@@ -1,21 +1,22 @@
 use Rattle.std.proofs.Common.{arith, refl}
 use Rattle.kp_grammar.specs.Machine.{make}
-use Rattle.kp_parse_grammar.proofs.{Steps.by_dropped, Steps.one, Steps.exits, Picks.goes_at}
+use Rattle.kp_parse_grammar.proofs.Steps.{by_dropped, one, exits}
+use Rattle.kp_parse.proofs.Picks.{decl_sample, isnt_end}
 use Rattle.kp_parse.proofs.declaration.sample.Goals as goal
-
-pub returns-in_err-_sample : goal.returns-in_err-_sample
-returns-in_err-_sample c = exits _ _ _ c.from_residual.ensures.1 c.in_err-_sample.ensures (λ o h s cs vs. goes_at _ c.requires refl (h _ _ _))
 
 pub returns-in_err-typed : goal.returns-in_err-typed
 returns-in_err-typed c =
-    exits _ _ _ c.from_residual-in_err-typed.ensures.1 c.in_err-typed.ensures (λ o h s cs vs. goes_at _ c.requires refl (by_dropped c.in_ok-_sample.ensures (h _ _ _)))
+    exits _ _ _ c.from_residual.ensures.1 c.in_err-typed.ensures (λ o h s cs vs. decl_sample c.requires (by_dropped (c.taken-next.ensures _ c.requires) (h _ _ _)))
 
 pub returns-in_err-stage : goal.returns-in_err-stage
 returns-in_err-stage c =
-    exits _ _ _ c.from_residual-in_err-stage.ensures.1 c.in_err-stage.ensures (λ o h s cs vs. goes_at _ c.requires refl (by_dropped c.in_ok-_sample.ensures (c.in_ok-typed.ensures.leads _ _ _ _ (h _ _ _))))
+    exits _ _ _ c.from_residual-in_err-stage.ensures.1 c.in_err-stage.ensures (λ o h s cs vs. decl_sample c.requires (by_dropped (c.taken-next.ensures _ c.requires) (c.in_ok-typed.ensures.leads _ _ _ _ (h _ _ _))))
 
 pub returns : goal.returns
 returns c = record {
-  leads = λ s cs vs o h. goes_at _ c.requires refl (by_dropped c.in_ok-_sample.ensures (c.in_ok-typed.ensures.leads _ _ _ _ (c.in_ok-stage.ensures.leads _ _ _ _ (make (h)))));
-  shrinks = omega (arith, one c.in_ok-_sample.ensures, c.in_ok-typed.ensures.shrinks, c.in_ok-stage.ensures.shrinks);
+  leads = λ s cs vs o h. decl_sample c.requires (by_dropped (c.taken-next.ensures _ c.requires) (c.in_ok-typed.ensures.leads _ _ _ _ (c.in_ok-stage.ensures.leads _ _ _ _ (make (h)))));
+  shrinks = omega (arith, one (c.taken-next.ensures _ c.requires), c.in_ok-typed.ensures.shrinks, c.in_ok-stage.ensures.shrinks);
 }
+
+pub taken-next-requires : goal.taken-next-requires
+taken-next-requires c = isnt_end _ _ c.requires refl

@@ -1,18 +1,19 @@
-use Rattle.std.proofs.Common.{arith, refl}
-use Rattle.kp_grammar.specs.Machine.{make, goes}
-use Rattle.kp_parse_grammar.proofs.{Steps.by_placed, Steps.one, Steps.exits, Picks.other}
+use Rattle.std.proofs.Common.{arith}
+use Rattle.kp_grammar.specs.Machine.{make}
+use Rattle.kp_parse_grammar.proofs.Steps.{by_placed, one, exits}
+use Rattle.kp_parse.proofs.Picks.{stmt_aim}
 use Rattle.kp_parse.proofs.stage.aim.Goals as goal
 
 pub returns-in_err-place : goal.returns-in_err-place
 returns-in_err-place c =
-    exits _ _ _ c.from_residual.ensures.1 c.in_err-place.ensures (λ o h s cs vs. goes _ (other _ _ _ _ c.requires.no_read (other _ _ _ _ c.requires.no_let (other _ _ _ _ c.requires.no_put (other _ _ _ _ c.requires.no_set refl)))) (h _ _ _))
+    exits _ _ _ c.from_residual.ensures.1 c.in_err-place.ensures (λ o h s cs vs. stmt_aim c.requires.no_read c.requires.no_let c.requires.no_put c.requires.no_set (h _ _ _))
 
 pub returns-in_err-name : goal.returns-in_err-name
 returns-in_err-name c =
-    exits _ _ _ c.from_residual-in_err-name.ensures.1 c.in_err-name.ensures (λ o h s cs vs. goes _ (other _ _ _ _ c.requires.no_read (other _ _ _ _ c.requires.no_let (other _ _ _ _ c.requires.no_put (other _ _ _ _ c.requires.no_set refl)))) (by_placed c.in_ok-place.ensures (h _ _ _)))
+    exits _ _ _ c.from_residual-in_err-name.ensures.1 c.in_err-name.ensures (λ o h s cs vs. stmt_aim c.requires.no_read c.requires.no_let c.requires.no_put c.requires.no_set (by_placed c.in_ok-place.ensures (h _ _ _)))
 
 pub returns : goal.returns
 returns c = record {
-  leads = λ s cs vs o h. goes _ (other _ _ _ _ c.requires.no_read (other _ _ _ _ c.requires.no_let (other _ _ _ _ c.requires.no_put (other _ _ _ _ c.requires.no_set refl)))) (by_placed c.in_ok-place.ensures (c.in_ok-name.ensures.leads _ _ _ _ (make h)));
+  leads = λ s cs vs o h. stmt_aim c.requires.no_read c.requires.no_let c.requires.no_put c.requires.no_set (by_placed c.in_ok-place.ensures (c.in_ok-name.ensures.leads _ _ _ _ (make h)));
   shrinks = omega (arith, one c.in_ok-place.ensures, c.in_ok-name.ensures.shrinks);
 }

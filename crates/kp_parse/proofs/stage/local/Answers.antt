@@ -1,17 +1,18 @@
 use Rattle.std.proofs.Common.{arith, refl}
 use Rattle.kp_grammar.specs.Machine.{make}
-use Rattle.kp_parse_grammar.proofs.{Steps.by_placed, Steps.one, Steps.exits, Picks.goes_at}
+use Rattle.kp_parse_grammar.proofs.Steps.{by_placed, one, exits}
+use Rattle.kp_parse.proofs.Picks.{stmt_let, isnt_end}
 use Rattle.kp_parse.proofs.stage.local.Goals as goal
-
-pub returns-in_err-place : goal.returns-in_err-place
-returns-in_err-place c = exits _ _ _ c.from_residual.ensures.1 c.in_err-place.ensures (λ o h s cs vs. goes_at _ c.requires refl (h _ _ _))
 
 pub returns-in_err-name : goal.returns-in_err-name
 returns-in_err-name c =
-    exits _ _ _ c.from_residual-in_err-name.ensures.1 c.in_err-name.ensures (λ o h s cs vs. goes_at _ c.requires refl (by_placed c.in_ok-place.ensures (h _ _ _)))
+    exits _ _ _ c.from_residual.ensures.1 c.in_err-name.ensures (λ o h s cs vs. stmt_let c.requires (by_placed (c.taken-next.ensures _ c.requires) (h _ _ _)))
 
 pub returns : goal.returns
 returns c = record {
-  leads = λ s cs vs o h. goes_at _ c.requires refl (by_placed c.in_ok-place.ensures (c.in_ok-name.ensures.leads _ _ _ _ (make h)));
-  shrinks = omega (arith, one c.in_ok-place.ensures, c.in_ok-name.ensures.shrinks);
+  leads = λ s cs vs o h. stmt_let c.requires (by_placed (c.taken-next.ensures _ c.requires) (c.in_ok-name.ensures.leads _ _ _ _ (make h)));
+  shrinks = omega (arith, one (c.taken-next.ensures _ c.requires), c.in_ok-name.ensures.shrinks);
 }
+
+pub taken-next-requires : goal.taken-next-requires
+taken-next-requires c = isnt_end _ _ c.requires refl

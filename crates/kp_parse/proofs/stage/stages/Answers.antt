@@ -1,8 +1,8 @@
-use Rattle.std.proofs.{Common.arith, Common.refl, lemmas.List.length_push}
+use Rattle.std.proofs.{Common.arith, lemmas.List.length_push}
 use Rattle.kp_ast.specs.declared.tree.Block.{Block}
 use Rattle.kp_grammar.specs.Machine.{make}
-use Rattle.kp_parse_grammar.{proofs.Steps.exits, proofs.Picks.goes_at, proofs.Picks.goes_past, specs.Tokens.keyword_class}
-use Rattle.kp_lex.specs.declared.token.Keyword.TheVariants as keywords
+use Rattle.kp_parse_grammar.proofs.Steps.{exits}
+use Rattle.kp_parse.proofs.Picks.{stages_1, stages_else}
 use Rattle.kp_parse.proofs.stage.stages.Goals as goal
 
 pub all-init : goal.all-init
@@ -13,16 +13,16 @@ all-init c = rw (c.in_ok-push.ensures.items, c.new-all.ensures.items) (record {
 
 pub returns-in_err-one : goal.returns-in_err-one
 returns-in_err-one c =
-    exits _ _ _ c.from_residual-in_err-one.ensures.1 c.in_err-one.ensures (λ o h s cs vs. c.all.invariant.leads _ _ _ _ (goes_at (keyword_class keywords.Stage) (cc c.is_keyword.ensures) refl (h _ _ _)))
+    exits _ _ _ c.from_residual-in_err-one.ensures.1 c.in_err-one.ensures (λ o h s cs vs. c.all.invariant.leads _ _ _ _ (stages_1 (cc c.is_keyword.ensures) (h _ _ _)))
 
 pub all-preserved : goal.all-preserved
 all-preserved c = rw c.in_ok-push-2.ensures.items (record {
-  leads = λ s cs vs o h. c.all.invariant.leads _ _ _ _ (goes_at (keyword_class keywords.Stage) (cc c.is_keyword.ensures) refl (c.in_ok-one.ensures.leads _ _ _ _ (make (h))));
+  leads = λ s cs vs o h. c.all.invariant.leads _ _ _ _ (stages_1 (cc c.is_keyword.ensures) (c.in_ok-one.ensures.leads _ _ _ _ (make (h))));
   shrinks = omega (arith, c.all.invariant.shrinks, c.in_ok-one.ensures.shrinks, length_push {X = Block});
 })
 
 pub returns : goal.returns
 returns c = record {
-  leads = λ s cs vs o h. c.all.invariant.leads _ _ _ _ (goes_past (keyword_class keywords.Stage) _ _ (cc c.is_keyword.ensures) refl h);
+  leads = λ s cs vs o h. c.all.invariant.leads _ _ _ _ (stages_else (cc c.is_keyword.ensures) h);
   shrinks = omega (arith, c.all.invariant.shrinks);
 }

@@ -1,4 +1,4 @@
-use Rattle.std.proofs.{Common.subst, Common.sym, Common.take, Common.◌+◌, Common.◌++◌, Common.◌∷◌, Common.[], lemmas.Result.IfOk-weaker}
+use Rattle.std.proofs.{Common.subst, Common.sym, Common.take, Common.◌+◌, Common.◌++◌, Common.◌∷◌, Common.[], lemmas.Result.IfOk-weaker, lemmas.List.take_all}
 use Rattle.kp_seq_plan.specs.{Plans.meaning, Plans.space, Lowering.Gives, inner.Parts.AreTyped}
 use Rattle.kp_seq_plan.proofs.Typing.{typed_more, joined_first, joined_next}
 use Rattle.kp_seq_plan.proofs.Arms.{arm_word, arm_not, arm_binary, arm_mux, arm_concat, arm_slice, arm_zext, arm_sext, arm_call, args_none}
@@ -18,12 +18,12 @@ code_of-returns-in_ok-a-in-Binary t c =
     IfOk-weaker _ _ _ (λ k h. arm_binary c.args.widths.now c.args.plan.now k c.in-Binary.a c.get-in-Binary.result.now c.in_ok-a-in-Binary.a c.get-in-Binary.ensures both.0
     c.in-Binary.b c.get-in-Binary-2.result.now c.in_ok-a-in-Binary.b c.get-in-Binary-2.ensures both.1 c.in-Binary.op c.in-Binary.is h) c.binary.ensures
 
-pub code_of-returns-in_ok-a-in-Mux : goal.code_of-returns-in_ok-a-in-Mux
-code_of-returns-in_ok-a-in-Mux t c =
+pub code_of-returns-in-Ok : goal.code_of-returns-in-Ok
+code_of-returns-in-Ok t c =
     let both = c.in_ok-a-in-Mux.ensures in
-    IfOk-weaker _ _ _ (λ k h. arm_mux c.args.widths.now c.args.plan.now k c.in-Mux.test c.get-in-Mux.result.now c.in_ok-test-in-Mux.test c.get-in-Mux.ensures c.in_ok-test-in-Mux.ensures
-    c.in-Mux.a c.get-in-Mux-2.result.now c.in_ok-a-in-Mux.a c.get-in-Mux-2.ensures both.0
-    c.in-Mux.b c.get-in-Mux-3.result.now c.in_ok-a-in-Mux.b c.get-in-Mux-3.ensures both.1 c.in-Mux.is h) c.choice.ensures
+    IfOk-weaker _ _ _ (λ k h. arm_mux c.args.widths.now c.args.plan.now k c.in-Mux.test c.get-in-Mux-3.result.now c.in-Ok.test c.get-in-Mux-3.ensures c.in-Ok.ensures
+    c.in-Mux.a c.get-in-Mux.result.now c.in_ok-a-in-Mux.a c.get-in-Mux.ensures both.0
+    c.in-Mux.b c.get-in-Mux-2.result.now c.in_ok-a-in-Mux.b c.get-in-Mux-2.ensures both.1 c.in-Mux.is h) c.choice.ensures
 
 pub code_of-returns-in-Concat : goal.code_of-returns-in-Concat
 code_of-returns-in-Concat t c =
@@ -72,5 +72,9 @@ joined_of-loop-part-init t c = λ k h.
 pub joined_of-loop-part-preserved : goal.joined_of-loop-part-preserved
 joined_of-loop-part-preserved t c = λ k h.
     c.loop-part.invariant k
-    (joined_next c.args.widths.now c.in-Some.rest.now c.loop-part.part-index c.part-item.result c.loop-part.all c.in_ok-low.low c.in_ok-all-2.all k c.loop-part-test.true c.part-item.is
-    c.in_ok-low.ensures c.in_ok-all-2.ensures h)
+    (joined_next c.args.widths.now c.in-Some.rest.now c.loop-part.part-index c.part-item.result c.loop-part.all c.in-Ok.low c.in_ok-all-2.all k c.loop-part-test.true c.part-item.is
+    c.in-Ok.ensures c.in_ok-all-2.ensures h)
+
+pub args_of-returns : goal.args_of-returns
+args_of-returns t c =
+    subst (λ ps. AreTyped c.args.widths.now ps c.loop-plan.codes.items c.loop-plan.known.items) (take_all c.loop-plan.plan-index c.args.plans.now c.loop-plan-test.false) c.loop-plan.invariant

@@ -1,4 +1,4 @@
-use Rattle.std.{proofs.Common.refl, specs.Option.option_map}
+use Rattle.std.{specs.Option.option_map}
 use Rattle.kp_bits.specs.Word.{not_of}
 use Rattle.kp_seq_plan.specs.declared.code.Code.TheViews as codes
 use Rattle.kp_seq_plan.proofs.{Typing.not_gives, Replacing.replaced_one}

@@ -1,4 +1,6 @@
-use Rattle.std.proofs.{Common.arith, Common.refl, Common.subst, Common.sym, Common.take, Common.◌∙◌, lemmas.Result.IfOk-weaker}
+use Rattle.std.proofs.{Common.arith, Common.refl, Common.ap, Common.subst, Common.sym, Common.take, Common.◌≤◌, Common.◌∙◌, lemmas.Result.IfOk-weaker, lemmas.List.take_all, lemmas.List.Sums.sum_by_push}
+use Rattle.kp_ast.{specs.declared.tree.Decl.Decl, proofs.Weight.weight, proofs.Weight.weight_of}
+use Rattle.kp_ast.specs.declared.tree.Decl.TheVariants as decls
 use Rattle.kp_seq_plan.specs.declared.plan.Plan.TheViews as plans
 use Rattle.kp_seq_plan.specs.Plans.{Means, AllMean, MeansBody}
 use Rattle.kp_seq_plan.proofs.Meaning.{means_Lit, means_Name, means_Not, means_Binary, means_Mux, means_Concat, means_Slice, means_Zext, means_Sext, means_Call}
@@ -17,15 +19,20 @@ pub plan_of-returns-in_ok-a-in-Not : goal.plan_of-returns-in_ok-a-in-Not
 plan_of-returns-in_ok-a-in-Not t c =
     means_Not c.args.decls.now c.args.scope c.args.e.now c.in-Not.a c.get.result.now c.in_ok-a-in-Not.a c.in-Not.is c.get.ensures c.in_ok-a-in-Not.ensures
 
-pub plan_of-returns-in_ok-b-in-Binary : goal.plan_of-returns-in_ok-b-in-Binary
-plan_of-returns-in_ok-b-in-Binary t c =
-    means_Binary c.args.decls.now c.args.scope c.args.e.now c.in-Binary.op c.in-Binary.a c.in-Binary.b c.get-in-Binary.result.now c.get-in-Binary-2.result.now c.in_ok-a-in-Binary.a c.in_ok-b-in-Binary.b
-    c.in-Binary.is c.get-in-Binary.ensures c.get-in-Binary-2.ensures c.in_ok-a-in-Binary.ensures c.in_ok-b-in-Binary.ensures
+pub plan_of-returns-in-Binary : goal.plan_of-returns-in-Binary
+plan_of-returns-in-Binary t c = c.binary_of.ensures c.args.e.now (rw (c.get-in-Binary.ensures, c.get-in-Binary-2.ensures) c.in-Binary.is)
 
-pub plan_of-returns-in_ok-b-in-Mux : goal.plan_of-returns-in_ok-b-in-Mux
-plan_of-returns-in_ok-b-in-Mux t c =
-    means_Mux c.args.decls.now c.args.scope c.args.e.now c.in-Mux.test c.in-Mux.a c.in-Mux.b c.get-in-Mux.result.now c.get-in-Mux-2.result.now c.get-in-Mux-3.result.now c.in_ok-test-in-Mux.test c.in_ok-a-in-Mux.a c.in_ok-b-in-Mux.b
-    c.in-Mux.is c.get-in-Mux.ensures c.get-in-Mux-2.ensures c.get-in-Mux-3.ensures c.in_ok-test-in-Mux.ensures c.in_ok-a-in-Mux.ensures c.in_ok-b-in-Mux.ensures
+pub plan_of-returns-in-Mux : goal.plan_of-returns-in-Mux
+plan_of-returns-in-Mux t c = c.mux_of.ensures c.args.e.now (rw (c.get-in-Mux.ensures, c.get-in-Mux-2.ensures, c.get-in-Mux-3.ensures) c.in-Mux.is)
+
+pub binary_of-returns : goal.binary_of-returns
+binary_of-returns t c = λ e is.
+    means_Binary c.args.decls.now c.args.scope e c.args.op c.args.a.now c.args.b.now c.args.a.now c.args.b.now c.in_ok-a.a c.in_ok-b.b is refl refl c.in_ok-a.ensures c.in_ok-b.ensures
+
+pub mux_of-returns : goal.mux_of-returns
+mux_of-returns t c = λ e is.
+    means_Mux c.args.decls.now c.args.scope e c.args.test.now c.args.a.now c.args.b.now c.args.test.now c.args.a.now c.args.b.now c.in_ok-test.test c.in_ok-a.a c.in_ok-b.b
+    is refl refl refl c.in_ok-test.ensures c.in_ok-a.ensures c.in_ok-b.ensures
 
 pub plan_of-returns-in_ok-a-in-Slice : goal.plan_of-returns-in_ok-a-in-Slice
 plan_of-returns-in_ok-a-in-Slice t c =
@@ -78,3 +85,21 @@ pub body_of-returns-in_ok-body-in-Func : goal.body_of-returns-in_ok-body-in-Func
 body_of-returns-in_ok-body-in-Func t c =
     subst (λ xs. MeansBody c.args.earlier.now c.args.decl.now c.args.args.items (plans.Call xs c.in_ok-body-in-Func.body)) (sym c.new.ensures)
     (right_count c.args.earlier.now c.args.args.items c.args.decl.now c.in-Func.f c.in-Func.is c.as_slice-params.result.now c.as_slice-params.ensures c.in_ok-body-in-Func.body (omega arith) _ (λ q. refl) c.in_ok-body-in-Func.ensures)
+
+pub plans_of-returns : goal.plans_of-returns
+plans_of-returns t c =
+    subst (λ es. AllMean c.args.decls.now c.args.scope es c.loop-e.plans.items) (take_all c.loop-e.e-index c.args.es.now c.loop-e-test.false) c.loop-e.invariant
+
+-- the work of a function, and of those before it
+positive : (d : Decl) → 1 ≤ weight_of d
+positive (decls.Func f) = omega arith
+positive _ = omega arith
+
+pub call_of-call_of-requires : goal.call_of-call_of-requires
+call_of-call_of-requires t c =
+    let d = c.in-Some.decl.now in
+    omega (arith, c.decreases, ap weight c.in-Some.ensures.cases.0, sum_by_push weight_of c.in-Some.earlier.now d, positive d)
+
+pub call_of-body_of-requires : goal.call_of-body_of-requires
+call_of-body_of-requires t c =
+    omega (arith, c.decreases, ap weight c.in-Some.ensures.cases.0, sum_by_push weight_of c.in-Some.earlier.now c.in-Some.decl.now)

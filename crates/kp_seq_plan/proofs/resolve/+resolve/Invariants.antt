@@ -1,4 +1,5 @@
-use Rattle.std.proofs.Common.{◌+◌, ◌*◌, take}
+use Rattle.std.proofs.Common.{◌+◌, ◌*◌, max, take}
+use Rattle.kp_ast.specs.declared.tree.ExprKind.TheViews.{size-Expr}
 use Rattle.kp_ast.proofs.Weight.{weight, weight_of}
 use Rattle.kp_seq_plan.specs.Plans.{AllMean}
 use Rattle.kp_seq_plan.proofs.resolve.+resolve.Given as goal
@@ -8,6 +9,12 @@ decreases-plan_of l = 4 * goal.size-plan_of l + 4 * weight l.decls.now
 
 abbrev pub decreases-part_of : goal.decreases-part_of
 decreases-part_of l = (4 * goal.size-part_of l + 1) + 4 * weight l.decls.now
+
+abbrev pub decreases-binary_of : goal.decreases-binary_of
+decreases-binary_of l = (4 * max (goal.size-binary_of l) (size-Expr l.b.now) + 2) + 4 * weight l.decls.now
+
+abbrev pub decreases-mux_of : goal.decreases-mux_of
+decreases-mux_of l = (4 * max (goal.size-mux_of l) (max (size-Expr l.a.now) (size-Expr l.b.now)) + 2) + 4 * weight l.decls.now
 
 abbrev pub decreases-plans_of : goal.decreases-plans_of
 decreases-plans_of l = (4 * goal.size-plans_of l + 1) + 4 * weight l.decls.now
