@@ -37,7 +37,6 @@ pub fn write_difference<K: Sink>(
     write_line(job.decls.as_slice(), difference, sink)
 }
 
-#[tactic(auto, using(kp_base::proofs::Bytes::writes_next, kp_base::proofs::Bytes::part_more))]
 fn write_line<K: Sink>(
     decls: &[Decl],
     difference: &Difference,
@@ -50,7 +49,8 @@ fn write_line<K: Sink>(
     ensures cause { HasCause (K.faults sink.old) (K.faults sink.new) result }
 {
     write_cycle(difference.cycle, sink)?;
-    write_rest(decls, difference, sink)
+    write_target(decls, difference.target, difference.address, sink)?;
+    write_both(difference.found, difference.due, sink)
 }
 
 #[tactic(auto, unfolding(crate::specs::Texts::cycle_differing))]
@@ -65,23 +65,6 @@ fn write_cycle<K: Sink>(cycle: u32, sink: &mut K) -> Result<(), SinkFault>
         b" ".as_slice(),
     ];
     write_pieces(sink, &pieces)
-}
-
-// The name of the word, and its two values.
-#[tactic(auto, using(kp_base::proofs::Bytes::writes_next, kp_base::proofs::Bytes::part_more))]
-fn write_rest<K: Sink>(
-    decls: &[Decl],
-    difference: &Difference,
-    sink: &mut K,
-) -> Result<(), SinkFault>
-    requires there { difference.now.target < length (targets_of decls.now) }
-    ensures text { Writes (K.held sink.old) (K.held sink.new)
-        (word_named (get_or (targets_of decls.now) difference.now.target no_slot) difference.now.address
-        ++ values_differing difference.now.found difference.now.due) result }
-    ensures cause { HasCause (K.faults sink.old) (K.faults sink.new) result }
-{
-    write_target(decls, difference.target, difference.address, sink)?;
-    write_both(difference.found, difference.due, sink)
 }
 
 #[tactic(auto, unfolding(crate::specs::Texts::values_differing))]

@@ -8,7 +8,7 @@ ghost use Rattle.kp_sched.specs.Monitors.{HasSeen};
 ghost use Rattle.kp_sched.specs.Rows.{row_seen, rows_seen};
 ghost use Rattle.kp_machine.specs.Words.{target};
 ghost use Rattle.kp_run.specs.Boards.{due_behind};
-ghost use Rattle.kp_tool_report.specs.Runs.{number_behind, counts_from, counts_behind, numbers_behind, count_word, count_line, run_text};
+ghost use Rattle.kp_tool_report.specs.Runs.{number_behind, counts_from, counts_behind, count_line, run_text};
 ghost use Rattle.kp_tool_report.specs.States.{lines_of_words, lines_of, state_lines};
 ghost use Rattle.kp_tool_report.specs.inner.Boards.{behind, rest_text, board_text};
 ghost use Rattle.kp_tool_report.specs.inner.Targets.{StandsAt, HasWords, IsSmall};
@@ -78,30 +78,12 @@ fn write_row<K: Sink>(cycle: u64, n: u8, row: Row, sink: &mut K) -> Result<(), S
 }
 
 // The line of the counts after the rows that a monitor has seen.
-#[tactic(auto, using(kp_base::proofs::Bytes::writes_next, kp_base::proofs::Bytes::part_more))]
 fn write_counts<K: Sink>(rows: &[Row], monitor: &Monitor, sink: &mut K) -> Result<(), SinkFault>
     requires { HasSeen monitor.now rows.now }
     ensures text { Writes (K.held sink.old) (K.held sink.new) (count_line monitor.now.stages (rows_seen monitor.now.stages rows.now)) result }
     ensures cause { HasCause (K.faults sink.old) (K.faults sink.new) result }
 {
-    write_count_word(sink)?;
-    write_numbers(rows, monitor, sink)
-}
-
-#[tactic(auto, unfolding(crate::specs::Runs::count_word))]
-fn write_count_word<K: Sink>(sink: &mut K) -> Result<(), SinkFault>
-    ensures text { Writes (K.held sink.old) (K.held sink.new) count_word result }
-    ensures cause { HasCause (K.faults sink.old) (K.faults sink.new) result }
-{
-    write_all(sink, b"count")
-}
-
-#[tactic(auto, using(kp_base::proofs::Bytes::writes_next, kp_base::proofs::Bytes::part_more))]
-fn write_numbers<K: Sink>(rows: &[Row], monitor: &Monitor, sink: &mut K) -> Result<(), SinkFault>
-    requires { HasSeen monitor.now rows.now }
-    ensures text { Writes (K.held sink.old) (K.held sink.new) (numbers_behind monitor.now.stages (rows_seen monitor.now.stages rows.now)) result }
-    ensures cause { HasCause (K.faults sink.old) (K.faults sink.new) result }
-{
+    write_all(sink, b"count")?;
     write_each(rows, monitor, sink)?;
     write_all(sink, b"\n")
 }

@@ -10,7 +10,6 @@ use kp_bits::Bits;
 
 /// Writes the line of a register; `after N` ends it if the number of instructions that the value reflects is given. A fault comes only from the sink,
 /// which then has a prefix of the line.
-#[tactic(auto, using(kp_base::proofs::Bytes::writes_next, kp_base::proofs::Bytes::part_more))]
 pub fn write_register<K: Sink>(
     name: &[u8],
     value: Bits,
@@ -70,7 +69,6 @@ pub fn write_word<K: Sink>(
     write_line(name, address, value, behind, sink)
 }
 
-#[tactic(auto, using(kp_base::proofs::Bytes::writes_next, kp_base::proofs::Bytes::part_more))]
 fn write_line<K: Sink>(
     name: &[u8],
     address: u32,

@@ -1,5 +1,5 @@
 // The lines of a refusal and of an accepted job.
-ghost use Rattle.std.specs.Prelude.{◌≡◌, ◌++◌};
+ghost use Rattle.std.specs.Prelude.{◌≡◌};
 ghost use Rattle.kp_base.specs.Bytes.{Writes};
 ghost use Rattle.kp_base.specs.Causes.{HasCause};
 ghost use Rattle.kp_stage.specs.Counts.{summary_of};
@@ -47,29 +47,12 @@ pub fn write_accepted<K: Sink>(design: &Design, sink: &mut K) -> Result<(), Sink
     write_numbers(design.job().name.name.bytes(), design.summary(), sink)
 }
 
-#[tactic(auto, using(kp_base::proofs::Bytes::writes_next, kp_base::proofs::Bytes::part_more))]
 fn write_numbers<K: Sink>(name: &[u8], numbers: Summary, sink: &mut K) -> Result<(), SinkFault>
     ensures text { Writes (K.held sink.old) (K.held sink.new) (accepted_line name.now numbers) result }
     ensures cause { HasCause (K.faults sink.old) (K.faults sink.new) result }
 {
     write_targets(name, numbers, sink)?;
-    write_rest(numbers, sink)
-}
-
-#[tactic(auto, using(kp_base::proofs::Bytes::writes_next, kp_base::proofs::Bytes::part_more))]
-fn write_rest<K: Sink>(numbers: Summary, sink: &mut K) -> Result<(), SinkFault>
-    ensures text { Writes (K.held sink.old) (K.held sink.new) (pipes_counted numbers ++ (reads_counted numbers ++ samples_counted numbers)) result }
-    ensures cause { HasCause (K.faults sink.old) (K.faults sink.new) result }
-{
     write_pipes(numbers, sink)?;
-    write_last(numbers, sink)
-}
-
-#[tactic(auto, using(kp_base::proofs::Bytes::writes_next, kp_base::proofs::Bytes::part_more))]
-fn write_last<K: Sink>(numbers: Summary, sink: &mut K) -> Result<(), SinkFault>
-    ensures text { Writes (K.held sink.old) (K.held sink.new) (reads_counted numbers ++ samples_counted numbers) result }
-    ensures cause { HasCause (K.faults sink.old) (K.faults sink.new) result }
-{
     write_reads(numbers, sink)?;
     write_samples(numbers, sink)
 }
