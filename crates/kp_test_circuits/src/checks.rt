@@ -16,18 +16,10 @@ pub fn runs(pool: &Pool, parts: &Parts) -> bool
     if !counts_fit(parts) || !outputs_fit(pool, parts) {
         return false;
     }
-    if !parts.samples.as_slice().iter().all(|port| port_fits(port)) {
+    if !ports_fit(parts.samples.as_slice()) || !regs_fit(pool, parts.regs.as_slice()) {
         return false;
     }
-    if !parts.regs.as_slice().iter().all(|reg| reg_fits(pool, reg)) {
-        return false;
-    }
-    if !parts
-        .files
-        .as_slice()
-        .iter()
-        .all(|file| file_fits(pool, file))
-    {
+    if !files_fit(pool, parts.files.as_slice()) {
         return false;
     }
     cells_fit(pool, parts)
@@ -57,6 +49,24 @@ fn node_is(pool: &Pool, a: NodeId, width: u8) -> bool
     ensures { IsTrue result → NodeIs pool.now.nodes a width }
 {
     (a.0 as usize) < pool.nodes().len() && pool.width(a) == width
+}
+
+fn ports_fit(ports: &[Port]) -> bool
+    ensures { IsTrue result → All PortOk ports.now }
+{
+    ports.iter().all(|port| port_fits(port))
+}
+
+fn regs_fit(pool: &Pool, regs: &[NetReg]) -> bool
+    ensures { IsTrue result → All (RegOk pool.now.nodes) regs.now }
+{
+    regs.iter().all(|reg| reg_fits(pool, reg))
+}
+
+fn files_fit(pool: &Pool, files: &[NetFile]) -> bool
+    ensures { IsTrue result → All (FileOk pool.now.nodes) files.now }
+{
+    files.iter().all(|file| file_fits(pool, file))
 }
 
 fn port_fits(port: &Port) -> bool

@@ -5,87 +5,129 @@ ghost use Rattle.kp_net.specs.Widths.{wide};
 ghost use Rattle.kp_fwd.specs.Forward.{BitOk, PairOk, SameWidth, CandidateOk};
 ghost use Rattle.kp_engine.specs.Misses.{BitsOk};
 
-use crate::gates::{Asked, has_room, of_bits, read_nodes, row, source};
-use crate::names::Names;
-use crate::text::{small, value};
+use crate::circuit::Circuit;
+use crate::gates::{is_there, is_wire, of_bits, of_words, read_nodes, row, source};
+use crate::line::Line;
+use crate::nodes::add_node;
+use crate::operations::Op;
+use crate::report::Report;
 use kp_engine::{Sweep, mismatch, sweep};
-use kp_fwd::{Candidate, Carried, Picked, carried, hit_of, select};
+use kp_fwd::{Candidate, carried, hit_of, select};
 use kp_net::NodeId;
 use kp_pool::Pool;
 
-/// The names of stages after a dot.
-const STAGES: [&str; 12] = ["0", "1", "2", "3", "4", "5", "6", "7", "8", "9", "10", "11"];
-
-/// Names the nodes that a line requests. Returns the node of an operation, and `Some(None)` for a call that names several nodes.
+/// Names the nodes that a line requests, and appends the node of an operation. Returns whether the line is well-formed.
 pub fn name<'t>(
+    report: &mut Report,
     pool: &mut Pool,
-    names: &mut Names<'t>,
-    words: &[&'t str],
-) -> Option<Option<NodeId>> {
-    match words.get(2).copied().unwrap_or("") {
-        "select" => name_picked(pool, names, words)?,
-        "carried" => name_carried(pool, names, words)?,
-        "sweep" => name_swept(pool, names, words)?,
-        _ => {
-            let node = made(
-                pool,
-                &Asked {
-                    names: &*names,
-                    words: &*words,
-                },
-            )?;
-            names.name(words, "", node)?;
-            return Some(Some(node));
-        }
+    circuit: &mut Circuit<'t>,
+    line: Line<'t>,
+) -> bool {
+    let Some(op) = Op::named(line.word(2)) else {
+        return false;
+    };
+    match op {
+        Op::Select => nearest(pool, circuit, line),
+        Op::Carried => carry(pool, circuit, line),
+        Op::Sweep => rollback(pool, circuit, line),
+        _ => name_one(report, pool, circuit, line, op),
     }
-    Some(None)
 }
 
-fn made(pool: &mut Pool, asked: &Asked<'_>) -> Option<NodeId> {
-    match asked.head() {
-        "inverse" | "both" | "either" | "pick" => of_bits(pool, asked),
-        "stall" | "update" | "full-next" => of_bits(pool, asked),
-        "join" => row(pool, asked),
-        "hit" => hit(pool, asked),
-        "mismatch" => wrong(pool, asked),
-        _ => source(pool, asked),
+fn name_one<'t>(
+    report: &mut Report,
+    pool: &mut Pool,
+    circuit: &mut Circuit<'t>,
+    line: Line<'t>,
+    op: Op,
+) -> bool {
+    let Some(node) = made(pool, &*circuit, line, op) else {
+        return false;
+    };
+    if !circuit.only_rows {
+        add_node(report, pool.nodes(), line.word(0), node);
+    }
+    circuit.name(line, &[("", node)])
+}
+
+fn made(pool: &mut Pool, circuit: &Circuit<'_>, line: Line<'_>, op: Op) -> Option<NodeId> {
+    if pool.spare() < 1 {
+        return None;
+    }
+    match op {
+        Op::Const | Op::Bit | Op::Ext | Op::Sample | Op::Reg | Op::File => {
+            source(pool, circuit, line, op)
+        }
+        Op::Not | Op::Part | Op::Same | Op::Mux | Op::Binary(_) => {
+            of_words(pool, circuit, line, op)
+        }
+        Op::Join => row(pool, circuit, line),
+        Op::Hit => hit(pool, circuit, line),
+        Op::Mismatch => wrong(pool, circuit, line),
+        _ => of_bits(pool, circuit, line, op),
     }
 }
 
 // Whether a guess is wrong.
-fn wrong(pool: &mut Pool, asked: &Asked<'_>) -> Option<NodeId> {
-    has_room(pool, 64)?;
-    let full = asked.wire(pool, 3, 1)?;
-    let pending = asked.wire(pool, 4, 1)?;
-    let known = asked.wire(pool, 5, 1)?;
-    let truth = asked.node(pool, 6)?;
-    let guess = asked.wire(pool, 7, pool.width(truth))?;
+fn wrong(pool: &mut Pool, circuit: &Circuit<'_>, line: Line<'_>) -> Option<NodeId> {
+    let full = circuit.node(line, 3);
+    let pending = circuit.node(line, 4);
+    let known = circuit.node(line, 5);
+    let truth = circuit.node(line, 6);
+    let guess = circuit.node(line, 7);
+    if pool.spare() < 64 || !is_there(pool, truth) || !is_wire(pool, guess, pool.width(truth)) {
+        return None;
+    }
+    if !is_wire(pool, full, 1) || !is_wire(pool, pending, 1) || !is_wire(pool, known, 1) {
+        return None;
+    }
     Some(mismatch(pool, full, pending, known, truth, guess))
 }
 
 // Whether a stage hits.
-fn hit(pool: &mut Pool, asked: &Asked<'_>) -> Option<NodeId> {
-    has_room(pool, 4)?;
-    let full = asked.wire(pool, 3, 1)?;
-    let is_known = value(asked.words, 4)? == 1;
-    let enable = match *asked.words.get(5)? {
-        "-" => None,
-        _ => Some(asked.wire(pool, 5, 1)?),
+fn hit(pool: &mut Pool, circuit: &Circuit<'_>, line: Line<'_>) -> Option<NodeId> {
+    let Some(known) = line.number(4) else {
+        return None;
     };
-    let address = pair(asked)?;
-    if !may_agree(pool, address) {
+    let full = circuit.node(line, 3);
+    let enable = enable(circuit, line);
+    let address = pair(circuit, line);
+    if pool.spare() < 4 || !is_wire(pool, full, 1) {
         return None;
     }
-    Some(hit_of(pool, full, is_known, enable, address))
+    if !may_enable(pool, enable) || !may_agree(pool, address) {
+        return None;
+    }
+    Some(hit_of(pool, full, known == 1, enable, address))
 }
 
-// The nodes of words 6 and 7, if the line has them.
-fn pair(asked: &Asked<'_>) -> Option<Option<(NodeId, NodeId)>> {
-    let words = asked.words;
-    match words.len() {
-        6 => Some(None),
-        8 => Some(Some((asked.names.node(words, 6)?, asked.names.node(words, 7)?))),
-        _ => None,
+// The node of word 5, or `None` if the word is `-`.
+fn enable(circuit: &Circuit<'_>, line: Line<'_>) -> Option<NodeId> {
+    if line.word(5) == b"-".as_slice() {
+        None
+    } else {
+        Some(circuit.node(line, 5))
+    }
+}
+
+fn may_enable(pool: &Pool, enable: Option<NodeId>) -> bool
+    ensures { IsTrue result → BitOk pool.now enable }
+{
+    match enable {
+        None => true,
+        Some(enable) => is_wire(pool, enable, 1),
+    }
+}
+
+// The nodes of words 6 and 7, if the line has them. If it has more words, the second is in no pool.
+fn pair(circuit: &Circuit<'_>, line: Line<'_>) -> Option<(NodeId, NodeId)> {
+    if line.word(6).is_empty() {
+        return None;
+    }
+    if line.word(8).is_empty() {
+        Some((circuit.node(line, 6), circuit.node(line, 7)))
+    } else {
+        Some((NodeId(u32::MAX), NodeId(u32::MAX)))
     }
 }
 
@@ -99,30 +141,29 @@ fn may_agree(pool: &Pool, address: Option<(NodeId, NodeId)>) -> bool
     }
 }
 
-// The result that a stage carries.
-fn name_carried<'t>(pool: &mut Pool, names: &mut Names<'t>, words: &[&'t str]) -> Option<()> {
-    let carried = carry(
-        pool,
-        &Asked {
-            names: &*names,
-            words: &*words,
-        },
-    )?;
-    names.name(words, "has", carried.has)?;
-    names.name(words, "fresh", carried.fresh)?;
-    names.name(words, "value", carried.value)
-}
-
-fn carry(pool: &mut Pool, asked: &Asked<'_>) -> Option<Carried> {
-    has_room(pool, 8)?;
-    let valid = asked.wire(pool, 3, 1)?;
-    let stored = asked.node(pool, 4)?;
-    let is_last = value(asked.words, 5)? == 1;
-    let set = pair(asked)?;
-    if !may_set(pool, set, pool.width(stored)) {
-        return None;
+// Names the result that a stage carries.
+fn carry<'t>(pool: &mut Pool, circuit: &mut Circuit<'t>, line: Line<'t>) -> bool {
+    let Some(last) = line.number(5) else {
+        return false;
+    };
+    let valid = circuit.node(line, 3);
+    let stored = circuit.node(line, 4);
+    let set = pair(&*circuit, line);
+    if pool.spare() < 8 || !is_wire(pool, valid, 1) || !is_there(pool, stored) {
+        return false;
     }
-    Some(carried(pool, valid, stored, set, is_last))
+    if !may_set(pool, set, pool.width(stored)) {
+        return false;
+    }
+    let result = carried(pool, valid, stored, set, last == 1);
+    circuit.name(
+        line,
+        &[
+            ("has", result.has),
+            ("fresh", result.fresh),
+            ("value", result.value),
+        ],
+    )
 }
 
 // Whether a set has a bit and a value of this width.
@@ -135,56 +176,53 @@ fn may_set(pool: &Pool, set: Option<(NodeId, NodeId)>, width: u8) -> bool
     }
 }
 
-// The nearest hit.
-fn name_picked<'t>(pool: &mut Pool, names: &mut Names<'t>, words: &[&'t str]) -> Option<()> {
-    let picked = nearest(
-        pool,
-        &Asked {
-            names: &*names,
-            words: &*words,
-        },
-    )?;
-    names.name(words, "any", picked.any)?;
-    names.name(words, "ok", picked.ok)?;
-    names.name(words, "value", picked.value)
-}
-
-fn nearest(pool: &mut Pool, asked: &Asked<'_>) -> Option<Picked> {
-    let none = asked.node(pool, 3)?;
+// Names the nearest hit.
+fn nearest<'t>(pool: &mut Pool, circuit: &mut Circuit<'t>, line: Line<'t>) -> bool {
+    let none = circuit.node(line, 3);
     let mut rows = [Candidate {
         hit: none,
         ok: none,
         value: none,
     }; 11];
-    let count = read_rows(asked, &mut rows)?;
-    nearest_of(pool, rows.as_slice().get(..count)?, none)
+    let count = read_rows(&*circuit, line, &mut rows);
+    if 11 < count || (pool.spare() as usize) < 16 * count + 8 || !is_there(pool, none) {
+        return false;
+    }
+    let rows = &rows[..count];
+    if !all_may_give(pool, rows, pool.width(none)) {
+        return false;
+    }
+    let picked = select(pool, rows, none);
+    circuit.name(
+        line,
+        &[
+            ("any", picked.any),
+            ("ok", picked.ok),
+            ("value", picked.value),
+        ],
+    )
 }
 
-// The rows of a line, at most 11, with three names a row; and their number.
-fn read_rows(asked: &Asked<'_>, rows: &mut [Candidate; 11]) -> Option<usize> {
-    let names = asked.words.get(4..)?;
-    for (i, row) in names.chunks(3).enumerate() {
-        *rows.get_mut(i)? = Candidate {
-            hit: asked.names.node(row, 0)?,
-            ok: asked.names.node(row, 1)?,
-            value: asked.names.node(row, 2)?,
+// The rows of a line, at most 11, with three names a row; and their number, or 12 if there are more.
+fn read_rows(circuit: &Circuit<'_>, line: Line<'_>, rows: &mut [Candidate; 11]) -> usize {
+    for i in 0..11usize {
+        let at = 3 * i + 4;
+        if line.word(at).is_empty() {
+            return i;
+        }
+        rows[i] = Candidate {
+            hit: circuit.node(line, at),
+            ok: circuit.node(line, at + 1),
+            value: circuit.node(line, at + 2),
         };
     }
-    Some(names.len() / 3)
+    if line.word(37).is_empty() { 11 } else { 12 }
 }
 
-fn nearest_of(pool: &mut Pool, rows: &[Candidate], none: NodeId) -> Option<Picked>
-    requires { none.0 < length pool.old.nodes }
+fn all_may_give(pool: &Pool, rows: &[Candidate], width: u8) -> bool
+    ensures { IsTrue result → All (CandidateOk pool.now width) rows.now }
 {
-    if rows.len() > 11 {
-        return None;
-    }
-    has_room(pool, 16 * rows.len() as u32 + 8)?;
-    let width = pool.width(none);
-    if !rows.iter().all(|row| may_give(pool, row, width)) {
-        return None;
-    }
-    Some(select(pool, rows, none))
+    rows.iter().all(|row| may_give(pool, row, width))
 }
 
 fn may_give(pool: &Pool, row: &Candidate, width: u8) -> bool
@@ -193,33 +231,21 @@ fn may_give(pool: &Pool, row: &Candidate, width: u8) -> bool
     is_wire(pool, row.hit, 1) && is_wire(pool, row.ok, 1) && is_wire(pool, row.value, width)
 }
 
-// The squashed stages.
-fn name_swept<'t>(pool: &mut Pool, names: &mut Names<'t>, words: &[&'t str]) -> Option<()> {
-    let sweep = rollback(
-        pool,
-        &Asked {
-            names: &*names,
-            words: &*words,
-        },
-    )?;
-    names.name(words, "back", sweep.back)?;
-    for i in 0..12usize {
-        names.name(words, STAGES[i], sweep.swept[i])?;
-    }
-    Some(())
-}
-
-fn rollback(pool: &mut Pool, asked: &Asked<'_>) -> Option<Sweep> {
-    let count = small(asked.words, 3)?;
+// Names the squashed stages.
+fn rollback<'t>(pool: &mut Pool, circuit: &mut Circuit<'t>, line: Line<'t>) -> bool {
+    let Some(count) = line.small(3) else {
+        return false;
+    };
     let mut misses = [NodeId(0); 12];
-    if read_nodes(asked, 4, &mut misses)? != 12 || count < 2 || 12 < count {
-        return None;
+    let given = read_nodes(&*circuit, line, 4, &mut misses);
+    if given != 12 || count < 2 || 12 < count {
+        return false;
     }
-    has_room(pool, 64)?;
-    if !are_bits(pool, &misses) {
-        return None;
+    if pool.spare() < 64 || !are_bits(pool, &misses) {
+        return false;
     }
-    Some(sweep(pool, &misses, count))
+    let sweep = sweep(pool, &misses, count);
+    circuit.name(line, &names_of(sweep))
 }
 
 fn are_bits(pool: &Pool, misses: &[NodeId; 12]) -> bool
@@ -233,16 +259,22 @@ fn are_bits(pool: &Pool, misses: &[NodeId; 12]) -> bool
     true
 }
 
-// Whether a node is in the pool.
-fn is_there(pool: &Pool, a: NodeId) -> bool
-    ensures { IsTrue result → a.0 < length pool.now.nodes }
-{
-    (a.0 as usize) < pool.nodes().len()
-}
-
-/// Whether a node is in the pool, with this width.
-fn is_wire(pool: &Pool, a: NodeId, width: u8) -> bool
-    ensures { IsTrue result → Wire pool.now a width }
-{
-    is_there(pool, a) && pool.width(a) == width
+// The nodes of a rollback, with their parts of the name.
+fn names_of(sweep: Sweep) -> [(&'static str, NodeId); 13] {
+    let swept = sweep.swept;
+    [
+        ("back", sweep.back),
+        ("0", swept[0]),
+        ("1", swept[1]),
+        ("2", swept[2]),
+        ("3", swept[3]),
+        ("4", swept[4]),
+        ("5", swept[5]),
+        ("6", swept[6]),
+        ("7", swept[7]),
+        ("8", swept[8]),
+        ("9", swept[9]),
+        ("10", swept[10]),
+        ("11", swept[11]),
+    ]
 }

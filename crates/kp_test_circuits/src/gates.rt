@@ -1,11 +1,12 @@
 //! The operations; the operands of each are checked before the call.
-ghost use Rattle.std.specs.Prelude.{◌≡◌, ◌<◌, ◌≤◌, length, IfSome, All};
+ghost use Rattle.std.specs.Prelude.{◌≡◌, ◌<◌, ◌≤◌, length, IfSome, IsTrue, All};
 ghost use Rattle.kp_net.specs.Growth.{Held, Wire};
+ghost use Rattle.kp_net.specs.Widths.{KindOk};
 ghost use Rattle.kp_test_circuits.specs.Circuits.{IsRow};
 
-use crate::names::Names;
-use crate::nodes::operator;
-use crate::text::{small, value};
+use crate::circuit::Circuit;
+use crate::line::Line;
+use crate::operations::Op;
 use kp_bits::{BinOp, Bits};
 use kp_engine::{full_next, stall_of, update_of};
 use kp_net::{Kind, Node, NodeId, Operands};
@@ -14,167 +15,124 @@ use kp_net_gates::{
 };
 use kp_pool::Pool;
 
-/// A line `NAME = ..`, and the names that were given before it.
-#[derive(Clone, Copy)]
-pub struct Asked<'a> {
-    pub names: &'a Names<'a>,
-    pub words: &'a [&'a str],
-}
-
-impl<'a> Asked<'a> {
-    /// The operation or the call.
-    pub fn head(&self) -> &'a str {
-        self.words.get(2).copied().unwrap_or("")
-    }
-
-    /// The node that word i names, if it is in the pool.
-    pub fn node(&self, pool: &Pool, i: usize) -> Option<NodeId>
-        ensures { IfSome result (λ a. a.0 < length pool.now.nodes) }
-    {
-        let a = self.names.node(self.words, i)?;
-        if a.0 as usize >= pool.nodes().len() {
-            return None;
-        }
-        Some(a)
-    }
-
-    /// The node that word i names, if it has this width.
-    pub fn wire(&self, pool: &Pool, i: usize, width: u8) -> Option<NodeId>
-        ensures { IfSome result (λ a. Wire pool.now a width) }
-    {
-        let a = self.node(pool, i)?;
-        if pool.width(a) != width {
-            return None;
-        }
-        Some(a)
-    }
-}
-
-/// `Some` if the pool has capacity for `count` more nodes.
-pub fn has_room(pool: &Pool, count: u32) -> Option<()>
-    ensures { IfSome result (λ _. count ≤ pool.now.spare) }
+/// Whether a node is in the pool.
+pub fn is_there(pool: &Pool, a: NodeId) -> bool
+    ensures { IsTrue result → a.0 < length pool.now.nodes }
 {
-    if pool.spare() < count {
-        return None;
-    }
-    Some(())
+    (a.0 as usize) < pool.nodes().len()
 }
 
-/// A number.
-pub fn constant_of(pool: &mut Pool, width: u8, value: u64) -> Option<NodeId> {
-    has_room(pool, 1)?;
-    let word = Bits::new(width, value)?;
-    Some(constant(pool, word.width(), word.value()))
-}
-
-/// A node without operands, a word of a file, or the result of an operation.
-pub fn source(pool: &mut Pool, asked: &Asked<'_>) -> Option<NodeId> {
-    has_room(pool, 1)?;
-    match asked.head() {
-        "const" => constant_of(pool, small(asked.words, 3)?, value(asked.words, 4)?),
-        "bit" => Some(bit(pool, value(asked.words, 3)? == 1)),
-        "ext" => read(pool, asked.names.ext, Kind::Ext),
-        "sample" | "reg" => cell(pool, asked),
-        "file" => word(pool, asked),
-        _ => of_words(pool, asked),
-    }
-}
-
-// The value of a port or a register.
-fn cell(pool: &mut Pool, asked: &Asked<'_>) -> Option<NodeId>
-    requires { 1 ≤ pool.old.spare }
+/// Whether a node is in the pool, with this width.
+pub fn is_wire(pool: &Pool, a: NodeId, width: u8) -> bool
+    ensures { IsTrue result → Wire pool.now a width }
 {
-    let sort = asked.head();
-    let cell = asked.names.cell(sort, *asked.words.get(3)?)?;
-    match sort {
-        "sample" => read(pool, cell.width, Kind::Sample(cell.place)),
-        _ => read(pool, cell.width, Kind::Reg(cell.place)),
-    }
+    is_there(pool, a) && pool.width(a) == width
 }
 
-// The stall word, a sample port or a register.
-fn read(pool: &mut Pool, width: u8, kind: Kind) -> Option<NodeId>
-    requires { 1 ≤ pool.old.spare }
-{
-    if width < 1 || 64 < width {
-        return None;
-    }
-    match kind {
-        Kind::Ext | Kind::Sample(_) | Kind::Reg(_) => Some(pool.node(Node { width, kind })),
+/// A number, if there is one, and capacity for it.
+pub fn constant_of(pool: &mut Pool, word: Option<Bits>) -> Option<NodeId> {
+    match word {
+        Some(word) if 1 <= pool.spare() => Some(constant(pool, word.width(), word.value())),
         _ => None,
     }
 }
 
-// The word of a file at an address.
-fn word(pool: &mut Pool, asked: &Asked<'_>) -> Option<NodeId>
+/// A node without operands, or a word of a file.
+pub fn source(pool: &mut Pool, circuit: &Circuit<'_>, line: Line<'_>, op: Op) -> Option<NodeId>
     requires { 1 ≤ pool.old.spare }
 {
-    let cell = asked.names.cell("file", *asked.words.get(3)?)?;
-    let address = asked.node(pool, 4)?;
-    if cell.width < 1 || 64 < cell.width {
-        return None;
+    let cell = circuit.find(line.word(2), line.word(3));
+    match op {
+        Op::Const => constant_of(pool, line.bits(3)),
+        Op::Bit => match line.number(3) {
+            Some(value) => Some(bit(pool, value == 1)),
+            None => None,
+        },
+        Op::Ext => read(pool, circuit.ext, Kind::Ext),
+        Op::Sample => read(pool, cell.width, Kind::Sample(cell.place)),
+        Op::Reg => read(pool, cell.width, Kind::Reg(cell.place)),
+        _ => {
+            let address = circuit.node(line, 4);
+            if is_there(pool, address) {
+                read(pool, cell.width, Kind::Word(cell.place, address))
+            } else {
+                None
+            }
+        }
     }
-    Some(pool.node(Node {
-        width: cell.width,
-        kind: Kind::Word(cell.place, address),
-    }))
 }
 
-// An operation on words.
-fn of_words(pool: &mut Pool, asked: &Asked<'_>) -> Option<NodeId>
+// The stall word, a sample port, a register or a word of a file.
+fn read(pool: &mut Pool, width: u8, kind: Kind) -> Option<NodeId>
+    requires room { 1 ≤ pool.old.spare }
+    requires right { KindOk pool.old.nodes (length pool.old.nodes) width kind }
+{
+    if width < 1 || 64 < width {
+        return None;
+    }
+    Some(pool.node(Node { width, kind }))
+}
+
+/// An operation on words.
+pub fn of_words(pool: &mut Pool, circuit: &Circuit<'_>, line: Line<'_>, op: Op) -> Option<NodeId>
     requires { 1 ≤ pool.old.spare }
 {
-    let a = asked.node(pool, 3)?;
+    let a = circuit.node(line, 3);
+    let b = circuit.node(line, 4);
+    if !is_there(pool, a) {
+        return None;
+    }
     let width = pool.width(a);
-    match asked.head() {
-        "not" => Some(complement(pool, a, width)),
-        "part" => slice(pool, a, small(asked.words, 4)?, small(asked.words, 5)?),
-        "same" => {
-            let b = asked.wire(pool, 4, width)?;
-            Some(same(pool, a, b, width))
-        }
-        "mux" => choice(pool, a, asked),
-        name => operation(pool, operator(name)?, a, asked),
+    match op {
+        Op::Not => Some(complement(pool, a, width)),
+        Op::Part => slice(pool, a, line.small(4), line.small(5)),
+        Op::Same if is_wire(pool, b, width) => Some(same(pool, a, b, width)),
+        Op::Binary(op) if is_there(pool, b) => operation(pool, op, a, b),
+        Op::Mux if width == 1 => choice(pool, a, b, circuit.node(line, 5)),
+        _ => None,
     }
 }
 
 // `a[hi:lo]`
-fn slice(pool: &mut Pool, a: NodeId, hi: u8, lo: u8) -> Option<NodeId>
+fn slice(pool: &mut Pool, a: NodeId, hi: Option<u8>, lo: Option<u8>) -> Option<NodeId>
     requires room { 1 ≤ pool.old.spare }
     requires there { a.0 < length pool.old.nodes }
 {
     let width = pool.width(a);
-    if hi < lo || width <= hi {
-        return None;
+    match (hi, lo) {
+        (Some(hi), Some(lo)) if lo <= hi && hi < width => Some(part(pool, a, hi, lo, width)),
+        _ => None,
     }
-    Some(part(pool, a, hi, lo, width))
 }
 
 // `test ? yes : no`
-fn choice(pool: &mut Pool, test: NodeId, asked: &Asked<'_>) -> Option<NodeId>
+fn choice(pool: &mut Pool, test: NodeId, yes: NodeId, no: NodeId) -> Option<NodeId>
     requires room { 1 ≤ pool.old.spare }
-    requires there { test.0 < length pool.old.nodes }
+    requires test { Wire pool.old test 1 }
 {
-    let yes = asked.node(pool, 4)?;
+    if !is_there(pool, yes) {
+        return None;
+    }
     let width = pool.width(yes);
-    let no = asked.wire(pool, 5, width)?;
-    if pool.width(test) != 1 {
+    if !is_wire(pool, no, width) {
         return None;
     }
     Some(choose(pool, test, yes, no, width))
 }
 
 // `a + b`, or with another operator.
-fn operation(pool: &mut Pool, op: BinOp, a: NodeId, asked: &Asked<'_>) -> Option<NodeId>
+fn operation(pool: &mut Pool, op: BinOp, a: NodeId, b: NodeId) -> Option<NodeId>
     requires room { 1 ≤ pool.old.spare }
-    requires there { a.0 < length pool.old.nodes }
+    requires left { a.0 < length pool.old.nodes }
+    requires right { b.0 < length pool.old.nodes }
 {
     let width = pool.width(a);
     if op.is_shift() {
-        let b = asked.node(pool, 4)?;
         return Some(binary(pool, op, a, b, width));
     }
-    let b = asked.wire(pool, 4, width)?;
+    if pool.width(b) != width {
+        return None;
+    }
     let width = match op {
         BinOp::Eq | BinOp::Lt => 1,
         _ => width,
@@ -183,59 +141,59 @@ fn operation(pool: &mut Pool, op: BinOp, a: NodeId, asked: &Asked<'_>) -> Option
 }
 
 /// An operation or a call on single bits.
-pub fn of_bits(pool: &mut Pool, asked: &Asked<'_>) -> Option<NodeId> {
-    has_room(pool, 1)?;
-    let a = asked.wire(pool, 3, 1)?;
-    if asked.head() == "inverse" {
-        return Some(inverse(pool, a));
+pub fn of_bits(pool: &mut Pool, circuit: &Circuit<'_>, line: Line<'_>, op: Op) -> Option<NodeId>
+    requires { 1 ≤ pool.old.spare }
+{
+    let a = circuit.node(line, 3);
+    let b = circuit.node(line, 4);
+    if !is_wire(pool, a, 1) {
+        return None;
     }
-    let b = asked.wire(pool, 4, 1)?;
-    match asked.head() {
-        "both" => Some(both(pool, a, b)),
-        "either" => Some(either(pool, a, b)),
-        _ => of_three(pool, a, b, asked),
+    match op {
+        Op::Inverse => Some(inverse(pool, a)),
+        Op::Both if is_wire(pool, b, 1) => Some(both(pool, a, b)),
+        Op::Either if is_wire(pool, b, 1) => Some(either(pool, a, b)),
+        Op::Pick | Op::FullNext | Op::Update | Op::Stall if is_wire(pool, b, 1) => {
+            of_three(pool, op, a, b, circuit.node(line, 5), circuit.node(line, 6))
+        }
+        _ => None,
     }
 }
 
-// An operation or a call on three bits or four.
-fn of_three(pool: &mut Pool, a: NodeId, b: NodeId, asked: &Asked<'_>) -> Option<NodeId>
+// An operation or a call on three bits, or four.
+fn of_three(pool: &mut Pool, op: Op, a: NodeId, b: NodeId, c: NodeId, d: NodeId) -> Option<NodeId>
+    requires room { 1 ≤ pool.old.spare }
     requires first { Wire pool.old a 1 }
     requires second { Wire pool.old b 1 }
 {
-    let c = asked.wire(pool, 5, 1)?;
-    has_room(pool, 1)?;
-    if asked.head() == "pick" {
-        return Some(pick(pool, a, b, c));
+    if !is_wire(pool, c, 1) {
+        return None;
     }
-    has_room(pool, 3)?;
-    if asked.head() == "full-next" {
-        return Some(full_next(pool, a, b, c));
+    match op {
+        Op::Pick => Some(pick(pool, a, b, c)),
+        Op::FullNext if 3 <= pool.spare() => Some(full_next(pool, a, b, c)),
+        Op::Update if 64 <= pool.spare() => Some(update_of(pool, a, b, c)),
+        Op::Stall if 64 <= pool.spare() && is_wire(pool, d, 1) => {
+            Some(stall_of(pool, a, b, c, d))
+        }
+        _ => None,
     }
-    has_room(pool, 64)?;
-    if asked.head() == "update" {
-        return Some(update_of(pool, a, b, c));
-    }
-    let d = asked.wire(pool, 6, 1)?;
-    Some(stall_of(pool, a, b, c, d))
 }
 
 /// `{a, b}`
-pub fn row(pool: &mut Pool, asked: &Asked<'_>) -> Option<NodeId> {
+pub fn row(pool: &mut Pool, circuit: &Circuit<'_>, line: Line<'_>) -> Option<NodeId>
+    requires { 1 ≤ pool.old.spare }
+{
     let mut parts = [NodeId(0); 12];
-    let count = read_nodes(asked, 3, &mut parts)?;
-    row_of(pool, parts.as_slice().get(..count)?)
-}
-
-fn row_of(pool: &mut Pool, parts: &[NodeId]) -> Option<NodeId> {
-    has_room(pool, 1)?;
-    if parts.len() < 2 || 12 < parts.len() {
+    let count = read_nodes(circuit, line, 3, &mut parts);
+    if count < 2 || 12 < count {
         return None;
     }
-    let width = width_of_row(pool, parts)?;
-    if width == 0 {
-        return None;
+    let parts = &parts[..count];
+    match width_of_row(pool, parts) {
+        Some(width) if 1 <= width => Some(join(pool, Operands::new(parts), width)),
+        _ => None,
     }
-    Some(join(pool, Operands::new(parts), width))
 }
 
 // The width of a concatenation of nodes.
@@ -256,11 +214,24 @@ fn width_of_row(pool: &Pool, parts: &[NodeId]) -> Option<u8>
     Some(sum)
 }
 
-/// The nodes that the words from this one on name, at most 12; and their number.
-pub fn read_nodes(asked: &Asked<'_>, first: usize, nodes: &mut [NodeId; 12]) -> Option<usize> {
-    let count = asked.words.len().saturating_sub(first);
-    for i in 0..count {
-        *nodes.get_mut(i)? = asked.names.node(asked.words, first.saturating_add(i))?;
+/// The nodes that the words from this one on name, at most 12; and their number, or 13 if there are more.
+pub fn read_nodes(
+    circuit: &Circuit<'_>,
+    line: Line<'_>,
+    first: usize,
+    nodes: &mut [NodeId; 12],
+) -> usize
+    requires { first ≤ 4 }
+{
+    for i in 0..12usize {
+        if line.word(first + i).is_empty() {
+            return i;
+        }
+        nodes[i] = circuit.node(line, first + i);
     }
-    Some(count)
+    if line.word(first + 12).is_empty() {
+        12
+    } else {
+        13
+    }
 }

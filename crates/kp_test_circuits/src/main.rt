@@ -1,6 +1,7 @@
 //! Reads circuits, and prints the nodes that the pool returns and the runs of the circuits.
 //!
-//! Standard input contains the circuits. Each starts with a line `==== TITLE`. Then follow, one a line:
+//! Standard input contains the circuits. Each starts with its title, a line that is printed, and ends with an empty line. Between them are lines
+//! of words, with one space before each word but the first:
 //!
 //! - `ext W`, `reset`, `sample NAME W`, `reg NAME W START`, `file NAME W A WORD..`: the width of the stall word, that there is a reset,
 //!   and the ports, registers and files. A file has 2^A words, of which those that are not given are 0;
@@ -22,125 +23,117 @@
 //! its row, and registers and files after it. What is not well-formed, or exceeds the capacity, is `refused`.
 #![tactic(auto)]
 
+ghost use Rattle.std.specs.Prelude.{◌<◌, ◌≤◌, length};
+
 mod checks;
 mod circuit;
 mod controls;
 mod gates;
-mod names;
+mod line;
 mod nodes;
+mod operations;
+mod report;
 mod run;
-mod text;
 
 use circuit::Circuit;
-use kp_net::NodeId;
 use kp_pool::Pool;
-use nodes::{add_depths, print_kind};
-use run::print_run;
-use std::alloc::Global;
+use line::{Line, cut};
+use nodes::ROOM;
+use report::{Report, Term};
+use run::{add_run, netlist};
+use std::alloc::{AllocError, Global};
 use std::io;
-
-/// The capacity of a circuit's pool, in nodes.
-const ROOM: u32 = 256;
+use std::io::{Read, Write};
 
 fn main(rt: HostRuntime) -> io::Result<()> {
     let alloc = rt.alloc();
-    let text = io::read_to_string(alloc, rt.reader())?;
-    for case in text.split("==== ").skip(1) {
-        print_case(&rt, alloc, case)?;
+    let mut text = Vec::new(alloc);
+    rt.reader().read_to_end(&mut text)?;
+    let mut report = Report::new(alloc);
+    add_cases(&mut report, alloc, text.as_slice());
+    match report.text() {
+        Some(text) => io::writer(&rt).write_all(text),
+        None => Err(AllocError.into()),
     }
-    Ok(())
 }
 
-fn print_case(rt: &impl Print, alloc: Global, case: &str) -> io::Result<()> {
-    let title = case.lines().next().unwrap_or("");
-    println!(rt; "==== {title}")?;
+fn add_cases(report: &mut Report, alloc: Global, text: &[u8]) {
+    let mut rest = text;
+    while !rest.is_empty() {
+        let (case, after) = cut_case(rest);
+        rest = after;
+        add_case(report, alloc, case);
+    }
+}
+
+// The text before the first empty line, and the text after it.
+fn cut_case(text: &[u8]) -> (&[u8], &[u8])
+    ensures { 1 ≤ length text.now → length result.1.now < length text.now }
+{
+    for at in 1..text.len() {
+        if text[at - 1] == b'\n' && text[at] == b'\n' {
+            return (&text[..at], &text[at + 1..]);
+        }
+    }
+    (text, &[])
+}
+
+fn add_case(report: &mut Report, alloc: Global, case: &[u8]) {
+    let (title, lines) = cut(case, b'\n');
+    report.add(&[Term::Text(title), Term::Text(b"\n")]);
     let mut circuit = Circuit::new(alloc);
-    let printed = print_circuit(rt, alloc, &mut circuit, case);
-    drop(circuit);
-    printed?;
-    rt.println("")
+    match Pool::reserve(alloc, ROOM) {
+        Ok(pool) => add_circuit(report, alloc, pool, &mut circuit, lines),
+        Err(_) => report.add(&[Term::Text(b"refused\n")]),
+    }
+    report.add(&[Term::Text(b"\n")]);
 }
 
-fn print_circuit<'t>(
-    rt: &impl Print,
+// Appends the nodes that the lines of a circuit name, and its run.
+fn add_circuit<'t>(
+    report: &mut Report,
     alloc: Global,
+    mut pool: Pool,
     circuit: &mut Circuit<'t>,
-    case: &'t str,
-) -> io::Result<()> {
-    let Ok(mut pool) = Pool::reserve(alloc, ROOM) else {
-        return rt.println("refused");
-    };
-    print_lines(rt, alloc, &mut pool, circuit, case)?;
-    if circuit.runs {
-        let parts = circuit.parts(alloc, &mut pool);
-        print_run(rt, alloc, pool, parts, case)
-    } else {
-        drop(pool);
-        Ok(())
+    lines: &'t [u8],
+) {
+    add_lines(report, alloc, &mut pool, circuit, lines);
+    if !circuit.runs {
+        return;
+    }
+    match netlist(alloc, pool, circuit) {
+        Some(net) => add_run(report, alloc, &net, lines),
+        None => report.add(&[Term::Text(b"refused\n")]),
     }
 }
 
-// Processes the lines of the circuit, and prints the nodes that they name.
-fn print_lines<'t>(
-    rt: &impl Print,
-    alloc: Global,
-    pool: &mut Pool,
-    circuit: &mut Circuit<'t>,
-    case: &'t str,
-) -> io::Result<()> {
-    let mut depths = Vec::new(alloc);
-    for line in case.lines().skip(1) {
-        let words = line.split_whitespace().collect::<Vec<&str>>(alloc)?;
-        let name = words.first().copied().unwrap_or("");
-        match taken(alloc, pool, circuit, &words) {
-            Some(Some(id)) if !circuit.only_rows => print_node(rt, pool, &mut depths, name, id)?,
-            Some(_) => {}
-            None => print_refused(rt, name)?,
-        }
-    }
-    if circuit.only_rows {
-        return Ok(());
-    }
-    println!(rt; "nodes {}", pool.nodes().len())
-}
-
-// Processes a line, if it is well-formed. Returns the node of an operation.
-fn taken<'t>(
+// Processes the lines of a circuit, and appends the nodes that they name.
+fn add_lines<'t>(
+    report: &mut Report,
     alloc: Global,
     pool: &mut Pool,
     circuit: &mut Circuit<'t>,
-    words: &[&'t str],
-) -> Option<Option<NodeId>> {
-    match words.get(1).copied().unwrap_or("") {
-        "=" => controls::name(pool, &mut circuit.names, words),
-        _ => {
-            circuit.take(alloc, words)?;
-            Some(None)
+    lines: &'t [u8],
+) {
+    let mut rest = lines;
+    while !rest.is_empty() {
+        let (text, after) = cut(rest, b'\n');
+        rest = after;
+        let line = Line(text);
+        let is_taken = if line.word(1) == b"=".as_slice() {
+            controls::name(report, pool, circuit, line)
+        } else {
+            circuit.take(alloc, &*pool, line)
+        };
+        if !is_taken {
+            report.add(&[Term::Text(line.word(0)), Term::Text(b": refused\n")]);
         }
     }
-}
-
-fn print_refused(rt: &impl Print, name: &str) -> io::Result<()> {
-    println!(rt; "{name}: refused")
-}
-
-fn print_node(
-    rt: &impl Print,
-    pool: &Pool,
-    depths: &mut Vec<u32>,
-    name: &str,
-    id: NodeId,
-) -> io::Result<()> {
-    let nodes = pool.nodes();
-    add_depths(depths, nodes)?;
-    let place = id.0 as usize;
-    let (Some(node), Some(depth)) = (nodes.get(place), depths.get(place)) else {
-        return Ok(());
-    };
-    print!(rt;
-        "{name} = {place}, width {}, depth {}: ",
-        node.width, *depth
-    )?;
-    print_kind(rt, &node.kind)?;
-    rt.println("")
+    if !circuit.only_rows {
+        report.add(&[
+            Term::Text(b"nodes "),
+            Term::Number(pool.nodes().len() as u64),
+            Term::Text(b"\n"),
+        ]);
+    }
 }

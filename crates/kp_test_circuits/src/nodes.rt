@@ -1,88 +1,84 @@
 //! Nodes as text, and their depths.
-use kp_bits::BinOp;
+use crate::operations::name_of;
+use crate::report::{Report, Term};
 use kp_net::{Kind, Node, NodeId};
-use std::io;
 
-/// The operator with a name.
-pub fn operator(name: &str) -> Option<BinOp> {
-    match name {
-        "and" => Some(BinOp::And),
-        "or" => Some(BinOp::Or),
-        "xor" => Some(BinOp::Xor),
-        "add" => Some(BinOp::Add),
-        "sub" => Some(BinOp::Sub),
-        "mul" => Some(BinOp::Mul),
-        "eq" => Some(BinOp::Eq),
-        "lt" => Some(BinOp::Lt),
-        "shl" => Some(BinOp::Shl),
-        "shr" => Some(BinOp::Shr),
-        _ => None,
-    }
+/// The most nodes of a circuit.
+pub const ROOM: u32 = 256;
+
+/// Appends the line of a node: its name, number, width, depth and kind.
+pub fn add_node(report: &mut Report, nodes: &[Node], name: &[u8], id: NodeId) {
+    let Some(node) = nodes.get(id.0 as usize) else {
+        return;
+    };
+    report.add(&[
+        Term::Text(name),
+        Term::Text(b" = "),
+        Term::Number(u64::from(id.0)),
+        Term::Text(b", width "),
+        Term::Number(u64::from(node.width)),
+        Term::Text(b", depth "),
+        Term::Number(u64::from(depth(nodes, id))),
+        Term::Text(b": "),
+    ]);
+    add_kind(report, &node.kind);
+    report.add(&[Term::Text(b"\n")]);
 }
 
-fn name_of(op: BinOp) -> &'static str {
-    match op {
-        BinOp::And => "and",
-        BinOp::Or => "or",
-        BinOp::Xor => "xor",
-        BinOp::Add => "add",
-        BinOp::Sub => "sub",
-        BinOp::Mul => "mul",
-        BinOp::Eq => "eq",
-        BinOp::Lt => "lt",
-        BinOp::Shl => "shl",
-        BinOp::Shr => "shr",
-    }
-}
-
-/// Prints the kind of a node: its operation with its numbers, including those of nodes.
-pub fn print_kind(rt: &impl Print, kind: &Kind) -> io::Result<()> {
+// Appends the kind of a node: its operation with its numbers, including those of nodes.
+fn add_kind(report: &mut Report, kind: &Kind) {
     match kind {
-        Kind::Const(value) => print_words(rt, "const", &[*value]),
-        Kind::Ext => print_words(rt, "ext", &[]),
-        Kind::Sample(port) => print_words(rt, "sample", &[u64::from(*port)]),
-        Kind::Reg(reg) => print_words(rt, "reg", &[u64::from(*reg)]),
-        Kind::Word(file, a) => print_words(rt, "file", &[u64::from(*file), u64::from(a.0)]),
-        Kind::Not(a) => print_nodes(rt, "not", &[*a]),
-        Kind::Binary(op, a, b) => print_nodes(rt, name_of(*op), &[*a, *b]),
-        Kind::Mux(test, yes, no) => print_nodes(rt, "mux", &[*test, *yes, *no]),
-        Kind::Concat(parts) => print_nodes(rt, "join", parts.nodes()),
+        Kind::Const(value) => add_numbers(report, b"const", &[*value]),
+        Kind::Ext => add_numbers(report, b"ext", &[]),
+        Kind::Sample(port) => add_numbers(report, b"sample", &[u64::from(*port)]),
+        Kind::Reg(reg) => add_numbers(report, b"reg", &[u64::from(*reg)]),
+        Kind::Word(file, a) => add_numbers(report, b"file", &[u64::from(*file), u64::from(a.0)]),
+        Kind::Not(a) => add_nodes(report, b"not", &[*a]),
+        Kind::Binary(op, a, b) => add_nodes(report, name_of(*op), &[*a, *b]),
+        Kind::Mux(test, yes, no) => add_nodes(report, b"mux", &[*test, *yes, *no]),
+        Kind::Concat(parts) => add_nodes(report, b"join", parts.nodes()),
         Kind::Slice(a, hi, lo) => {
-            print_words(
-                rt,
-                "part",
+            add_numbers(
+                report,
+                b"part",
                 &[u64::from(a.0), u64::from(*hi), u64::from(*lo)],
             )
         }
     }
 }
 
-fn print_words(rt: &impl Print, name: &str, numbers: &[u64]) -> io::Result<()> {
-    rt.print(name)?;
+fn add_numbers(report: &mut Report, name: &[u8], numbers: &[u64]) {
+    report.add(&[Term::Text(name)]);
     for number in numbers {
-        print!(rt; " {number}")?;
+        report.add(&[Term::Text(b" "), Term::Number(*number)]);
     }
-    Ok(())
 }
 
-fn print_nodes(rt: &impl Print, name: &str, nodes: &[NodeId]) -> io::Result<()> {
-    rt.print(name)?;
+fn add_nodes(report: &mut Report, name: &[u8], nodes: &[NodeId]) {
+    report.add(&[Term::Text(name)]);
     for node in nodes {
-        print!(rt; " {}", node.0)?;
+        report.add(&[Term::Text(b" "), Term::Number(u64::from(node.0))]);
     }
-    Ok(())
 }
 
-/// Adds the depths of the new nodes.
-pub fn add_depths(depths: &mut Vec<u32>, nodes: &[Node]) -> io::Result<()> {
-    for i in depths.len()..nodes.len() {
-        let depth = depth_of(depths.as_slice(), &nodes[i].kind);
-        depths.push(depth)?;
+// The depth of a node.
+fn depth(nodes: &[Node], id: NodeId) -> u32 {
+    let mut depths = [0u32; 256];
+    for i in 0..nodes.len() {
+        if i < 256 {
+            depths[i] = depth_of(&depths, &nodes[i].kind);
+        }
     }
-    Ok(())
+    at(&depths, id)
 }
 
-fn depth_of(depths: &[u32], kind: &Kind) -> u32 {
+fn at(depths: &[u32; 256], id: NodeId) -> u32 {
+    let place = id.0 as usize;
+    if place < 256 { depths[place] } else { 0 }
+}
+
+// The depth of a node of this kind, from those of the nodes before it.
+fn depth_of(depths: &[u32; 256], kind: &Kind) -> u32 {
     match kind {
         Kind::Const(_) | Kind::Ext | Kind::Sample(_) | Kind::Reg(_) => 0,
         Kind::Word(_, a) | Kind::Not(a) | Kind::Slice(a, _, _) => over(depths, &[*a]),
@@ -93,10 +89,13 @@ fn depth_of(depths: &[u32], kind: &Kind) -> u32 {
 }
 
 // One more than the greatest depth of these operands.
-fn over(depths: &[u32], operands: &[NodeId]) -> u32 {
+fn over(depths: &[u32; 256], operands: &[NodeId]) -> u32 {
     let mut most = 0u32;
     for a in operands {
-        most = most.max(depths.get(a.0 as usize).copied().unwrap_or(0));
+        let depth = at(depths, *a);
+        if most < depth {
+            most = depth;
+        }
     }
     most.saturating_add(1)
 }

@@ -7,43 +7,21 @@ ghost use Rattle.kp_net.specs.Parts.{PartsOk};
 ghost use Rattle.kp_cycle.specs.Steps.{SamplesFit, ShowsRows};
 
 use crate::checks::runs;
-use crate::text::value;
+use crate::circuit::Circuit;
+use crate::line::{Line, cut};
+use crate::report::{Report, Term};
 use kp_base::Row;
 use kp_bits::Bits;
 use kp_cycle::Sim;
-use kp_net::{Netlist, Parts};
+use kp_net::Netlist;
 use kp_pool::Pool;
 use std::alloc::Global;
-use std::io;
 
-/// Runs the cycles of a circuit, if it has parts that fit, and prints each row and the states before and after.
-pub fn print_run(
-    rt: &impl Print,
-    alloc: Global,
-    pool: Pool,
-    parts: Option<Parts>,
-    case: &str,
-) -> io::Result<()> {
-    match netlist_of(pool, parts) {
-        Some(net) => print_net(rt, alloc, &net, case),
-        None => rt.println("refused"),
-    }
-}
-
-// The netlist, if there are parts, and they are as a simulator requires.
-fn netlist_of(pool: Pool, parts: Option<Parts>) -> Option<Netlist>
+/// The netlist of a circuit, if its parts are as a simulator requires. The parts are moved out of the circuit.
+pub fn netlist(alloc: Global, mut pool: Pool, circuit: &mut Circuit<'_>) -> Option<Netlist>
     ensures { IfSome result (λ net. ShowsRows net) }
 {
-    match parts {
-        Some(parts) => closed(pool, parts),
-        None => None,
-    }
-}
-
-// The netlist, if its parts are as a simulator requires.
-fn closed(pool: Pool, parts: Parts) -> Option<Netlist>
-    ensures { IfSome result (λ net. ShowsRows net) }
-{
+    let parts = circuit.parts(alloc, &mut pool)?;
     if runs(&pool, &parts) {
         Some(pool.close(parts))
     } else {
@@ -53,61 +31,71 @@ fn closed(pool: Pool, parts: Parts) -> Option<Netlist>
     }
 }
 
-fn print_net(rt: &impl Print, alloc: Global, net: &Netlist, case: &str) -> io::Result<()>
+/// Runs the cycles of a circuit, and appends each row and the states before and after.
+pub fn add_run(report: &mut Report, alloc: Global, net: &Netlist, lines: &[u8])
     requires { ShowsRows net.now }
 {
     match Sim::open(alloc, net) {
-        Ok(mut sim) => print_cycles(rt, alloc, &mut sim, case),
-        Err(_) => rt.println("refused"),
+        Ok(mut sim) => {
+            add_cycles(report, alloc, &mut sim, lines);
+            drop(sim);
+        }
+        Err(_) => report.add(&[Term::Text(b"refused\n")]),
     }
 }
 
-fn print_cycles(rt: &impl Print, alloc: Global, sim: &mut Sim<'_>, case: &str) -> io::Result<()> {
-    print_state(rt, sim)?;
-    for line in case.lines() {
-        if line.starts_with("cycle ") || line.starts_with("reset-cycle ") {
-            let words = line.split_whitespace().collect::<Vec<&str>>(alloc)?;
-            if !print_cycle(rt, alloc, sim, &words)? {
-                return rt.println("refused");
-            }
+// Runs the cycles up to the first that is not well-formed.
+fn add_cycles(report: &mut Report, alloc: Global, sim: &mut Sim<'_>, lines: &[u8]) {
+    add_state(report, sim);
+    let mut rest = lines;
+    while !rest.is_empty() {
+        let (text, after) = cut(rest, b'\n');
+        rest = after;
+        let line = Line(text);
+        let is_reset = line.word(0) == b"reset-cycle".as_slice();
+        if is_reset || line.word(0) == b"cycle".as_slice() {
+            let Some(row) = cycle(alloc, sim, line, is_reset) else {
+                report.add(&[Term::Text(b"refused\n")]);
+                return;
+            };
+            add_row(report, row);
+            add_state(report, sim);
         }
     }
-    Ok(())
 }
 
-// Runs the cycle of a line, if it is well-formed, and prints its row and the state after it.
-fn print_cycle(
-    rt: &impl Print,
-    alloc: Global,
-    sim: &mut Sim<'_>,
-    words: &[&str],
-) -> io::Result<bool> {
-    let Some(row) = cycle(alloc, sim, words) else {
-        return Ok(false);
-    };
-    println!(rt; "row {} {} {}", row.full, row.ue, row.back)?;
-    print_state(rt, sim)?;
-    Ok(true)
+fn add_row(report: &mut Report, row: Row) {
+    report.add(&[
+        Term::Text(b"row "),
+        Term::Number(u64::from(row.full)),
+        Term::Text(b" "),
+        Term::Number(u64::from(row.ue)),
+        Term::Text(b" "),
+        Term::Number(u64::from(row.back)),
+        Term::Text(b"\n"),
+    ]);
 }
 
-fn cycle(alloc: Global, sim: &mut Sim<'_>, words: &[&str]) -> Option<Row> {
-    let ext = (value(words, 1)? % 65536) as u16;
-    let is_reset = *words.first()? == "reset-cycle";
+// Runs the cycle of a line, if it is well-formed.
+fn cycle(alloc: Global, sim: &mut Sim<'_>, line: Line<'_>, is_reset: bool) -> Option<Row> {
+    let ext = (line.number(1)? % 65536) as u16;
     if !is_reset && sim.netlist().parts().samples.as_slice().is_empty() {
         return Some(sim.step(ext));
     }
-    let samples = samples_of(alloc, sim.netlist(), words.get(2..)?)?;
+    let samples = samples_of(alloc, sim.netlist(), line)?;
     if !samples_fit(sim.netlist(), samples.as_slice()) {
         return None;
     }
     Some(sim.step_with(ext, is_reset, samples.as_slice()))
 }
 
-// The values of the sample ports, if they fit.
-fn samples_of(alloc: Global, net: &Netlist, words: &[&str]) -> Option<Vec<Bits>> {
+// The values of the sample ports.
+fn samples_of(alloc: Global, net: &Netlist, line: Line<'_>) -> Option<Vec<Bits>> {
     let mut samples = Vec::new(alloc);
-    for (i, port) in net.parts().samples.as_slice().iter().enumerate() {
-        samples.push(Bits::new(port.width, value(words, i)?)?).ok()?;
+    let ports = net.parts().samples.as_slice();
+    for i in 0..ports.len() {
+        let value = line.number(i + 2)?;
+        samples.push(Bits::new(ports[i].width, value)?).ok()?;
     }
     Some(samples)
 }
@@ -127,44 +115,41 @@ fn samples_fit(net: &Netlist, samples: &[Bits]) -> bool
     true
 }
 
-// Prints the registers, and the words of files that are not 0.
-fn print_state(rt: &impl Print, sim: &Sim<'_>) -> io::Result<()> {
-    print_regs(rt, sim)?;
-    for i in 0..sim.netlist().parts().files.as_slice().len() {
-        print_file(rt, sim, i)?;
-    }
-    Ok(())
-}
-
-fn print_regs(rt: &impl Print, sim: &Sim<'_>) -> io::Result<()> {
-    let regs = sim.netlist().parts().regs.as_slice();
-    for i in 0..regs.len() {
-        let name = text_of(regs[i].name.bytes());
-        println!(rt; "  {name} = {}", sim.value(i as u32).value())?;
-    }
-    Ok(())
-}
-
-fn print_file(rt: &impl Print, sim: &Sim<'_>, i: usize) -> io::Result<()> {
+// Appends the registers, and the words of files that are not 0.
+fn add_state(report: &mut Report, sim: &Sim<'_>) {
     let parts = sim.netlist().parts();
-    let Some(file) = parts.files.as_slice().get(i) else {
-        return Ok(());
+    let regs = parts.regs.as_slice();
+    for i in 0..regs.len() {
+        report.add(&[
+            Term::Text(b"  "),
+            Term::Text(regs[i].name.bytes()),
+            Term::Text(b" = "),
+            Term::Number(sim.value(i as u32).value()),
+            Term::Text(b"\n"),
+        ]);
+    }
+    for i in 0..parts.files.as_slice().len() {
+        add_file(report, sim, i);
+    }
+}
+
+fn add_file(report: &mut Report, sim: &Sim<'_>, i: usize) {
+    let Some(file) = sim.netlist().parts().files.as_slice().get(i) else {
+        return;
     };
-    let name = text_of(file.name.bytes());
+    let name = file.name.bytes();
     for address in 0..1u32 << file.address_width {
-        print_word(rt, name, address, sim.word(i as u32, address).value())?;
+        let word = sim.word(i as u32, address).value();
+        if word != 0 {
+            report.add(&[
+                Term::Text(b"  "),
+                Term::Text(name),
+                Term::Text(b"["),
+                Term::Number(u64::from(address)),
+                Term::Text(b"] = "),
+                Term::Number(word),
+                Term::Text(b"\n"),
+            ]);
+        }
     }
-    Ok(())
-}
-
-fn print_word(rt: &impl Print, name: &str, address: u32, word: u64) -> io::Result<()> {
-    if word == 0 {
-        return Ok(());
-    }
-    println!(rt; "  {name}[{address}] = {word}")
-}
-
-// A name of the circuit, as text.
-fn text_of(name: &[u8]) -> &str {
-    str::from_utf8(name).unwrap_or("")
 }
