@@ -211,13 +211,10 @@ fn task_named<'w>(words: &'w [String]) -> Option<Task<'w>>
     ensures { option_map task_seen result ≡ task_named (map string_bytes words.now) }
 {
     match words {
-        [name, rest @ ..] => {
-            if rest.len() > MOST_REST {
-                return None;
-            }
+        [name, rest @ ..] if rest.len() <= MOST_REST => {
             task_with(Word::named(name.as_str())?, rest)
         }
-        [] => None,
+        _ => None,
     }
 }
 
@@ -256,9 +253,13 @@ fn task_with<'w>(word: Word, rest: &'w [String]) -> Option<Task<'w>>
 fn stalls_with<'w>(rest: &'w [String]) -> Option<Task<'w>>
     ensures { option_map task_seen result ≡ stalls_with (map string_bytes rest.now) }
 {
-    let (number, files) = rest.split_first()?;
-    let count = count_of(number.as_bytes(), MOST_LISTED)?;
-    with_file(Order::Stalls(Cycles { count }), files)
+    match rest {
+        [number, files @ ..] => {
+            let count = count_of(number.as_bytes(), MOST_LISTED)?;
+            with_file(Order::Stalls(Cycles { count }), files)
+        }
+        [] => None,
+    }
 }
 
 // What is to be written, with at most a file after it.
@@ -307,9 +308,10 @@ struct RunAsked<'w> {
 fn run_in<'w>(rest: &'w [String]) -> Option<RunAsked<'w>>
     ensures { option_map run_asked result ≡ run_in (map string_bytes rest.now) }
 {
-    let (number, more) = rest.split_first()?;
-    let count = count_of(number.as_bytes(), MOST_DRAWN)?;
-    run_with(count, more)
+    match rest {
+        [number, more @ ..] => run_with(count_of(number.as_bytes(), MOST_DRAWN)?, more),
+        [] => None,
+    }
 }
 
 // The run with this number of cycles, and these words after it.
