@@ -1,12 +1,12 @@
 -- The steps of the loops that write the picture.
-use Rattle.std.proofs.Common.{◌≡◌, ◌∙◌, ℕ, suc, ◌+◌, ◌-◌, ◌<◌, ◌≤◌, Bool, true, false, refl, cond, List, ◌∷◌, ◌++◌, length, get_or, drop, Option, ap, sym, subst, arith}
-use Rattle.std.{proofs.lemmas.List.drop_more, proofs.lemmas.List.length-append, proofs.lemmas.Grind.flat_map-append, specs.List.flat_map}
+use Rattle.std.proofs.Common.{◌≡◌, ◌∙◌, ℕ, suc, ◌+◌, ◌-◌, ◌<◌, Bool, true, false, refl, cond, List, ◌∷◌, ◌++◌, length, get_or, drop, Option, ap, sym, subst, arith}
+use Rattle.std.{proofs.lemmas.List.drop_more, proofs.lemmas.List.length-append, proofs.lemmas.Grind.flat_map-append}
 use Rattle.kp_base.specs.inner.Bytes.{WrittenUpTo}
 use Rattle.kp_ast.specs.declared.tree.{Job.Job, ReadStmt.ReadStmt, Stmt.Stmt, Block.Block}
 use Rattle.kp_paths.specs.{declared.cell.Cell.Cell, Table.cell_at}
 use Rattle.kp_paths_svg.specs.Arrows.{arrow_of, arrows_from, is_shown}
 use Rattle.kp_paths_svg.specs.Picture.{arrow_text, arrows_text, column_text, columns_text, rows_from, rows_in, rows_of}
-use Rattle.kp_paths_svg.specs.Places.{blocks_end, middle, row_end, rows_end}
+use Rattle.kp_paths_svg.specs.Places.{middle, row_end, rows_end}
 
 -- what is left is the same text
 pub left_is : (whole rest same : List ℕ) (a b : Option (List ℕ)) → rest ≡ same → WrittenUpTo whole rest a b → WrittenUpTo whole same a b

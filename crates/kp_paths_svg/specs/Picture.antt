@@ -1,6 +1,6 @@
 -- THE PICTURE of the paths of a job, in SVG 1.1: a column for each stage, and below them a row for each read. In a row an arrow goes to the stage of the
 -- read from each stage that can be asked for the value, and shows the cell of the table.
-use Rattle.std.specs.Prelude.{ℕ, zero, suc, ◌+◌, ◌-◌, List, [], ◌∷◌, ◌++◌, flat_map, length, codes, decimal, is_some, if◌then◌else◌}
+use Rattle.std.specs.Prelude.{ℕ, zero, suc, ◌+◌, List, [], ◌∷◌, ◌++◌, flat_map, length, codes, decimal, is_some, if◌then◌else◌}
 use Rattle.kp_ast.specs.declared.tree.{Block.Block, Job.Job, ReadStmt.ReadStmt, Stmt.Stmt, StmtKind.StmtKind}
 use Rattle.kp_ast.specs.declared.tree.StmtKind.TheVariants as stmts
 use Rattle.kp_machine.specs.Machine.{result_for}

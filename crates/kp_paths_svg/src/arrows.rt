@@ -1,11 +1,9 @@
 // The arrows.
-ghost use Rattle.std.specs.Prelude.{◌≡◌, ◌++◌};
+ghost use Rattle.std.specs.Prelude.{◌≡◌};
 ghost use Rattle.kp_base.specs.Bytes.{Writes};
 ghost use Rattle.kp_base.specs.Causes.{HasCause};
 ghost use Rattle.kp_paths_svg.specs.Arrows.{arrow_of};
 ghost use Rattle.kp_paths_svg.specs.Picture.{arrow_line, arrow_text, arrow_title, arrow_word, arrows_text, look as look_of};
-ghost use Rattle.kp_paths_svg.specs.Places.{landing as landing_at, level as level_at, middle as middle_of};
-ghost use Rattle.kp_paths.specs.Text.{cell_word};
 
 use crate::ends::is_shown;
 use crate::places::{landing, level, middle};
@@ -30,22 +28,14 @@ pub(crate) fn write_cell<K: Sink>(
     }
 }
 
-#[tactic(auto, using(kp_base::proofs::Bytes::writes_next, kp_base::proofs::Bytes::part_more))]
 fn write_arrow<K: Sink>(k: usize, j: usize, cell: Cell, sink: &mut K) -> Result<(), SinkFault>
     ensures text { Writes (K.held sink.old) (K.held sink.new) (arrow_text k (record { stage = j; cell = cell })) result }
     ensures cause { HasCause (K.faults sink.old) (K.faults sink.new) result }
 {
-    write_arrow_title(j, cell.word(), sink)?;
-    write_arrow_shape(k, j, cell, sink)
-}
-
-#[tactic(auto, using(kp_base::proofs::Bytes::writes_next, kp_base::proofs::Bytes::part_more))]
-fn write_arrow_shape<K: Sink>(k: usize, j: usize, cell: Cell, sink: &mut K) -> Result<(), SinkFault>
-    ensures text { Writes (K.held sink.old) (K.held sink.new) (arrow_line (middle_of j) (level_at k j) (landing_at k j) (look_of cell) ++ arrow_word (middle_of j) (level_at k j) (cell_word cell)) result }
-    ensures cause { HasCause (K.faults sink.old) (K.faults sink.new) result }
-{
-    write_arrow_line(middle(j), level(k, j), landing(k, j), look(cell), sink)?;
-    write_arrow_word(middle(j), level(k, j), cell.word(), sink)
+    let (x, up, word) = (middle(j), level(k, j), cell.word());
+    write_arrow_title(j, word, sink)?;
+    write_arrow_line(x, up, landing(k, j), look(cell), sink)?;
+    write_arrow_word(x, up, word, sink)
 }
 
 #[tactic(auto, unfolding(crate::specs::Picture::arrow_title))]

@@ -1,9 +1,9 @@
 // The picture of the paths.
-ghost use Rattle.std.specs.Prelude.{◌≡◌, ◌≤◌, ◌++◌};
+ghost use Rattle.std.specs.Prelude.{◌≡◌, ◌≤◌};
 ghost use Rattle.kp_base.specs.Bytes.{Writes};
 ghost use Rattle.kp_base.specs.Causes.{HasCause};
 ghost use Rattle.kp_paths_svg.specs.Places.{bottom as bottom_of};
-ghost use Rattle.kp_paths_svg.specs.Picture.{body_text, canvas, column_text, columns_text, head_text, headline, legend, paths_svg_text, picture_text, rows_from};
+ghost use Rattle.kp_paths_svg.specs.Picture.{canvas, column_text, columns_text, head_text, headline, legend, paths_svg_text, picture_text};
 
 use crate::ends::blocks_end;
 use crate::labels::left_end;
@@ -35,7 +35,6 @@ fn bottom(paths: &Paths<'_>) -> usize
     blocks_end(paths, paths.job().blocks.as_slice(), FIRST)
 }
 
-#[tactic(auto, using(kp_base::proofs::Bytes::writes_next, kp_base::proofs::Bytes::part_more))]
 fn write_picture<K: Sink>(
     paths: &Paths<'_>,
     left: usize,
@@ -50,7 +49,9 @@ fn write_picture<K: Sink>(
     let name = paths.job().name.name.bytes();
     let width = width(left, paths.stages(), name.len());
     write_head(name, left, width, height(low), sink)?;
-    write_body(paths, low, sink)
+    write_columns(paths.stages(), low, sink)?;
+    write_blocks(paths, paths.job().blocks.as_slice(), FIRST, sink)?;
+    write_legend(low, sink)
 }
 
 #[tactic(auto, using(kp_base::proofs::Bytes::writes_next, kp_base::proofs::Bytes::part_more))]
@@ -108,15 +109,6 @@ fn write_headline<K: Sink>(name: &[u8], left: usize, sink: &mut K) -> Result<(),
     write_pieces(sink, &pieces)
 }
 
-#[tactic(auto, using(kp_base::proofs::Bytes::writes_next, kp_base::proofs::Bytes::part_more))]
-fn write_body<K: Sink>(paths: &Paths<'_>, low: usize, sink: &mut K) -> Result<(), SinkFault>
-    ensures text { Writes (K.held sink.old) (K.held sink.new) (body_text paths.now low) result }
-    ensures cause { HasCause (K.faults sink.old) (K.faults sink.new) result }
-{
-    write_columns(paths.stages(), low, sink)?;
-    write_rows(paths, low, sink)
-}
-
 // The columns of `count` stages.
 fn write_columns<K: Sink>(count: usize, low: usize, sink: &mut K) -> Result<(), SinkFault>
     ensures text { Writes (K.held sink.old) (K.held sink.new) (columns_text low 0 count) result }
@@ -144,15 +136,6 @@ fn write_column<K: Sink>(j: usize, x: usize, low: usize, sink: &mut K) -> Result
         b"</text></g>\n".as_slice(),
     ];
     write_pieces(sink, &pieces)
-}
-
-#[tactic(auto, using(kp_base::proofs::Bytes::writes_next, kp_base::proofs::Bytes::part_more))]
-fn write_rows<K: Sink>(paths: &Paths<'_>, low: usize, sink: &mut K) -> Result<(), SinkFault>
-    ensures text { Writes (K.held sink.old) (K.held sink.new) (rows_from paths.now 0 80 paths.now.blocks ++ legend low) result }
-    ensures cause { HasCause (K.faults sink.old) (K.faults sink.new) result }
-{
-    write_blocks(paths, paths.job().blocks.as_slice(), FIRST, sink)?;
-    write_legend(low, sink)
 }
 
 #[tactic(auto, unfolding(crate::specs::Picture::legend))]

@@ -1,10 +1,9 @@
 // The rows of the reads.
-ghost use Rattle.std.specs.Prelude.{◌≡◌, ◌≤◌, ◌++◌, codes};
+ghost use Rattle.std.specs.Prelude.{◌≡◌, ◌≤◌};
 ghost use Rattle.kp_base.specs.Bytes.{Writes};
 ghost use Rattle.kp_base.specs.Causes.{HasCause};
-ghost use Rattle.kp_paths_svg.specs.Arrows.{arrows, arrows_from};
-ghost use Rattle.kp_paths_svg.specs.Places.{middle as middle_of};
-ghost use Rattle.kp_paths_svg.specs.Picture.{arrows_text, note as note_of, read_box, row_label, row_start, row_text, rows_from, rows_in, rows_of};
+ghost use Rattle.kp_paths_svg.specs.Arrows.{arrows_from};
+ghost use Rattle.kp_paths_svg.specs.Picture.{arrows_text, note as note_of, read_box, row_start, row_text, rows_from, rows_in, rows_of};
 
 use crate::arrows::write_cell;
 use crate::ends::{arrow_count, row_end, rows_end};
@@ -71,7 +70,6 @@ fn write_stmt<K: Sink>(
     }
 }
 
-#[tactic(auto, using(kp_base::proofs::Bytes::writes_next, kp_base::proofs::Bytes::part_more))]
 fn write_row<K: Sink>(
     paths: &Paths<'_>,
     read: &ReadStmt,
@@ -85,7 +83,10 @@ fn write_row<K: Sink>(
 {
     let line = line_in(top, arrow_count(paths, read, k));
     write_row_start(line, right_end(paths.stages()), sink)?;
-    write_after_start(paths, read, k, sink)
+    write_row_label(read, note(paths, read), sink)?;
+    write_box(middle(k), sink)?;
+    write_arrows(paths, read, k, paths.stages(), sink)?;
+    write_all(sink, b"</g>\n")
 }
 
 #[tactic(auto, unfolding(crate::specs::Picture::row_start))]
@@ -104,21 +105,6 @@ fn write_row_start<K: Sink>(y: usize, right: usize, sink: &mut K) -> Result<(), 
     write_pieces(sink, &pieces)
 }
 
-#[tactic(auto, using(kp_base::proofs::Bytes::writes_next, kp_base::proofs::Bytes::part_more))]
-fn write_after_start<K: Sink>(
-    paths: &Paths<'_>,
-    read: &ReadStmt,
-    k: usize,
-    sink: &mut K,
-) -> Result<(), SinkFault>
-    ensures text { Writes (K.held sink.old) (K.held sink.new)
-        (row_label read.now (note_of paths.now read.now) ++ (read_box (middle_of k) ++ (arrows_text k (arrows paths.now read.now k) ++ codes "</g>\n"))) result }
-    ensures cause { HasCause (K.faults sink.old) (K.faults sink.new) result }
-{
-    write_row_label(read, note(paths, read), sink)?;
-    write_stages(paths, read, k, sink)
-}
-
 fn note(paths: &Paths<'_>, read: &ReadStmt) -> &'static [u8]
     ensures { result.now ≡ note_of paths.now read.now }
 {
@@ -127,21 +113,6 @@ fn note(paths: &Paths<'_>, read: &ReadStmt) -> &'static [u8]
     } else {
         b", never written"
     }
-}
-
-#[tactic(auto, using(kp_base::proofs::Bytes::writes_next, kp_base::proofs::Bytes::part_more))]
-fn write_stages<K: Sink>(
-    paths: &Paths<'_>,
-    read: &ReadStmt,
-    k: usize,
-    sink: &mut K,
-) -> Result<(), SinkFault>
-    ensures text { Writes (K.held sink.old) (K.held sink.new)
-        (read_box (middle_of k) ++ (arrows_text k (arrows paths.now read.now k) ++ codes "</g>\n")) result }
-    ensures cause { HasCause (K.faults sink.old) (K.faults sink.new) result }
-{
-    write_box(middle(k), sink)?;
-    write_row_end(paths, read, k, sink)
 }
 
 #[tactic(auto, unfolding(crate::specs::Picture::read_box))]
@@ -156,20 +127,6 @@ fn write_box<K: Sink>(x: usize, sink: &mut K) -> Result<(), SinkFault>
         b",0)'><rect x='-48' y='-11' width='96' height='22' rx='4' fill='#fff' stroke='#111'/><text y='4' text-anchor='middle'>reads</text></g>\n".as_slice(),
     ];
     write_pieces(sink, &pieces)
-}
-
-#[tactic(auto, using(kp_base::proofs::Bytes::writes_next, kp_base::proofs::Bytes::part_more), unfolding(crate::specs::Arrows::arrows))]
-fn write_row_end<K: Sink>(
-    paths: &Paths<'_>,
-    read: &ReadStmt,
-    k: usize,
-    sink: &mut K,
-) -> Result<(), SinkFault>
-    ensures text { Writes (K.held sink.old) (K.held sink.new) (arrows_text k (arrows paths.now read.now k) ++ codes "</g>\n") result }
-    ensures cause { HasCause (K.faults sink.old) (K.faults sink.new) result }
-{
-    write_arrows(paths, read, k, paths.stages(), sink)?;
-    write_all(sink, b"</g>\n")
 }
 
 // The arrows from the first `count` stages.

@@ -42,8 +42,13 @@ pub fn watched<'a>(
     let columns = columns_in(alloc, job, net, count)?;
     let tables = tables_of(alloc, job, net, columns)?;
     let mut both = Beside::open(alloc, job, net, &tables, count)?;
-    match compare(job, &tables, &mut both, count) {
-        Some(difference) => Ok((board_of(alloc, job, net, count)?, Some(difference))),
+    let found = compare(job, &tables, &mut both, count);
+    drop(tables);
+    match found {
+        Some(difference) => {
+            drop(both);
+            Ok((board_of(alloc, job, net, count)?, Some(difference)))
+        }
         None => Ok((board_after(alloc, job, both, count)?, None)),
     }
 }

@@ -9,8 +9,8 @@ pub open-requires-clause-samples : goal.open-requires-clause-samples
 open-requires-clause-samples c =
     (c.in_ok-tables.ensures (run c.args.net.now (inputs_to c.args.job.now.design.job c.args.count)).rows c.in_ok-columns.ensures).columns.count
 
-pub compare-requires-clause-tables : goal.compare-requires-clause-tables
-compare-requires-clause-tables c =
+pub compare-found-requires-clause-tables : goal.compare-found-requires-clause-tables
+compare-found-requires-clause-tables c =
     let job = c.args.job.now.design.job in
     let net = c.args.net.now in
     let same : c.in_ok-both.both.sim.net ≡ net = ap (λ (s : Running). s.net) c.in_ok-both.ensures.come.sim in
