@@ -1,4 +1,4 @@
-use Rattle.std.proofs.{Common.arith, lemmas.List.length_push}
+use Rattle.std.proofs.{Common.sym, Common.◌∙◌, Common.arith, lemmas.List.length_push}
 use Rattle.kp_ast.specs.declared.tree.Decl.{Decl}
 use Rattle.kp_grammar.specs.Machine.{make}
 use Rattle.kp_parse_grammar.proofs.{Picks.decls_1, Picks.decls_else, Steps.exits}
@@ -6,16 +6,16 @@ use Rattle.kp_parse.proofs.declaration.declarations.Goals as goal
 
 pub returns-in_err-one : goal.returns-in_err-one
 returns-in_err-one c =
-    exits _ _ _ c.from_residual.ensures.1 c.in_err-one.ensures (λ o h s cs vs. c.all.invariant.leads _ _ _ _ (decls_1 (cc c.begins_declaration.ensures) (h _ _ _)))
+    exits _ _ _ c.from_residual.ensures.1 c.in_err-one.ensures (λ o h s cs vs. c.all.invariant.leads _ _ _ _ (decls_1 (sym c.all-test.true ∙ c.begins_declaration.ensures) (h _ _ _)))
 
 pub all-preserved : goal.all-preserved
 all-preserved c = rw c.in_ok-push.ensures.items (record {
-  leads = λ s cs vs o h. c.all.invariant.leads _ _ _ _ (decls_1 (cc c.begins_declaration.ensures) (c.in_ok-one.ensures.leads _ _ _ _ (make (h))));
+  leads = λ s cs vs o h. c.all.invariant.leads _ _ _ _ (decls_1 (sym c.all-test.true ∙ c.begins_declaration.ensures) (c.in_ok-one.ensures.leads _ _ _ _ (make (h))));
   shrinks = omega (arith, c.all.invariant.shrinks, c.in_ok-one.ensures.shrinks, length_push {X = Decl});
 })
 
 pub returns : goal.returns
 returns c = record {
-  leads = λ s cs vs o h. c.all.invariant.leads _ _ _ _ (decls_else (cc c.begins_declaration.ensures) h);
+  leads = λ s cs vs o h. c.all.invariant.leads _ _ _ _ (decls_else (sym c.all-test.false ∙ c.begins_declaration.ensures) h);
   shrinks = omega (arith, c.all.invariant.shrinks);
 }

@@ -1,4 +1,4 @@
-use Rattle.std.proofs.Common.{arith}
+use Rattle.std.proofs.Common.{arith, sym, ◌∙◌}
 use Rattle.kp_grammar.specs.Machine.{make}
 use Rattle.kp_parse_grammar.proofs.Steps.{exits}
 use Rattle.kp_parse.proofs.Picks.{spans_1, spans_else}
@@ -6,16 +6,16 @@ use Rattle.kp_parse.proofs.sections.spans.Goals as goal
 
 pub returns-in_err-one : goal.returns-in_err-one
 returns-in_err-one c =
-    exits _ _ _ c.from_residual.ensures.1 c.in_err-one.ensures (λ o h s cs vs. c.all.invariant.leads _ _ _ _ (spans_1 (cc c.is_number.ensures) (h _ _ _)))
+    exits _ _ _ c.from_residual.ensures.1 c.in_err-one.ensures (λ o h s cs vs. c.all.invariant.leads _ _ _ _ (spans_1 (sym c.all-test.true ∙ c.is_number.ensures) (h _ _ _)))
 
 pub all-preserved : goal.all-preserved
 all-preserved c = rw c.in_ok-push.ensures.items (record {
-  leads = λ s cs vs o h. c.all.invariant.leads _ _ _ _ (spans_1 (cc c.is_number.ensures) (c.in_ok-one.ensures.leads _ _ _ _ (make (h))));
+  leads = λ s cs vs o h. c.all.invariant.leads _ _ _ _ (spans_1 (sym c.all-test.true ∙ c.is_number.ensures) (c.in_ok-one.ensures.leads _ _ _ _ (make (h))));
   shrinks = omega (arith, c.all.invariant.shrinks, c.in_ok-one.ensures.shrinks);
 })
 
 pub returns : goal.returns
 returns c = record {
-  leads = λ s cs vs o h. c.all.invariant.leads _ _ _ _ (spans_else (cc c.is_number.ensures) h);
+  leads = λ s cs vs o h. c.all.invariant.leads _ _ _ _ (spans_else (sym c.all-test.false ∙ c.is_number.ensures) h);
   shrinks = omega (arith, c.all.invariant.shrinks);
 }
