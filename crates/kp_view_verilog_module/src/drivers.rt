@@ -46,15 +46,15 @@ fn fault_of<'m>(
 ) -> Option<DriverFault<'m>> {
     let name = each.name;
     match each.role {
-        Role::Port(_) if !is_output(name.0) => None,
-        Role::Port(_) => missing(uses, Role::HasValue, DriverFault::NoValue(name), name),
+        Role::Port if !is_output(name.0) => None,
+        Role::Port => missing(uses, Role::HasValue, DriverFault::NoValue(name), name),
         Role::Wire => missing(uses, Role::HasValue, DriverFault::NeverAssigned(name), name),
         Role::Register => undriven(module, uses, name),
         Role::File => missing(uses, Role::Fills, DriverFault::NoFill(name), name),
         Role::UsesWire => unassigned(text, uses, before, name),
         Role::StartsWord => missing(before, Role::Fills, DriverFault::FilledLate(name), name),
-        Role::IsWide(false) => Some(DriverFault::Wide(name)),
-        Role::HasReset(false) => Some(DriverFault::NoResetForm),
+        Role::NotAsWide => Some(DriverFault::Wide(name)),
+        Role::NoResetList => Some(DriverFault::NoResetForm),
         role => match driven_again(text, before, role, name) {
             None if role == Role::Resets => other_start(text, module, each),
             again => again,

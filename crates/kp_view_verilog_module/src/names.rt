@@ -37,13 +37,15 @@ fn fault_of<'m>(
     after: &[Use<'m>],
     each: Use<'m>,
 ) -> Option<NameFault<'m>> {
-    match each.role {
-        Role::Port(wanted) if each.name.0 != wanted.as_bytes() => Some(NameFault::Port {
-            name: each.name,
-            wanted,
-        }),
-        Role::NoWire => Some(NameFault::NoWire(each.name)),
-        role => match (form_of(role), wanted_of(role)) {
+    match (each.role, each.port) {
+        (Role::Port, Some(wanted)) if each.name.0 != wanted.as_bytes() => {
+            Some(NameFault::Port {
+                name: each.name,
+                wanted,
+            })
+        }
+        (Role::NoWire, _) => Some(NameFault::NoWire(each.name)),
+        (role, port) => match (form_of(role), wanted_of(role, port)) {
             (Some(form), _) => wrong_declaration(text, before, each, form),
             (None, Some(wanted)) => wrong_use(text, before, after, each, wanted),
             (None, None) => None,
@@ -122,7 +124,7 @@ pub(crate) fn declared(uses: &[Use<'_>], name: &[u8]) -> Option<(Kind, u32)> {
 // The kind of what a name declares, if it declares anything.
 fn kind_of(role: Role) -> Option<Kind> {
     match role {
-        Role::Port(_) => Some(Kind::Port),
+        Role::Port => Some(Kind::Port),
         Role::Sample => Some(Kind::Sample),
         Role::Register => Some(Kind::Register),
         Role::File => Some(Kind::File),
@@ -146,13 +148,13 @@ fn form_of(role: Role) -> Option<Form> {
 }
 
 // What the place wants the name to denote, if it uses the name.
-fn wanted_of(role: Role) -> Option<Wanted> {
+fn wanted_of(role: Role, port: Option<&'static str>) -> Option<Wanted> {
     match role {
         Role::Assigned => Some(Wanted::WireOrOutput),
         Role::UsesWire => Some(Wanted::Wire),
         Role::UsesSource => Some(Wanted::Source),
         Role::UsesInteger => Some(Wanted::Integer),
-        Role::UsesPort(port) => Some(Wanted::Port(port)),
+        Role::UsesPort => Some(Wanted::Port(port?)),
         Role::Starts | Role::Resets | Role::UpdatesRegister => Some(Wanted::Register),
         Role::UsesFile | Role::StartsWord | Role::Fills | Role::UpdatesFile => Some(Wanted::File),
         _ => None,

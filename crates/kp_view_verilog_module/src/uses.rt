@@ -5,12 +5,11 @@ use kp_vlog::{Fill, Init, Item, Named, ResetList, Right, Update, VModule, VPort}
 use kp_vread_rules::is_output;
 use std::alloc::Global;
 
-/// The role of a name. The last four are no uses of a name: they say what else its place requires or has.
+/// The role of a name. The last four are no uses of a name: they say what else is true of its place.
 #[derive(Clone, Copy, PartialEq, Eq)]
 pub(crate) enum Role {
     Module,
-    /// The port of this name.
-    Port(&'static str),
+    Port,
     Sample,
     Register,
     File,
@@ -24,7 +23,7 @@ pub(crate) enum Role {
     UsesSource,
     UsesFile,
     UsesInteger,
-    UsesPort(&'static str),
+    UsesPort,
     /// A start value.
     Starts,
     /// The start value of a word.
@@ -39,10 +38,10 @@ pub(crate) enum Role {
     NoWire,
     /// From here on a wire or an output has its value.
     HasValue,
-    /// Whether a port is as wide as `ext`.
-    IsWide(bool),
-    /// Whether there is a reset list.
-    HasReset(bool),
+    /// The port isn't as wide as `ext`.
+    NotAsWide,
+    /// There is a reset port, and no reset list.
+    NoResetList,
 }
 
 /// A name at a place.
@@ -51,6 +50,8 @@ pub(crate) struct Use<'m> {
     pub role: Role,
     pub name: Word<'m>,
     pub at: u32,
+    /// The name that a port has to have, where it is one.
+    pub port: Option<&'static str>,
 }
 
 /// The names of a module in the order of the text.
@@ -68,7 +69,7 @@ impl<'m> Uses<'m> {
         uses.add_header(module)?;
         uses.add_items(module.items.as_slice())?;
         uses.add_inits(module.inits.as_slice())?;
-        uses.add(Role::UsesPort("clk"), &module.clock)?;
+        uses.add_port(Role::UsesPort, "clk", &module.clock)?;
         if let Some(reset) = &module.reset {
             uses.add_reset(reset)?;
         }
@@ -82,27 +83,45 @@ impl<'m> Uses<'m> {
     }
 
     fn add(&mut self, role: Role, named: &'m Named) -> Result<(), NoMemory> {
-        let name = Word(named.name.bytes());
         self.all.push(Use {
             role,
-            name,
+            name: Word(named.name.bytes()),
             at: named.at,
+            port: None,
+        })?;
+        Ok(())
+    }
+
+    // A port, or the use of one, with the name that it has to have.
+    fn add_port(
+        &mut self,
+        role: Role,
+        port: &'static str,
+        named: &'m Named,
+    ) -> Result<(), NoMemory> {
+        self.all.push(Use {
+            role,
+            name: Word(named.name.bytes()),
+            at: named.at,
+            port: Some(port),
         })?;
         Ok(())
     }
 
     fn add_header(&mut self, module: &'m VModule) -> Result<(), NoMemory> {
         self.add(Role::Module, &module.name)?;
-        self.add(Role::Port("clk"), &module.clk)?;
+        self.add_port(Role::Port, "clk", &module.clk)?;
         if let Some(rst) = &module.rst {
-            self.add(Role::Port("rst"), rst)?;
-            self.add(Role::HasReset(module.reset.is_some()), rst)?;
+            self.add_port(Role::Port, "rst", rst)?;
+            if module.reset.is_none() {
+                self.add(Role::NoResetList, rst)?;
+            }
         }
-        self.add(Role::Port("ext"), &module.ext.port)?;
+        self.add_port(Role::Port, "ext", &module.ext.port)?;
         self.add_samples(module.samples.as_slice())?;
         self.add_wide(&module.ext, "full", &module.full)?;
         self.add_wide(&module.ext, "ue", &module.ue)?;
-        self.add(Role::Port("back"), &module.back.port)
+        self.add_port(Role::Port, "back", &module.back.port)
     }
 
     fn add_samples(&mut self, samples: &'m [VPort]) -> Result<(), NoMemory> {
@@ -119,9 +138,11 @@ impl<'m> Uses<'m> {
         name: &'static str,
         output: &'m VPort,
     ) -> Result<(), NoMemory> {
-        let is_wide = output.range.high.value == ext.range.high.value;
-        self.add(Role::Port(name), &output.port)?;
-        self.add(Role::IsWide(is_wide), &output.port)
+        self.add_port(Role::Port, name, &output.port)?;
+        if output.range.high.value == ext.range.high.value {
+            return Ok(());
+        }
+        self.add(Role::NotAsWide, &output.port)
     }
 
     fn add_items(&mut self, items: &'m [Item]) -> Result<(), NoMemory> {
@@ -212,7 +233,7 @@ impl<'m> Uses<'m> {
     }
 
     fn add_reset(&mut self, reset: &'m ResetList) -> Result<(), NoMemory> {
-        self.add(Role::UsesPort("rst"), &reset.reset)?;
+        self.add_port(Role::UsesPort, "rst", &reset.reset)?;
         for value in reset.values.as_slice() {
             self.add(Role::Resets, &value.name)?;
         }

@@ -106,7 +106,8 @@ fn fault_of<'m>(asked: &Asked<'_, 'm>, whole: &'m VModule) -> Option<WidthFault<
 fn in_header<'m>(asked: &Asked<'_, 'm>, whole: &'m VModule) -> Option<WidthFault<'m>>
     ensures { IfSome result (HasWidths asked.now.sizes.now) }
 {
-    for port in [&whole.ext, &whole.full, &whole.ue] {
+    let ports = [&whole.ext, &whole.full, &whole.ue];
+    for port in &ports {
         if asked.is_at(&port.port) && !fits_stall(port.range) {
             return Some(WidthFault::StallRange(Word(port.port.name.bytes())));
         }
