@@ -9,11 +9,11 @@ use crate::failure::Failure;
 use crate::outcome::{Outcome, finish};
 use kp_base::{NoMemory, Sink, SinkFault};
 use kp_frontend::Accepted;
-use kp_tool_report::{Totals, totals_of, write_totals};
 use kp_gen_valid::generated;
 use kp_run::board_shown;
 use kp_run::laws::a_run_shows_the_pipeline;
 use kp_synth::synth;
+use kp_tool_report::{Totals, totals_of, write_totals};
 use std::alloc::Global;
 
 /// `gen G N`: generates the job of a number, runs its pipelined machine over `count` cycles, and writes the totals of the run.
