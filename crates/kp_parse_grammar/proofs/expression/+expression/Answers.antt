@@ -1,5 +1,5 @@
 -- Each return value specifies the steps of the machine.
-use Rattle.std.proofs.Common.{arith}
+use Rattle.std.proofs.Common.{arith, sym, ◌∙◌}
 use Rattle.kp_grammar.specs.Machine.{make}
 use Rattle.kp_parse_grammar.proofs.Steps.{by_dropped, by_placed, by_closed, by_separated, by_counted, by_opened, by_opened_at, over_counted, over_opened, one, exits, exceeds, extends}
 use Rattle.kp_parse_grammar.proofs.Operators.{chain_start, more_start, more_none, operators_go_on, compare_ends, post_reads}
@@ -110,11 +110,11 @@ post-slices-init t c = record {
 
 pub post-returns-in_err-place : goal.post-returns-in_err-place
 post-returns-in_err-place t c =
-    exits _ _ _ c.from_residual-in_err-place.ensures.1 c.in_err-place.ensures.bounds (λ o h s cs vs. c.slices.invariant.leads _ _ _ _ (slices_1 (cc c.is_mark.ensures) (h _ _ _)))
+    exits _ _ _ c.from_residual-in_err-place.ensures.1 c.in_err-place.ensures.bounds (λ o h s cs vs. c.slices.invariant.leads _ _ _ _ (slices_1 (sym c.slices-test.true ∙ c.is_mark.ensures) (h _ _ _)))
 
 pub post-slices-preserved : goal.post-slices-preserved
 post-slices-preserved t c = rw (c.in_ok-sliced.ensures) (record {
-  leads = λ s cs vs o h. c.slices.invariant.leads _ _ _ _ (slices_1 (cc c.is_mark.ensures) (c.in_ok-place.ensures.bounds.leads _ _ _ _ (make h)));
+  leads = λ s cs vs o h. c.slices.invariant.leads _ _ _ _ (slices_1 (sym c.slices-test.true ∙ c.is_mark.ensures) (c.in_ok-place.ensures.bounds.leads _ _ _ _ (make h)));
   grows = omega (arith, c.slices.invariant.grows, c.in_ok-place.ensures.bounds.grows);
   limit = c.in_ok-place.ensures.bounds.limit;
   shrinks = omega (arith, c.slices.invariant.shrinks, c.in_ok-place.ensures.bounds.shrinks);
@@ -122,7 +122,7 @@ post-slices-preserved t c = rw (c.in_ok-sliced.ensures) (record {
 
 pub post-returns : goal.post-returns
 post-returns t c = record {
-  leads = λ s cs vs o h. c.slices.invariant.leads _ _ _ _ (slices_else (cc c.is_mark.ensures) h);
+  leads = λ s cs vs o h. c.slices.invariant.leads _ _ _ _ (slices_else (sym c.slices-test.false ∙ c.is_mark.ensures) h);
   grows = c.slices.invariant.grows;
   limit = c.slices.invariant.limit;
   shrinks = c.slices.invariant.shrinks;
