@@ -4,7 +4,7 @@ use crate::phrase::{Term, Terms, write_phrase};
 use crate::word::Word;
 use kp_lex::Mark;
 use kp_view_expected::{Expected, TokenClass};
-use std::fmt::{self, Display};
+use std::fmt;
 
 /// A line of help.
 #[derive(Clone, Copy)]

@@ -69,9 +69,9 @@ fn lacks_blocks(finding: &Finding<'_>) -> bool {
 
 fn ask_all<'t>(alloc: Global, found: &mut Findings<'t>, job: &'t Job) -> Result<(), NoMemory> {
     let facts = facts_of(alloc, job)?;
-    for rule in RULES {
+    for rule in &RULES {
         if !found.is_full() {
-            ask(alloc, &facts, found, rule, job)?;
+            ask(alloc, &facts, found, *rule, job)?;
         }
     }
     Ok(())

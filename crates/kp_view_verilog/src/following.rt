@@ -135,11 +135,11 @@ fn begins_part(kind: VKind) -> bool {
 /// The classes of tokens with which some module continues after these bytes. All operators together are one class.
 pub(crate) fn following(alloc: Global, front: &[u8]) -> Result<Vec<Class>, NoMemory> {
     let mut classes = Vec::new(alloc);
-    for word in Keyword::ALL {
-        add_class(alloc, front, &mut classes, Class::Keyword(word))?;
+    for word in &Keyword::ALL {
+        add_class(alloc, front, &mut classes, Class::Keyword(*word))?;
     }
-    for mark in MARKS {
-        add_class(alloc, front, &mut classes, Class::Mark(mark))?;
+    for mark in &MARKS {
+        add_class(alloc, front, &mut classes, Class::Mark(*mark))?;
     }
     add_operators(alloc, front, &mut classes)?;
     add_class(alloc, front, &mut classes, Class::Name)?;
@@ -154,8 +154,8 @@ fn add_operators(alloc: Global, front: &[u8], classes: &mut Vec<Class>) -> Resul
         classes.push(Class::Operator)?;
         return Ok(());
     }
-    for mark in OPERATORS {
-        add_class(alloc, front, classes, Class::Mark(mark))?;
+    for mark in &OPERATORS {
+        add_class(alloc, front, classes, Class::Mark(*mark))?;
     }
     Ok(())
 }
