@@ -1,3 +1,4 @@
 pub mod Lines
 pub mod Tokens
 pub mod Excerpts
+pub mod Faults

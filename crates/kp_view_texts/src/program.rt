@@ -3,9 +3,8 @@ use crate::form::{Form, Operand};
 use crate::program_fault::{Found, ProgramFault};
 use crate::tokens::{count_tokens, is_name, next_token};
 use kp_base::{NoMemory, Place, Refusal, word_length};
-use kp_view_excerpt::offset_of;
+use kp_view_excerpt::{excerpt_at, offset_of, write_fault};
 use kp_view_help::Word;
-use kp_view_note::{excerpt_at, write_fault};
 use std::alloc::Global;
 
 /// Appends what follows the head of a rule of programs: the message, the excerpt at its place, and what helps.

@@ -4,9 +4,8 @@ use crate::tokens::is_blank;
 use kp_ast::{Decl, Named};
 use kp_base::{NoMemory, Refusal, is_digit, run_length};
 use kp_bits::{LiteralFault, read_literal};
-use kp_view_excerpt::offset_of;
+use kp_view_excerpt::{excerpt_at, offset_of, write_fault};
 use kp_view_help::{Kind, Word};
-use kp_view_note::{excerpt_at, write_fault};
 use std::alloc::Global;
 
 /// Appends what follows the head of a rule of scripts, for a job with these declarations: the message, the excerpt at its place, and what helps.

@@ -2,9 +2,8 @@
 use kp_ast::{Decl, Job, Name};
 use kp_base::{NoMemory, Refusal};
 use kp_net::{NetFile, NetReg, Netlist, Parts, Port};
-use kp_view_excerpt::Excerpt;
+use kp_view_excerpt::{Excerpt, write_fault};
 use kp_view_help::Word;
-use kp_view_note::write_fault;
 use kp_view_verilog_faults::{OtherFault, OtherHelp};
 use std::alloc::Global;
 

@@ -1,10 +1,9 @@
 // What is said of a violated rule after its head.
 ghost use Rattle.std.specs.Prelude.{◌≡◌, ◌-◌, ◌≤◌, OnOk, length};
-ghost use Rattle.kp_view_excerpt.specs.{Excerpts.IsExcerpt, Lines.line_at};
-ghost use Rattle.kp_view_note.specs.Faults.{AppendsFault};
+ghost use Rattle.kp_view_excerpt.specs.{Excerpts.IsExcerpt, Lines.line_at, Faults.AppendsFault};
 
+use crate::{Excerpt, line_from};
 use kp_base::{NoMemory, Place};
-use kp_view_excerpt::{Excerpt, line_from};
 use std::alloc::Global;
 use std::fmt;
 
