@@ -3,8 +3,8 @@ use Rattle.std.proofs.Common.{◌≡◌, ◌∙◌, ◌<◌, ℕ, List, [], ◌�
 use Rattle.std.specs.List.{All, Contains, Sorted.IsPermutation}
 use Rattle.std.proofs.lemmas.List.{Elements.All-contains, Elements.All-push, Elements.Contains-get_or, Sorted.All-permutation}
 use Rattle.kp_ast.specs.declared.tree.Job.{Job}
-use Rattle.kp_view_findings.specs.declared.finding.Caution.{Caution}
-use Rattle.kp_view_sets.specs.{declared.sets.PlacedSet.PlacedSet, Sets.first_sure, Sets.in_vain, Sets.sets_from, Claims.AreInVain, Claims.NeverTakesPlace}
+use Rattle.kp_view_findings.specs.{declared.finding.Caution.Caution, declared.sets.PlacedSet.PlacedSet, Sets.first_sure, Sets.in_vain, Sets.sets_from}
+use Rattle.kp_view_findings.specs.Claims.{AreInVain, NeverTakesPlace}
 use Rattle.kp_view_stages.specs.Cautions.{IsInVain, IsTrueOf}
 
 pub all_pushed : (job : Job) (xs : List Caution) (c : Caution) → All (IsTrueOf job) xs → IsTrueOf job c → All (IsTrueOf job) (xs ++ c ∷ [])

@@ -2,10 +2,10 @@
 use Rattle.std.specs.{Prelude.◌≡◌, Prelude.ℕ, Prelude.List, Prelude.Some, List.Contains}
 use Rattle.kp_base.specs.declared.place.Place.{Place}
 use Rattle.kp_ast.specs.declared.tree.Job.{Job}
-use Rattle.kp_view_sets.specs.{declared.sets.PlacedSet.PlacedSet, Sets.first_sure, Sets.in_vain, Sets.sets_from, Claims.NeverTakesPlace}
+use Rattle.kp_view_findings.specs.{declared.sets.PlacedSet.PlacedSet, Sets.first_sure, Sets.in_vain, Sets.sets_from, Claims.NeverTakesPlace}
+use Rattle.kp_view_findings.specs.declared.finding.Caution.{Caution}
 use Rattle.kp_view_message.specs.declared.warning.Warning.{Warning}
 use Rattle.kp_view_message.specs.declared.warning.Warning.TheVariants as warnings
-use Rattle.kp_view_findings.specs.declared.finding.Caution.{Caution}
 
 -- A set of the result never takes place: it comes after the first set of the result that has no condition.
 abbrev pub IsInVain : Job → List ℕ → PlacedSet → PlacedSet → Type 0

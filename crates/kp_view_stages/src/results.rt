@@ -2,18 +2,17 @@
 ghost use Rattle.std.specs.Prelude.{◌≡◌, IfSome, OnOk};
 ghost use Rattle.std.specs.List.{All};
 ghost use Rattle.kp_ast.specs.declared.tree.Job.{Job};
-ghost use Rattle.kp_view_sets.specs.Sets.{sets_from};
+ghost use Rattle.kp_view_findings.specs.Sets.{sets_from};
 ghost use Rattle.kp_view_stages.specs.Cautions.{ClaimsNothing, IsInVain, IsTrueOf};
 
 use crate::adding::add;
 use crate::ready::ready;
 use kp_ast::{Block, Expr, ExprKind, Job, Name, Named, ResultDecl, Stmt, StmtKind};
 use kp_base::NoMemory;
-use kp_view_findings::{Caution, Table};
+use kp_view_findings::laws::a_set_in_vain_never_takes_place;
+use kp_view_findings::{Caution, PlacedSet, Table, first_sure, in_vain, sets_of};
 use kp_view_help::Word;
 use kp_view_message::Warning;
-use kp_view_sets::laws::a_set_in_vain_never_takes_place;
-use kp_view_sets::{PlacedSet, first_sure, in_vain, sets_of};
 use std::alloc::Global;
 
 /// The warnings of a result.

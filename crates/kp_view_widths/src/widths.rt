@@ -1,7 +1,6 @@
 // The rules of names and widths: a pass that goes on after a violation.
 ghost use Rattle.std.specs.Prelude.{IfOk};
-ghost use Rattle.kp_view_findings.specs.Noted.{noted};
-ghost use Rattle.kp_view_confirmed.specs.PrintedWidths.{FirstIsTrue};
+ghost use Rattle.kp_view_findings.specs.{Noted.noted, PrintedWidths.FirstIsTrue};
 
 use crate::checks::{
     addresses, check_address, check_condition, check_value, declared, literal_width, width_in,
@@ -13,8 +12,7 @@ use kp_ast::{
     Block, Decl, Expr, FuncDecl, Job, Lit, Named, Num, Param, ReadStmt, ResultDecl, Stmt, StmtKind,
 };
 use kp_base::NoMemory;
-use kp_view_confirmed::confirmed;
-use kp_view_findings::Findings;
+use kp_view_findings::{Findings, confirmed};
 use kp_view_help::{Kind, Wanted, Word};
 use kp_view_message::{Goal, Message, WidthFault};
 use std::alloc::Global;

@@ -1,2 +1,0 @@
-pub mod PrintedWidths
-pub mod inner

@@ -1,3 +1,0 @@
-pub mod Scopes
-pub mod Expressions
-pub mod Places
