@@ -4,8 +4,7 @@ use Rattle.std.specs.declared.{option.Option.Option, result.Result.Result}
 use Rattle.kp_base.specs.declared.refusal.Refusal.{Refusal}
 use Rattle.kp_ast.specs.declared.tree.Job.{Job}
 use Rattle.kp_frontend.specs.Judging.{JudgesHead, JudgesHead.head_over, JudgesHead.head_within}
-use Rattle.kp_core_words.specs.Words.{Asked, write, reads_input}
-use Rattle.kp_core.specs.Due.{DueFor, IsDue, IsWhole, Prints}
+use Rattle.kp_core.specs.{Words.Asked, Words.write, Words.reads_input, Due.DueFor, Due.IsDue, Due.IsWhole, Due.Prints}
 
 -- a verdict on the bytes that were read is the verdict on all bytes
 judges_all : (taken rest : List ℕ) {verdict : Result (Job × ℕ) Refusal} → ((rest ≡ []) ⊎ (length taken ≡ 16777217)) → JudgesHead taken verdict → JudgesHead (taken ++ rest) verdict

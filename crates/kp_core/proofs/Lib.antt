@@ -1,2 +1,8 @@
 pub mod Known
+pub mod Asking
 pub mod Outcomes
+pub mod Occupants
+pub mod Showing
+pub mod Beginning
+mod Loading
+mod Memory

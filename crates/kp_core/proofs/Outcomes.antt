@@ -10,9 +10,8 @@ use Rattle.kp_frontend.specs.Judging.{JudgesHead, JudgesHeadText, most_bytes, to
 use Rattle.kp_view_texts.specs.Heads.{rule_head}
 use Rattle.kp_view_explain.specs.Explaining.{ExplainsText, Says, in_script}
 use Rattle.kp_view_explain.specs.declared.words.Subject.TheVariants as subjects
-use Rattle.kp_core_words.specs.{Messages.BeginsWith, Messages.file_name, Words.Asked, Words.help, Words.write, declared.texts.TheConstants.HELP}
-use Rattle.kp_core_words.specs.declared.request.Form.{Form}
-use Rattle.kp_core.specs.Due.{DueOfHead, DueOfVerdict, IsDue}
+use Rattle.kp_core.specs.{Messages.BeginsWith, Messages.file_name, Words.Asked, Words.help, Words.write, declared.texts.TheConstants.HELP}
+use Rattle.kp_core.specs.{declared.request.Form.Form, Due.DueOfHead, Due.DueOfVerdict, Due.IsDue}
 
 -- a job that violates a rule: the head of an input has one verdict, so the explanation names that rule
 pub explained : (one : (input : List ℕ) (a b : Result (Job × ℕ) Refusal) → JudgesHead input a → JudgesHead input b → a ≡ b)

@@ -9,13 +9,11 @@ use Rattle.kp_net.specs.{Netlist.Net, Names.IsNamed}
 use Rattle.kp_synth_spec.specs.{Shows.Shows, Shows.IsInOrder, Anew.BeginsAnew}
 use Rattle.kp_synth.specs.Carrying.{Carries}
 use Rattle.kp_view_texts.specs.Heads.{rule_head}
-use Rattle.kp_core_ports.specs.{declared.port.Port.Port, declared.port.PortRefusal.PortRefusal, Ports.ports_of}
-use Rattle.kp_core_text.specs.Core.{core_text}
-use Rattle.kp_core_text.specs.Names.{names_text}
-use Rattle.kp_core_words.specs.{declared.request.Form.Form, Messages.BeginsWith, Messages.file_name, Messages.port_head}
-use Rattle.kp_core_words.specs.Words.{Asked, bad_words, help, version, write, reads_input}
-use Rattle.kp_core_words.specs.declared.texts.TheConstants.{HELP, USAGE, VERSION}
-use Rattle.kp_core_words.specs.declared.request.Form.TheVariants as forms
+use Rattle.kp_core_ports.specs.{declared.port.Port.Port, declared.port.PortRefusal.PortRefusal, Ports.ports_of, Core.core_text, Names.names_text}
+use Rattle.kp_core.specs.{declared.request.Form.Form, Messages.BeginsWith, Messages.file_name, Messages.port_head}
+use Rattle.kp_core.specs.Words.{Asked, bad_words, help, version, write, reads_input}
+use Rattle.kp_core.specs.declared.texts.TheConstants.{HELP, USAGE, VERSION}
+use Rattle.kp_core.specs.declared.request.Form.TheVariants as forms
 
 -- exactly this status and this text
 abbrev pub Says : ℕ → List ℕ → ℕ → List ℕ → Type 0

@@ -7,10 +7,9 @@ ghost use Rattle.kp_base.specs.declared.refusal.Refusal.{Refusal};
 ghost use Rattle.kp_core.specs.Answers.{text_said};
 
 use crate::answer::{Answer, Said};
+use crate::{Form, message_of};
 use kp_base::{NoMemory, Refused};
-use kp_core_ports::{Port, PortsRefused, read_ports};
-use kp_core_text::{core_text, names_text};
-use kp_core_words::{Form, message_of};
+use kp_core_ports::{Port, PortsRefused, core_text, names_text, read_ports};
 use kp_frontend::laws::a_head_has_one_verdict;
 use kp_frontend::{Accepted, Head, judge_head};
 use kp_synth::synth;

@@ -2,10 +2,22 @@
 //!
 //! The input is a job and, after its `end`, lines that ask for ports. The module of the job's pipelined machine with these ports goes to standard output,
 //! with status 0, and why there is none to standard error. All memory is allocated before the first byte is written.
+//!
+//! `request.rt`, `texts.rt` and `message.rt`: the words of a command line as what they ask for, the texts of help, usage and version, and the message on a
+//! line that is refused. `runs` and `laws`: runs of a module whose files are loaded while its reset is raised, where they begin (`specs/Beginning.antt`), what
+//! the laws of the pipeline say of them, and what the ports of the module show, in terms of the job's machine.
 #![tactic(auto)]
 
 mod answer;
 mod inputs;
+pub mod laws;
+mod message;
+mod request;
+pub mod runs;
+mod texts;
 mod top;
 
+pub use message::message_of;
+pub use request::{Form, Request};
+pub use texts::{HELP, USAGE, VERSION};
 pub use top::run_core;

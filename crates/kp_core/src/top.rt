@@ -3,16 +3,14 @@ ghost use Rattle.std.specs.Prelude.{◌≡◌, ◌≢◌, ◌≤◌, ◌⊎◌, 
 ghost use Rattle.kp_base.specs.Causes.{Rose};
 ghost use Rattle.kp_frontend.specs.Judging.{too_long};
 ghost use Rattle.kp_view_texts.specs.Heads.{rule_head};
-ghost use Rattle.kp_core_words.specs.Messages.{BeginsWith, file_name};
-ghost use Rattle.kp_core_words.specs.Words.{asked, reads_input, write};
-ghost use Rattle.kp_core.specs.Answers.{text_said};
+ghost use Rattle.kp_core.specs.{Messages.BeginsWith, Messages.file_name, Words.asked, Words.reads_input, Words.write, Answers.text_said};
 ghost use Rattle.kp_core.specs.Due.{DueFor, IsDue, IsFinal, Prints, PrintsPart};
 ghost use Rattle.kp_core.specs.declared.top.Stop.TheVariants as stop;
 
 use crate::answer::{Answer, Said};
 use crate::inputs::of_input;
+use crate::{Form, HELP, Request, USAGE, VERSION};
 use kp_base::{NoMemory, Place, ReadAll, Refusal, Sink, Source, read_all, write_all};
-use kp_core_words::{Form, HELP, Request, USAGE, VERSION};
 use kp_view_texts::write_head;
 use std::alloc::Global;
 

@@ -1,8 +1,7 @@
 // The top calls of the programs.
 use crate::head::Streams;
 use kp_base::{MemSink, MemSource, write_all};
-use kp_core::run_core;
-use kp_core_words::Request as CoreRequest;
+use kp_core::{Request as CoreRequest, run_core};
 use kp_tool::tool;
 use kp_view::view;
 use kp_view_explain::{HELP, Order, asks_help, explain_source};

@@ -4,8 +4,7 @@
 mod output;
 
 use kp_base::{StdSink, StdSource};
-use kp_core::run_core;
-use kp_core_words::Request;
+use kp_core::{Request, run_core};
 use output::Output;
 use std::alloc::AllocError;
 use std::env::Env;

@@ -1,0 +1,33 @@
+-- What words ask for, by the tests on them.
+use Rattle.std.proofs.Common.{◌≡◌, ℕ, Bool, true, false, cond, ◌||◌, List, [], ◌∷◌, map, refl, ap, ◌∙◌}
+use Rattle.std.specs.List.{list_any}
+use Rattle.kp_core.specs.Words.{Asked, help, version, is_help, is_version, table_or_module, asked_for}
+
+-- a test of the texts of words
+any_text : {A : Type 0} (text : A → List ℕ) (test : List ℕ → Bool) (words : List A) → list_any (λ word. test (text word)) words ≡ list_any test (map text words)
+any_text text test [] = refl
+any_text text test (word ∷ words) = ap (λ (b : Bool). test (text word) || b) (any_text text test words)
+
+module _ {A : Type 0} (text : A → List ℕ) (words : List A) where
+  abbrev all : List (List ℕ)
+  all = map text words
+
+  of_help : (b : Bool) → b ≡ list_any (λ word. is_help (text word)) words → b ≡ list_any is_help all
+  of_help b is = is ∙ any_text text is_help words
+
+  of_version : (b : Bool) → b ≡ list_any (λ word. is_version (text word)) words → b ≡ list_any is_version all
+  of_version b is = is ∙ any_text text is_version words
+
+  pub helped : true ≡ list_any (λ word. is_help (text word)) words → help ≡ asked_for all
+  helped is = ap (λ (b : Bool). cond b help (cond (list_any is_version all) version (table_or_module all))) (of_help true is)
+
+  pub versioned : false ≡ list_any (λ word. is_help (text word)) words → true ≡ list_any (λ word. is_version (text word)) words → version ≡ asked_for all
+  versioned other is =
+      ap (λ (b : Bool). cond b version (table_or_module all)) (of_version true is)
+      ∙ ap (λ (b : Bool). cond b help (cond (list_any is_version all) version (table_or_module all))) (of_help false other)
+
+  pub filed : (asked : Asked) → false ≡ list_any (λ word. is_help (text word)) words → false ≡ list_any (λ word. is_version (text word)) words → asked ≡ table_or_module all
+      → asked ≡ asked_for all
+  filed asked other none is =
+      is ∙ ap (λ (b : Bool). cond b version (table_or_module all)) (of_version false none)
+      ∙ ap (λ (b : Bool). cond b help (cond (list_any is_version all) version (table_or_module all))) (of_help false other)

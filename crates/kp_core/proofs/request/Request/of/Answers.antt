@@ -1,0 +1,13 @@
+use Rattle.std.specs.Prelude.{string_bytes}
+use Rattle.kp_core.specs.Words.{asked}
+use Rattle.kp_core.proofs.Asking.{helped, versioned, filed}
+use Rattle.kp_core.proofs.request.Request.of.Goals as goal
+
+pub returns-then-has_help : goal.returns-then-has_help
+returns-then-has_help c = helped string_bytes c.args.words.now c.if-has_help.ensures
+
+pub returns-then-has_version : goal.returns-then-has_version
+returns-then-has_version c = versioned string_bytes c.args.words.now c.if-has_help.ensures c.if-has_version.ensures
+
+pub returns : goal.returns
+returns c = filed string_bytes c.args.words.now (asked c.of_form.result) c.if-has_help.ensures c.if-has_version.ensures c.of_form.ensures

@@ -1,0 +1,52 @@
+-- THE WORDS of a command line of `kpcore`.
+use Rattle.std.specs.Prelude.{◌==◌, ℕ, Bool, true, false, ◌||◌, List, [], ◌∷◌, codes, if◌then◌else◌, Option, Some, None, option_map, string_bytes}
+use Rattle.std.specs.{List.list_any, Str.bytes_eq}
+use Rattle.kp_core.specs.declared.request.{Form.Form, Request.Request}
+use Rattle.kp_core.specs.declared.request.Form.TheVariants as forms
+use Rattle.kp_core.specs.declared.request.Request.TheVariants as requests
+
+-- what is asked for: the module of the job of a file, or of standard input, or the table of its registers, or a text of the program
+pub data Asked : Type 0 where
+  bad_words : Asked
+  help : Asked
+  version : Asked
+  write : Form → Option (List ℕ) → Asked
+
+abbrev pub asked : Request → Asked
+asked requests.BadWords = bad_words
+asked requests.Help = help
+asked requests.Version = version
+asked (requests.Core form file) = write form (option_map (λ word. string_bytes word.now) file)
+
+abbrev pub is_help : List ℕ → Bool
+is_help word = bytes_eq word (codes "--help") || bytes_eq word (codes "-h")
+
+abbrev pub is_version : List ℕ → Bool
+is_version word = bytes_eq word (codes "--version") || bytes_eq word (codes "-V")
+
+abbrev pub is_names : List ℕ → Bool
+is_names word = bytes_eq word (codes "--names")
+
+abbrev pub begins_with_dash : List ℕ → Bool
+begins_with_dash [] = false
+begins_with_dash (c ∷ cs) = c == 45
+
+-- at most one word, which is a file
+abbrev pub file_of : Form → List (List ℕ) → Asked
+file_of form [] = write form None
+file_of form (name ∷ []) = if begins_with_dash name then bad_words else write form (Some name)
+file_of form (name ∷ other ∷ rest) = bad_words
+
+-- the table, if the first word asks for it
+abbrev pub table_or_module : List (List ℕ) → Asked
+table_or_module [] = file_of forms.Module []
+table_or_module (word ∷ words) = if is_names word then file_of forms.Names words else file_of forms.Module (word ∷ words)
+
+-- the words after the name of the program: a word for help counts first, then one for the version
+abbrev pub asked_for : List (List ℕ) → Asked
+asked_for words = if list_any is_help words then help else (if list_any is_version words then version else table_or_module words)
+
+-- a module or a table reads the source, and nothing else does
+abbrev pub reads_input : Asked → Bool
+reads_input (write form file) = true
+reads_input _ = false

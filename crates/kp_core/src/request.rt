@@ -1,0 +1,109 @@
+// The words of a command line, and what they ask for.
+ghost use Rattle.std.specs.Prelude.{◌≡◌, map, string_bytes};
+ghost use Rattle.std.specs.List.{list_any};
+ghost use Rattle.kp_core.specs.Words.{asked, asked_for, begins_with_dash, file_of, is_help, is_names, is_version, table_or_module};
+
+/// What is written for a job that violates no rule.
+#[derive(Clone, Copy)]
+pub enum Form {
+    /// The module with ports.
+    Module,
+    /// The table of its registers.
+    Names,
+}
+
+/// What the words of a command line ask for.
+#[derive(Clone, Copy)]
+pub enum Request<'w> {
+    /// The words are not accepted.
+    BadWords,
+    Help,
+    Version,
+    /// The module, or the table of its registers, of the job of a file, or of standard input.
+    Core(Form, Option<&'w String>),
+}
+
+impl<'w> Request<'w> {
+    /// What the words after the program's name ask for.
+    pub fn of(words: &'w [String]) -> Self
+        ensures { asked result ≡ asked_for (map string_bytes words.now) }
+    {
+        if has_help(words) {
+            return Request::Help;
+        }
+        if has_version(words) {
+            return Request::Version;
+        }
+        Request::of_form(words)
+    }
+
+    // The same where no word asks for help or the version.
+    fn of_form(words: &'w [String]) -> Self
+        ensures { asked result ≡ table_or_module (map string_bytes words.now) }
+    {
+        if let [first, rest @ ..] = words {
+            if is_names(first.as_str()) {
+                return Request::of_file(Form::Names, rest);
+            }
+        }
+        Request::of_file(Form::Module, words)
+    }
+
+    // The same for this form, of which these are the other words.
+    fn of_file(form: Form, words: &'w [String]) -> Self
+        ensures { asked result ≡ file_of form (map string_bytes words.now) }
+    {
+        match words {
+            [] => Request::Core(form, None),
+            [name] => {
+                if begins_with_dash(name.as_bytes()) {
+                    Request::BadWords
+                } else {
+                    Request::Core(form, Some(name))
+                }
+            }
+            _ => Request::BadWords,
+        }
+    }
+}
+
+// One of the words asks for help.
+fn has_help(words: &[String]) -> bool
+    ensures { result ≡ list_any (λ word. is_help (string_bytes word)) words.now }
+{
+    words.iter().any(|word| is_help(word.as_str()))
+}
+
+// One of the words asks for the version.
+fn has_version(words: &[String]) -> bool
+    ensures { result ≡ list_any (λ word. is_version (string_bytes word)) words.now }
+{
+    words.iter().any(|word| is_version(word.as_str()))
+}
+
+fn is_help(word: &str) -> bool
+    ensures { result ≡ is_help word.now }
+{
+    word == "--help" || word == "-h"
+}
+
+fn is_version(word: &str) -> bool
+    ensures { result ≡ is_version word.now }
+{
+    word == "--version" || word == "-V"
+}
+
+fn is_names(word: &str) -> bool
+    ensures { result ≡ is_names word.now }
+{
+    word == "--names"
+}
+
+fn begins_with_dash(word: &[u8]) -> bool
+    ensures { result ≡ begins_with_dash word.now }
+{
+    match word {
+        [b'-', ..] => true,
+        _ => false,
+    }
+}

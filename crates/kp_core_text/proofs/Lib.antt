@@ -1,3 +1,0 @@
-pub mod Extending
-pub mod Registers
-pub mod Steps

@@ -1,4 +1,0 @@
-pub mod Core
-pub mod Extended
-pub mod Ports
-pub mod Names
