@@ -4,7 +4,7 @@ use Rattle.std.specs.declared.option.Option.{Option}
 use Rattle.kp_base.specs.declared.refusal.{Refusal.Refusal, Refused.Refused}
 use Rattle.kp_base.specs.declared.refusal.Refused.TheVariants as refused
 use Rattle.kp_ast.specs.declared.tree.Job.{Job}
-use Rattle.kp_vread_match.specs.Matching.{IsRefused}
+use Rattle.kp_vread.specs.Matching.{IsRefused}
 use Rattle.kp_net.specs.{Names.IsNamed, Netlist.Net}
 use Rattle.kp_synth_spec.specs.Shows.{HasOutputs, IsOfJob}
 use Rattle.kp_vlog.{specs.Verdict.AnswersNet, proofs.Sound.denoted_named}

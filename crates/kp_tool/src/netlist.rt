@@ -7,8 +7,7 @@ use crate::failure::Failure;
 use kp_base::Refused;
 use kp_net::Netlist;
 use kp_stage::Design;
-use kp_vread::read_verilog;
-use kp_vread_match::matches;
+use kp_vread::{matches, read_verilog};
 use std::alloc::Global;
 
 /// The netlist of the module that starts at an offset of a text, if it is one of the job. A violated rule is the first of V1 to V6.

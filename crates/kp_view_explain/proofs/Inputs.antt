@@ -9,7 +9,7 @@ use Rattle.kp_asm.specs.Program.{assembled}
 use Rattle.kp_vlog.specs.{Denote.Denotes, Verdict.IsRefused}
 use Rattle.kp_debug_script.specs.{Scripts.script_of, declared.command.Command.Command}
 use Rattle.kp_synth_spec.specs.Shows.{IsOfJob}
-use Rattle.kp_vread_match.specs.Matching.{IsRefused as IsOfOther}
+use Rattle.kp_vread.specs.Matching.{IsRefused as IsOfOther}
 use Rattle.kp_frontend.specs.Judging.{JudgesText, JudgesHeadText, too_long}
 use Rattle.kp_view_texts.specs.Heads.{rule_head}
 use Rattle.kp_view_explain.specs.Explaining.{BeginsWith, ExplainsText, FindsInModule, HasJob, IsExplained, Says, rule_of, warned, Finds.over, Finds.within}

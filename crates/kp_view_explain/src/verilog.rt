@@ -14,8 +14,7 @@ use kp_base::{NoMemory, Refusal, Refused};
 use kp_frontend::{Head, judge_head};
 use kp_net::Netlist;
 use kp_view_verilog::{write_other, write_verilog};
-use kp_vread::read_verilog;
-use kp_vread_match::matches;
+use kp_vread::{matches, read_verilog};
 use std::alloc::Global;
 
 /// The explanation of a Verilog text that is not too long: the first rule that it violates.

@@ -5,3 +5,6 @@ pub mod Beside
 pub mod Fitting
 pub mod Reading
 pub mod Whole
+pub mod Tests
+pub mod Names
+pub mod Matches

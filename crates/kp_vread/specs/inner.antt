@@ -4,3 +4,4 @@ pub mod Numbering
 pub mod Building
 pub mod Nexts
 pub mod Parts
+pub mod Tests

@@ -1,6 +1,6 @@
 use Rattle.std.proofs.Common.{subst}
 use Rattle.kp_base.specs.declared.refusal.Refused.{Refused}
-use Rattle.kp_vread_match.specs.Matching.{IsRefused}
+use Rattle.kp_vread.specs.Matching.{IsRefused}
 use Rattle.kp_view_explain.proofs.Inputs.{other_netlist}
 use Rattle.kp_view_explain.proofs.verilog.explain_netlist.Goals as goal
 

@@ -1,7 +1,0 @@
-use Rattle.std.proofs.Common.{◌≡◌, drop}
-use Rattle.kp_machine.specs.Slots.{targets_of}
-use Rattle.kp_vread_match.specs.inner.Whole.{names_register}
-use Rattle.kp_vread_match.proofs.targets.names_register.Given as goal
-
-abbrev pub invariant-loop-decl : goal.invariant-loop-decl
-invariant-loop-decl l = names_register (targets_of (drop l.decl-index l.decls)) l.label ≡ names_register (targets_of l.decls) l.label
