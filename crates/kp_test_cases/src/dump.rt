@@ -2,8 +2,7 @@
 ghost use Rattle.std.specs.Prelude.{◌≤◌, ◌-◌, ◌^◌, length};
 
 use kp_base::MemSink;
-use kp_vcd::{Dump, write_dump};
-use kp_vcd_read::{DumpRefused, read_dump};
+use kp_vcd::{Dump, DumpRefused, read_dump, write_dump};
 use std::alloc::{AllocError, Global};
 use std::io;
 

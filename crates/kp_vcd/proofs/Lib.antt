@@ -2,3 +2,12 @@ pub mod Digits
 pub mod Lines
 pub mod Holding
 pub mod Recorded
+pub mod Spots
+pub mod Bits
+pub mod Names
+pub mod Left
+pub mod Counted
+pub mod Meeting
+pub mod Numerals
+pub mod Leading
+pub mod Round

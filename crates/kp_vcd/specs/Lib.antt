@@ -2,3 +2,8 @@ pub mod Name
 pub mod Text
 pub mod Held
 pub mod Recording
+pub mod Words
+pub mod Forms
+pub mod Reading
+pub mod Fitting
+pub mod inner

@@ -15,8 +15,7 @@ use Rattle.kp_machine.specs.{Machine.machine_of, Machine.state_of, Machine.start
 use Rattle.kp_machine.{proofs.Widths.Fine, proofs.Widths.job_fine, specs.Words.no_slot}
 use Rattle.kp_synth_tables.proofs.Limits.{limits, targets_counted}
 use Rattle.kp_run.proofs.Machines.{stages_fit}
-use Rattle.kp_vcd.specs.{declared.dump.Signal.Signal, Recording.Values}
-use Rattle.kp_vcd_read.specs.{Forms.is_name, Fitting.IsSignal, Fitting.FitsForm}
+use Rattle.kp_vcd.specs.{declared.dump.Signal.Signal, Recording.Values, Forms.is_name, Fitting.IsSignal, Fitting.FitsForm}
 use Rattle.kp_vcd_run.specs.Dumps.{wire, register_signals, signals_of, number, output_values, register_values, values_at, own_run, vcd_dump}
 use Rattle.kp_vcd_run.proofs.Masks.{RollBackBelow, run_below}
 use Rattle.kp_vcd_run.proofs.{Named.RegistersNamed, Named.JobNamed, ReadValues.visible_fits}

@@ -8,8 +8,7 @@ use Rattle.kp_image.specs.Sections.{sections_of}
 use Rattle.kp_lex.specs.declared.token.Lexed.{Lexed}
 use Rattle.kp_frontend.specs.Judging.{Judges, JudgesHead, IsSentenceOf, broken_in, Judges.within, JudgesText.accepted, JudgesHead.head_within}
 use Rattle.kp_frontend.specs.Judging.JudgesHeadText.{head_accepted}
-use Rattle.kp_vcd.specs.declared.dump.Dump.{Dump}
-use Rattle.kp_vcd_read.specs.{Reading.Fault, Reading.verdict, Fitting.FitsForm}
+use Rattle.kp_vcd.specs.{declared.dump.Dump.Dump, Reading.Fault, Reading.verdict, Fitting.FitsForm}
 use Rattle.kp_vcd_run.specs.Dumps.{vcd_dump}
 use Rattle.kp_vcd_run.specs.Accepted.{IsAccepted, IsAccepted.of_input, IsAccepted.of_head}
 use Rattle.kp_vcd_run.proofs.{Named.JobNamed, Named.job_named, Fitting.dump_fits}

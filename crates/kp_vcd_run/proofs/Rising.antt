@@ -4,7 +4,7 @@ use Rattle.std.specs.{Prelude.if◌then◌else◌, List.AllByRecursion}
 use Rattle.kp_bits.specs.Word.{Word, IsWord}
 use Rattle.kp_vcd.specs.declared.dump.{Signal.Signal, Change.Change, Moment.Moment}
 use Rattle.kp_vcd.specs.Recording.{Values, is_value, change_of, changes_from, values_before, changes_at, moment_of, moments_before, recorded}
-use Rattle.kp_vcd_read.specs.{Forms.width_at, Fitting.IsChange, Fitting.RisesAfter, Fitting.Rises}
+use Rattle.kp_vcd.specs.{Forms.width_at, Fitting.IsChange, Fitting.RisesAfter, Fitting.Rises}
 
 -- ---- each item of a list
 

@@ -3,14 +3,13 @@
 ghost use Rattle.std.specs.Prelude.{◌≡◌, ◌≤◌, ◌<◌, ◌^◌, ℕ, None, Some, Ok, get_or};
 ghost use Rattle.kp_ast.specs.declared.tree.Job.{Job};
 ghost use Rattle.kp_bits.specs.Word.{Word};
-ghost use Rattle.kp_vcd.specs.Held.{held, Changes};
+ghost use Rattle.kp_vcd.specs.{Held.held, Held.Changes, Reading.verdict};
 ghost use Rattle.kp_vcd.specs.declared.dump.Dump.{Dump};
-ghost use Rattle.kp_vcd_read.specs.Reading.{verdict};
 ghost use Rattle.kp_vcd_run.specs.Dumps.{values_at, own_run, vcd_dump, vcd_text};
 ghost use Rattle.kp_vcd_run.specs.Accepted.{IsAccepted};
 
 use crate::laws::a_dump_holds_its_run;
-use kp_vcd_read::laws::the_text_of_a_dump_is_read_as_this_dump;
+use kp_vcd::laws::the_text_of_a_dump_is_read_as_this_dump;
 use kp_width::laws::one_entry_for_each_name;
 
 /// For each job that violates no rule and each n below 2^64, which is as far as a text counts time, the text of the dump over n cycles violates no

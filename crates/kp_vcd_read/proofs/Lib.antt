@@ -1,9 +1,0 @@
-pub mod Spots
-pub mod Bits
-pub mod Names
-pub mod Left
-pub mod Counted
-pub mod Meeting
-pub mod Numerals
-pub mod Leading
-pub mod Round

@@ -1,5 +1,0 @@
-pub mod Words
-pub mod Forms
-pub mod Reading
-pub mod Fitting
-pub mod inner
