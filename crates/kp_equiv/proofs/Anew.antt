@@ -13,9 +13,9 @@ use Rattle.kp_synth_spec.specs.Naming.{module_name, place_among, register_of, fi
 use Rattle.kp_synth_spec.specs.{Traces.inputs_seen, Traces.AreQuiet, Anew.trace_from, Anew.left_by_reset, Anew.HasMemory, Anew.BeginsAnew}
 use Rattle.kp_synth_spec.proofs.Anew.{left_alike}
 use Rattle.kp_synth_spec.specs.Traces as traces
-use Rattle.kp_equiv_classes.specs.{Alike.file_name, Named.file_names, Roots.AllAgree}
-use Rattle.kp_equiv_classes.proofs.Places.{memories, one_index, file_names_are, file_count}
-use Rattle.kp_equiv.specs.{Roots.IsComparable, Runs.no_state, Showing.renamed, Showing.ShowsButName, inner.Meaning.SameFiles, inner.Meaning.SameStates}
+use Rattle.kp_equiv.specs.{Alike.file_name, Named.file_names, Agreement.AllAgree, Verdicts.IsComparable, Runs.no_state, Showing.renamed, Showing.ShowsButName}
+use Rattle.kp_equiv.specs.inner.Meaning.{SameFiles, SameStates}
+use Rattle.kp_equiv.proofs.Places.{memories, one_index, file_names_are, file_count}
 use Rattle.kp_equiv.proofs.Running.{agreed, starts, steps, run_rows, run_states}
 use Rattle.kp_equiv.proofs.Shown.{Twins, twins, turned, chosen_alike, placed_at, placed_there, states_same, rows_same, reg_place, file_place, length_rows}
 

@@ -5,14 +5,13 @@ use Rattle.std.{proofs.lemmas.List.Elements.All-get_or, proofs.lemmas.List.lengt
 use Rattle.kp_bits.specs.Word.{Word}
 use Rattle.kp_net.specs.declared.{node.NodeId.NodeId, netlist.NetReg.NetReg, netlist.NetFile.NetFile, netlist.Port.Port, netlist.WritePort.WritePort}
 use Rattle.kp_net.specs.{Names.same, Netlist.Net, Parts.NetOk, Parts.RegOk, Parts.FileOk, Parts.WriteOk, Parts.no_reg, Parts.no_file}
+use Rattle.kp_equiv.specs.Agreement.{Root, Ports, Register, File, Full, Ue, Back, roots, RegsAlike, WritesAlike, FilesAlike, PortsAgree, RegisterAgrees, FileAgrees, Agrees}
 use Rattle.kp_equiv.specs.declared.verdict.Verdict.{Verdict, TheVariants.Same, TheVariants.Differs}
-use Rattle.kp_equiv.specs.Roots.{IsComparable, IsVerdict}
-use Rattle.kp_equiv_classes.specs.Roots.{Root, Ports, Register, File, Full, Ue, Back, roots, RegsAlike, WritesAlike, FilesAlike, PortsAgree, RegisterAgrees, FileAgrees, Agrees}
-use Rattle.kp_equiv_classes.specs.{Alike.Alike, Named.HasNames, Classes.place, Classes.class_in, Sections.Differing, Sections.FirstOf}
-use Rattle.kp_equiv_classes.proofs.{Determined.alike_found, Inputs.port_decides}
-use Rattle.kp_equiv_classes.proofs.Places.{Things, registers, memories, namesake, missing}
-use Rattle.kp_equiv_classes.proofs.Ordered.{register_found, file_found, agree_more, differ_more}
-use Rattle.kp_equiv_classes.proofs.Determining.{SomeDetermines, some_determines}
+use Rattle.kp_equiv.specs.{Verdicts.IsComparable, Verdicts.IsVerdict, Alike.Alike, Named.HasNames, Classes.place, Classes.class_in}
+use Rattle.kp_equiv.specs.Sections.{Differing, FirstOf}
+use Rattle.kp_equiv.proofs.{Determined.alike_found, Inputs.port_decides, Places.Things, Places.registers, Places.memories, Places.namesake, Places.missing}
+use Rattle.kp_equiv.proofs.Ordered.{register_found, file_found, agree_more, differ_more}
+use Rattle.kp_equiv.proofs.Determining.{SomeDetermines, some_determines}
 
 -- a fact that a test decides
 record Decided (P : Type 0) : Type 0 where

@@ -1,3 +1,15 @@
+pub mod Exactness
+pub mod Growing
+pub mod Naming
+pub mod Operations
+pub mod Tables
+pub mod Determining
+pub mod Counting
+pub mod Inputs
+pub mod NamedAlike
+pub mod Ordered
+pub mod Places
+pub mod Determined
 pub mod Deciding
 pub mod Jobs
 pub mod Lines

@@ -1,8 +1,7 @@
 -- The line that reports a verdict.
 use Rattle.std.proofs.Common.{◌≡◌, ◌∙◌, ℕ, ◌++◌, List, length, codes, decimal, sym, ap, subst}
 use Rattle.kp_net.specs.Netlist.{Net}
-use Rattle.kp_equiv_classes.specs.Roots.{roots, root, AllAgree}
-use Rattle.kp_equiv.specs.{Roots.IsVerdict, declared.verdict.Verdict.Verdict}
+use Rattle.kp_equiv.specs.{Agreement.roots, Agreement.root, Agreement.AllAgree, Verdicts.IsVerdict, declared.verdict.Verdict.Verdict}
 use Rattle.kp_equiv.specs.{declared.verdict.Verdict.TheVariants.Same, declared.verdict.Verdict.TheVariants.Differs, Texts.root_name, Texts.verdict_line}
 
 -- the line of a verdict

@@ -1,7 +1,7 @@
 -- The names in a list are those of a netlist.
 use Rattle.std.proofs.Common.{◌≡◌, ◌∙◌, ℕ, List, map, ap}
 use Rattle.kp_net.specs.{declared.netlist.NetFile.NetFile, declared.netlist.NetReg.NetReg, declared.netlist.Parts.Parts, Netlist.Net}
-use Rattle.kp_equiv_classes.specs.Named.{reg_names, file_names}
+use Rattle.kp_equiv.specs.Named.{reg_names, file_names}
 
 pub regs_listed : (a : Net) (p : Parts) (rs : List NetReg) (names : List (List ℕ)) → p ≡ a.parts → rs ≡ p.regs → names ≡ map (λ (r : NetReg). r.name) rs → names ≡ reg_names a
 regs_listed a p rs names e f g = g ∙ ap (map (λ (r : NetReg). r.name)) (f ∙ ap (λ (x : Parts). x.regs) e)

@@ -10,7 +10,7 @@ use Rattle.kp_net.specs.declared.node.Kind.TheVariants.{Const, Ext, Sample, Reg,
 use Rattle.kp_net.specs.{declared.node.Node.Node, Netlist.Net}
 use Rattle.kp_net.specs.{Nodes.Cells, Nodes.Words, Nodes.word_of_kind, Nodes.word_of_node, Nodes.word_at, Nodes.at, Nodes.on, Parts.NetOk, Parts.CellOk}
 use Rattle.kp_net.{specs.Widths.KindOk, specs.Widths.wide, specs.Widths.no_node, proofs.Values.word_there, proofs.Values.word_wide}
-use Rattle.kp_equiv_classes.specs.Alike.{commutes, Relation, AllRelated, PairRelated, KindAlike, Alike, AlikeWithin}
+use Rattle.kp_equiv.specs.Alike.{commutes, Relation, AllRelated, PairRelated, KindAlike, Alike, AlikeWithin}
 use Rattle.kp_equiv.specs.inner.Meaning.{SameCells}
 
 test_swaps : (x y : ℕ) → (x == y) ≡ (y == x)

@@ -6,12 +6,12 @@ use Rattle.kp_bits.specs.Word.{Word}
 use Rattle.kp_net.specs.Netlist.{Net, Input, State, cells_of, start_regs, start_of, regs_after, port_after, files_after, resets, state_after, row_of, states_from, rows_from}
 use Rattle.kp_net.specs.declared.netlist.{Port.Port, NetReg.NetReg, NetFile.NetFile, WritePort.WritePort}
 use Rattle.kp_net.specs.{Names.among, Nodes.Cells, Nodes.at, Parts.NetOk, Parts.no_port, Parts.no_reg, Parts.no_file}
-use Rattle.kp_equiv_classes.specs.Roots.{Ports, Full, Ue, Back, names_of_second, roots, RegsAlike, FilesAlike, WritesAlike, PortsAgree, RegisterAgrees, FileAgrees, Agrees, AllAgree}
-use Rattle.kp_equiv_classes.specs.{Alike.Alike, Alike.reg_name, Alike.file_name, Alike.sample_name, Named.reg_names, Sections.behind_regs}
-use Rattle.kp_equiv_classes.proofs.Ordered.{filter_some, is_new, among_reg}
-use Rattle.kp_equiv_classes.proofs.Counting.{later_root, root_count, none_second, root_of_ports, root_of_reg, behind_file, behind_output}
-use Rattle.kp_equiv_classes.proofs.Places.{registers, memories, ports, one_index, related, reg_names_are, reg_count}
-use Rattle.kp_equiv.specs.{Roots.IsComparable, Runs.RunAlike, Runs.no_state, inner.Meaning.SameCells, inner.Meaning.SameStates}
+use Rattle.kp_equiv.specs.Agreement.{Ports, Full, Ue, Back, names_of_second, roots, RegsAlike, FilesAlike, WritesAlike, PortsAgree, RegisterAgrees, FileAgrees, Agrees, AllAgree}
+use Rattle.kp_equiv.specs.{Alike.Alike, Alike.reg_name, Alike.file_name, Alike.sample_name, Named.reg_names, Sections.behind_regs, Verdicts.IsComparable}
+use Rattle.kp_equiv.specs.{Runs.RunAlike, Runs.no_state, inner.Meaning.SameCells, inner.Meaning.SameStates}
+use Rattle.kp_equiv.proofs.Ordered.{filter_some, is_new, among_reg}
+use Rattle.kp_equiv.proofs.Counting.{later_root, root_count, none_second, root_of_ports, root_of_reg, behind_file, behind_output}
+use Rattle.kp_equiv.proofs.Places.{registers, memories, ports, one_index, related, reg_names_are, reg_count}
 use Rattle.kp_equiv.proofs.Meaning.{alike_values, alike_tests}
 
 -- the roots of each section agree

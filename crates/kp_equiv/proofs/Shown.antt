@@ -14,9 +14,9 @@ use Rattle.kp_sched.specs.Rows.{rows_seen}
 use Rattle.kp_synth_spec.specs.Naming.{module_name, register_name, file_name as target_file_name, place_among, register_of, file_of, value_of, value_shown}
 use Rattle.kp_synth_spec.specs.{Shows.IsOfJob, Traces.trace_of}
 use Rattle.kp_synth_spec.specs.Traces as traces
-use Rattle.kp_equiv_classes.specs.{Alike.Alike, Alike.AlikeWithin, Alike.reg_name, Alike.file_name, Named.reg_names, Named.file_names, Roots.AllAgree}
-use Rattle.kp_equiv_classes.proofs.Places.{Things, registers, memories, name_is, one_index, reg_names_are, file_names_are}
-use Rattle.kp_equiv.specs.{Roots.IsComparable, Runs.RunAlike, Showing.renamed, Showing.ShowsButName}
+use Rattle.kp_equiv.specs.{Alike.Alike, Alike.AlikeWithin, Alike.reg_name, Alike.file_name, Named.reg_names, Named.file_names, Agreement.AllAgree}
+use Rattle.kp_equiv.specs.{Verdicts.IsComparable, Runs.RunAlike, Showing.renamed, Showing.ShowsButName}
+use Rattle.kp_equiv.proofs.Places.{Things, registers, memories, name_is, one_index, reg_names_are, file_names_are}
 use Rattle.kp_equiv.proofs.Running.{agreed, regs_alike, theorem}
 
 -- the first index of a name

@@ -7,12 +7,12 @@ use Rattle.kp_net.specs.declared.node.Kind.TheVariants.{Const, Ext, Sample, Reg,
 use Rattle.kp_net.specs.declared.{node.Node.Node, netlist.NetReg.NetReg, netlist.NetFile.NetFile, netlist.WritePort.WritePort}
 use Rattle.kp_net.specs.{Names.among, Netlist.Net, Parts.NetOk, Parts.RegOk, Parts.FileOk, Parts.WriteOk, Parts.no_reg, Parts.no_file}
 use Rattle.kp_net.specs.Widths.{KindOk, AllRight, no_node}
-use Rattle.kp_equiv_classes.specs.Roots.{Register, File, Full, Ue, Back, names_of_second, RegsAlike, WritesAlike, FilesAlike, PortsAgree, RegisterAgrees, FileAgrees, AllAgree}
-use Rattle.kp_equiv_classes.specs.Alike.{Relation, AllRelated, PairRelated, KindAlike, Alike, AlikeWithin, reg_name, file_name}
-use Rattle.kp_equiv_classes.{specs.Named.reg_names, specs.Sections.AgreeUpTo, proofs.NamedAlike.among_at}
-use Rattle.kp_equiv_classes.proofs.Ordered.{all_behind, agree_more, all_agree as every, roots_all, none_of_second, second_agrees}
-use Rattle.kp_equiv_classes.proofs.Places.{registers, memories, reg_names_are, reg_count}
-use Rattle.kp_equiv.specs.Roots.{IsComparable}
+use Rattle.kp_equiv.specs.Agreement.{Register, File, Full, Ue, Back, names_of_second, RegsAlike, WritesAlike, FilesAlike, PortsAgree, RegisterAgrees, FileAgrees, AllAgree}
+use Rattle.kp_equiv.specs.Alike.{Relation, AllRelated, PairRelated, KindAlike, Alike, AlikeWithin, reg_name, file_name}
+use Rattle.kp_equiv.specs.{Named.reg_names, Sections.AgreeUpTo, Verdicts.IsComparable}
+use Rattle.kp_equiv.proofs.NamedAlike.{among_at}
+use Rattle.kp_equiv.proofs.Ordered.{all_behind, agree_more, all_agree as every, roots_all, none_of_second, second_agrees}
+use Rattle.kp_equiv.proofs.Places.{registers, memories, reg_names_are, reg_count}
 use Rattle.kp_equiv.proofs.Running.{Agreed, agreed, regs_alike, files_alike, theorem}
 
 -- ---- the tree of a node is equivalent to itself

@@ -1,4 +1,9 @@
-pub mod Roots
+pub mod Alike
+pub mod Classes
+pub mod Named
+pub mod Agreement
+pub mod Sections
+pub mod Verdicts
 pub mod Runs
 pub mod Showing
 pub mod Texts

@@ -1,7 +1,7 @@
 -- TWO NETLISTS RUN ALIKE: the same rows, and the same values of all registers and file words, by name, for every list of inputs.
 use Rattle.std.specs.Prelude.{ℕ, ◌<◌, ◌≤◌, ◌≡◌, List, [], length, get_or}
 use Rattle.kp_net.specs.Netlist.{Net, Input, State, run}
-use Rattle.kp_equiv_classes.specs.Alike.{reg_name, file_name}
+use Rattle.kp_equiv.specs.Alike.{reg_name, file_name}
 
 abbrev pub no_state : State
 no_state = record { regs = []; files = [] }

@@ -2,7 +2,7 @@
 use Rattle.std.specs.Prelude.{ℕ, List, ◌++◌, length, codes, decimal}
 use Rattle.kp_net.specs.Netlist.{Net}
 use Rattle.kp_equiv.specs.declared.verdict.Verdict.{Verdict, TheVariants.Same, TheVariants.Differs}
-use Rattle.kp_equiv_classes.specs.Roots.{Root, Ports, Register, File, Full, Ue, Back, roots, root}
+use Rattle.kp_equiv.specs.Agreement.{Root, Ports, Register, File, Full, Ue, Back, roots, root}
 
 -- a register and a file are named as in the Verilog text
 abbrev pub root_name : Root → List ℕ

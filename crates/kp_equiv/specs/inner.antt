@@ -1,2 +1,4 @@
 -- For private contracts and proofs only: a reader need not trust it.
+pub mod Shapes
+pub mod Inputs
 pub mod Meaning

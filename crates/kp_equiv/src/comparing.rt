@@ -1,17 +1,17 @@
 // The comparison.
 ghost use Rattle.std.specs.Prelude.{◌≡◌, ◌+◌, ◌^◌, ◌<◌, ◌≤◌, ◌∷◌, [], length, map, None, IfOk, IfSome};
-ghost use Rattle.kp_equiv_classes.specs.Named.{reg_names, file_names, HasNames};
-ghost use Rattle.kp_equiv_classes.specs.Roots.{Register, File, Full, Ue, Back, names_of_second};
-ghost use Rattle.kp_equiv.specs.Roots.{IsComparable, IsVerdict};
-ghost use Rattle.kp_equiv_classes.specs.Classes.{Determines};
-ghost use Rattle.kp_equiv_classes.specs.Sections.{FirstNew, FirstOf, behind_ports, joined};
+ghost use Rattle.kp_equiv.specs.{Named.reg_names, Named.file_names, Named.HasNames, Verdicts.IsComparable, Verdicts.IsVerdict, Classes.Determines};
+ghost use Rattle.kp_equiv.specs.Agreement.{Register, File, Full, Ue, Back, names_of_second};
+ghost use Rattle.kp_equiv.specs.Sections.{FirstNew, FirstOf, behind_ports, joined};
 
-use crate::parts::{file_agrees, reg_at, register_agrees};
+use crate::alike::ports_agree;
+use crate::building::classes_of;
+use crate::classes::Classes;
+use crate::names::Names;
+use crate::namesakes::{file_agrees, reg_at, register_agrees};
+use crate::roots::{file_count, first_of_second, first_output, reg_count};
 use crate::verdict::Verdict;
 use kp_base::NoMemory;
-use kp_equiv_classes::{
-    Classes, Names, classes_of, file_count, first_of_second, first_output, ports_agree, reg_count,
-};
 use kp_net::Netlist;
 use std::alloc::Global;
 

@@ -1,9 +1,20 @@
-//! Structural comparison of two netlists.
+//! Structural comparison of two netlists: the verdict on their inputs and roots, and its text.
+//!
+//! `building.rt` makes the classes of nodes, one for all nodes of both netlists with equivalent trees, up to the order of operands. `roots.rt` counts the roots
+//! that belong together, `names.rt` finds registers and files by name, and `alike.rt` and `namesakes.rt` compare them.
 #![tactic(auto)]
 
+mod alike;
+mod building;
+mod classes;
 mod comparing;
+mod known;
 pub mod laws;
-mod parts;
+mod names;
+mod namesakes;
+mod operators;
+mod roots;
+mod table;
 mod verdict;
 mod writing;
 

@@ -1,17 +1,16 @@
 // The line that reports a comparison.
 ghost use Rattle.std.specs.Prelude.{◌≡◌, ◌+◌, ◌<◌, ◌≤◌, ◌++◌, ◌∷◌, [], length, map, get_or, codes, decimal, IfOk};
-ghost use Rattle.kp_equiv_classes.specs.Named.{file_names, HasNames};
-ghost use Rattle.kp_equiv_classes.specs.Roots.{Ports, File, Full, Ue, Back, root, IsFirstDifference};
-ghost use Rattle.kp_equiv.specs.Roots.{IsComparable, IsVerdict};
-ghost use Rattle.kp_equiv.specs.Texts.{root_name, verdict_line};
-ghost use Rattle.kp_equiv_classes.specs.Sections.{behind_regs};
+ghost use Rattle.kp_equiv.specs.{Named.file_names, Named.HasNames, Verdicts.IsComparable, Verdicts.IsVerdict, Texts.root_name, Texts.verdict_line};
+ghost use Rattle.kp_equiv.specs.Agreement.{Ports, File, Full, Ue, Back, root, IsFirstDifference};
+ghost use Rattle.kp_equiv.specs.Sections.{behind_regs};
 
 use crate::comparing::only_in_second;
-use crate::parts::{file_at, reg_at};
+use crate::names::Names;
+use crate::namesakes::{file_at, reg_at};
+use crate::roots::{file_count, reg_count, root_count};
 use crate::verdict::Verdict;
 use itoa::Buffer;
 use kp_base::NoMemory;
-use kp_equiv_classes::{Names, file_count, reg_count, root_count};
 use kp_net::Netlist;
 use std::alloc::Global;
 

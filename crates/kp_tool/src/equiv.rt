@@ -1,6 +1,6 @@
 // `equiv`: the comparison of two netlists of a job.
 ghost use Rattle.std.specs.Prelude.{◌≡◌, ◌≤◌, length, IfOk, Ok, Some};
-ghost use Rattle.kp_equiv.specs.Roots.{IsComparable};
+ghost use Rattle.kp_equiv.specs.Verdicts.{IsComparable};
 ghost use Rattle.kp_tool_words.specs.declared.words.Command.TheVariants.{Compare};
 ghost use Rattle.kp_tool_spec.specs.Due.{DueFor};
 ghost use Rattle.kp_tool_spec.specs.Compared.{DueOfPair, DueOfPairHead, verdict_status};

@@ -1,7 +1,7 @@
 -- The sources and the states of two netlists, matched by name.
 use Rattle.std.specs.Prelude.{ℕ, ◌<◌, ◌≡◌, [], length, get_or}
 use Rattle.kp_net.specs.{Nodes.Cells, Netlist.Net, Netlist.State}
-use Rattle.kp_equiv_classes.specs.Alike.{reg_name, file_name, sample_name}
+use Rattle.kp_equiv.specs.Alike.{reg_name, file_name, sample_name}
 
 pub record SameCells (a b : Net) (c d : Cells) : Type 0 where
   pub ext : c.ext ≡ d.ext

@@ -1,6 +1,6 @@
 use Rattle.std.proofs.{Common.◌∙◌, Common.sym, Common.subst, lemmas.Bool.false≢true}
-use Rattle.kp_equiv_classes.specs.Sections.{FirstOf, behind_ports}
-use Rattle.kp_equiv_classes.proofs.Ordered.{ports_differ, all_agree, later_differs, ports_of, of_ports}
+use Rattle.kp_equiv.specs.Sections.{FirstOf, behind_ports}
+use Rattle.kp_equiv.proofs.Ordered.{ports_differ, all_agree, later_differs, ports_of, of_ports}
 use Rattle.kp_equiv.proofs.comparing.compare.Goals as goal
 
 pub returns-then-not-ports_agree : goal.returns-then-not-ports_agree

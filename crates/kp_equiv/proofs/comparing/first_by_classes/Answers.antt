@@ -1,4 +1,4 @@
-use Rattle.kp_equiv_classes.proofs.Ordered.{all_behind}
+use Rattle.kp_equiv.proofs.Ordered.{all_behind}
 use Rattle.kp_equiv.proofs.comparing.first_by_classes.Goals as goal
 
 pub returns-clause-first : goal.returns-clause-first

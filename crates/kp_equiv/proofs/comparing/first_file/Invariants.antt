@@ -1,5 +1,5 @@
 use Rattle.std.proofs.Common.{ℕ, ◌<◌}
-use Rattle.kp_equiv_classes.specs.{Alike.file_name, Roots.FileAgrees}
+use Rattle.kp_equiv.specs.{Alike.file_name, Agreement.FileAgrees}
 use Rattle.kp_equiv.proofs.comparing.first_file.Given as goal
 
 abbrev pub invariant-loop-i : goal.invariant-loop-i

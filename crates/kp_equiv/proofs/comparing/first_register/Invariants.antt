@@ -1,5 +1,5 @@
 use Rattle.std.proofs.Common.{ℕ, ◌<◌}
-use Rattle.kp_equiv_classes.specs.{Alike.reg_name, Roots.RegisterAgrees}
+use Rattle.kp_equiv.specs.{Alike.reg_name, Agreement.RegisterAgrees}
 use Rattle.kp_equiv.proofs.comparing.first_register.Given as goal
 
 abbrev pub invariant-loop-i : goal.invariant-loop-i

@@ -1,6 +1,6 @@
 use Rattle.std.proofs.Common.{◌≡◌, ◌∙◌, ℕ, true, sym, ap, arith, below_more}
 use Rattle.kp_net.specs.{declared.netlist.NetReg.NetReg, Names.among}
-use Rattle.kp_equiv_classes.specs.Alike.{reg_name}
+use Rattle.kp_equiv.specs.Alike.{reg_name}
 use Rattle.kp_equiv.proofs.comparing.only_in_second.Goals as goal
 
 pub returns-then-not-has : goal.returns-then-not-has

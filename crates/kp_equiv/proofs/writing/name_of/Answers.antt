@@ -1,8 +1,8 @@
 use Rattle.std.proofs.Common.{◌≡◌, ◌∙◌, ℕ, suc, ◌-◌, ◌<◌, length, get_or, ap, sym, arith}
 use Rattle.kp_net.specs.declared.netlist.NetReg.{NetReg}
-use Rattle.kp_equiv_classes.specs.{Roots.root, Roots.Ports, Sections.behind_regs}
-use Rattle.kp_equiv_classes.proofs.Counting.{root_of_ports, root_of_reg, root_of_new, root_of_rest, rest_within, new_of, none_new_of}
-use Rattle.kp_equiv.{specs.Texts.root_name, proofs.Listed.regs_listed}
+use Rattle.kp_equiv.specs.{Agreement.root, Agreement.Ports, Sections.behind_regs, Texts.root_name}
+use Rattle.kp_equiv.proofs.Counting.{root_of_ports, root_of_reg, root_of_new, root_of_rest, rest_within, new_of, none_new_of}
+use Rattle.kp_equiv.proofs.Listed.{regs_listed}
 use Rattle.kp_equiv.proofs.writing.name_of.Goals as goal
 
 pub returns-then-number-eq0 : goal.returns-then-number-eq0

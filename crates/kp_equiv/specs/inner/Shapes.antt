@@ -1,0 +1,71 @@
+-- Nodes of two netlists in one table, and the number of each there.
+use Rattle.std.specs.Prelude.{ℕ, ◌+◌, ◌<◌, ◌≤◌, ◌≡◌, min, max, Bool, cond, List, length, map, get_or}
+use Rattle.kp_net.specs.declared.node.{NodeId.NodeId, Kind.Kind}
+use Rattle.kp_net.specs.declared.node.Kind.TheVariants.{Const, Ext, Sample, Reg, Word, Not, Binary, Mux, Concat, Slice}
+use Rattle.kp_net.specs.{declared.node.Node.Node, declared.netlist.Parts.Parts, Netlist.Net, Parts.no_port, Parts.no_reg, Parts.no_file}
+use Rattle.kp_net.specs.Widths.{Distinct, no_node}
+use Rattle.kp_equiv.specs.{Alike.commutes, Classes.place, Classes.no_class, Classes.class_in, Named.reg_names, Named.file_names, Named.sample_names}
+
+-- the names of the first netlist's registers, files and sample ports
+pub record Known : Type 0 where
+  pub regs : List (List ℕ)
+  pub files : List (List ℕ)
+  pub samples : List (List ℕ)
+
+-- the names of a netlist
+abbrev pub known_of : Net → Known
+known_of net = record { regs = reg_names net; files = file_names net; samples = sample_names net }
+
+-- at most as many names as a netlist has
+pub record AreFew (ks : Known) : Type 0 where
+  pub regs : length ks.regs ≤ 16777216
+  pub files : length ks.files ≤ 16777216
+  pub samples : length ks.samples ≤ 16777216
+
+abbrev pub least : NodeId → NodeId → NodeId
+least x y = record { 0 = min x.0 y.0 }
+
+abbrev pub greatest : NodeId → NodeId → NodeId
+greatest x y = record { 0 = max x.0 y.0 }
+
+-- two operands in normal order
+abbrev pub first_of_pair : Bool → NodeId → NodeId → NodeId
+first_of_pair c x y = cond c (least x y) x
+
+abbrev pub second_of_pair : Bool → NodeId → NodeId → NodeId
+second_of_pair c x y = cond c (greatest x y) y
+
+-- the shape of a node: operands are replaced by classes, and registers, files and sample ports by their indices among the known names
+abbrev pub shape_kind : Known → Parts → (NodeId → NodeId) → Kind → Kind
+shape_kind ks p m (Const n) = Const n
+shape_kind ks p m Ext = Ext
+shape_kind ks p m (Sample s) = Sample (place ks.samples (get_or p.samples s no_port).name)
+shape_kind ks p m (Reg r) = Reg (place ks.regs (get_or p.regs r no_reg).name)
+shape_kind ks p m (Word f a) = Word (place ks.files (get_or p.files f no_file).name) (m a)
+shape_kind ks p m (Not a) = Not (m a)
+shape_kind ks p m (Binary op a b) = Binary op (first_of_pair (commutes op) (m a) (m b)) (second_of_pair (commutes op) (m a) (m b))
+shape_kind ks p m (Mux t a b) = Mux (m t) (m a) (m b)
+shape_kind ks p m (Concat parts) = Concat (map m parts)
+shape_kind ks p m (Slice a hi lo) = Slice (m a) hi lo
+
+abbrev pub shape : Known → Parts → (NodeId → NodeId) → Node → Node
+shape ks p m n = record { width = n.width; kind = shape_kind ks p m n.kind }
+
+-- the table grows at its end
+pub record Extends (old new : List Node) : Type 0 where
+  pub longer : length old ≤ length new
+  pub same : (i : ℕ) → i < length old → get_or new i no_node ≡ get_or old i no_node
+
+-- each of the first nodes of a netlist has a class, which is the number of its shape in the table
+pub record AreClasses (ks : Known) (net : Net) (shapes : List Node) (classes : List NodeId) : Type 0 where
+  pub inside : (i : ℕ) → i < length classes → (get_or classes i no_class).0 < length shapes
+  pub known : (i : ℕ) → i < length classes → get_or shapes (get_or classes i no_class).0 no_node ≡ shape ks net.parts (class_in classes) (get_or net.nodes i no_node)
+
+-- the classes of the first i nodes, in a table that has grown by them
+pub record Grown (ks : Known) (net : Net) (start table : List Node) (classes : List NodeId) (i : ℕ) : Type 0 where
+  pub count : length classes ≡ i
+  pub within : i ≤ length net.nodes
+  pub classes_are : AreClasses ks net table classes
+  pub extends : Extends start table
+  pub grown : length table ≤ length start + i
+  pub distinct : Distinct table

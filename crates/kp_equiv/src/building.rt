@@ -1,0 +1,79 @@
+// The classes of the nodes of two netlists.
+ghost use Rattle.std.specs.Prelude.{◌≡◌, ◌+◌, ◌<◌, ◌≤◌, [], length, IfOk, OnOk};
+ghost use Rattle.kp_net.specs.Parts.{NetOk};
+ghost use Rattle.kp_net.specs.Widths.{Distinct};
+ghost use Rattle.kp_equiv.specs.{Classes.Determines, Named.HasNames, inner.Shapes.known_of, inner.Shapes.AreFew, inner.Shapes.AreClasses, inner.Shapes.Extends};
+
+use crate::classes::Classes;
+use crate::known::Known;
+use crate::table::Table;
+use kp_base::NoMemory;
+use kp_net::{Netlist, NodeId};
+use std::alloc::Global;
+
+/// The classes of the nodes of two netlists, where no two registers, files or sample ports of the first have the same name. Each node is visited
+/// once. The only error is out of memory.
+pub fn classes_of(alloc: Global, a: &Netlist, b: &Netlist) -> Result<Classes, NoMemory>
+    requires { HasNames a.now }
+    ensures { IfOk result (λ c. Determines a.now b.now c.first.items c.second.items) }
+{
+    let known = Known::new(alloc, a)?;
+    let classes = classes_by(alloc, &known, a, b);
+    drop(known);
+    classes
+}
+
+// The classes of the nodes of two netlists, given the names of the first.
+fn classes_by(alloc: Global, known: &Known, a: &Netlist, b: &Netlist) -> Result<Classes, NoMemory>
+    requires known { known.now ≡ known_of a.now }
+    requires few { AreFew known.now }
+    ensures { IfOk result (λ c. Determines a.now b.now c.first.items c.second.items) }
+{
+    let mut table = Table::new(alloc);
+    classes_in(alloc, known, a, b, &mut table)
+}
+
+// The same, given an empty table of shapes.
+fn classes_in(
+    alloc: Global,
+    known: &Known,
+    a: &Netlist,
+    b: &Netlist,
+    table: &mut Table,
+) -> Result<Classes, NoMemory>
+    requires known { known.now ≡ known_of a.now }
+    requires few { AreFew known.now }
+    requires empty { table.old ≡ [] }
+    requires distinct { Distinct table.old }
+    ensures { IfOk result (λ c. Determines a.now b.now c.first.items c.second.items) }
+{
+    let first = classes_of_net(alloc, known, a, table)?;
+    let second = classes_of_net(alloc, known, b, table)?;
+    Ok(Classes { first, second })
+}
+
+// The classes of the nodes of one netlist, by the shapes in the table.
+fn classes_of_net(
+    alloc: Global,
+    known: &Known,
+    net: &Netlist,
+    table: &mut Table,
+) -> Result<Vec<NodeId>, NoMemory>
+    requires few { AreFew known.now }
+    requires room { length table.old ≤ 16777216 }
+    requires distinct { Distinct table.old }
+    ensures right { IfOk result (λ _. NetOk net.now) }
+    ensures count { IfOk result (λ v. length v.items ≡ length net.now.nodes) }
+    ensures classes { IfOk result (λ v. AreClasses known.now net.now table.new v.items) }
+    ensures extends { OnOk result (Extends table.old table.new) }
+    ensures grown { OnOk result (length table.new ≤ length table.old + length net.now.nodes) }
+    ensures distinct { OnOk result (Distinct table.new) }
+{
+    let mut classes = Vec::new(alloc);
+    for n in net.nodes() {
+        let shape = known.shape(alloc, net, classes.as_slice(), n)?;
+        let class = table.number(shape)?;
+        classes.push(class)?;
+    }
+    Ok(classes)
+}
