@@ -6,8 +6,7 @@ use Rattle.kp_net.specs.declared.{node.Node.Node, netlist.NetReg.NetReg, netlist
 use Rattle.kp_net.specs.Nodes.{Cells, at, on}
 use Rattle.kp_net.specs.Netlist.{Net, Input, State, start_regs, port_after, files_after, regs_after, resets, state_after, cells_of}
 use Rattle.kp_net.specs.Parts.{NetOk, WriteOk, no_reg, no_file}
-use Rattle.kp_cycle_plan.specs.Plans.{OfPort, OfRoots}
-use Rattle.kp_cycle_memory.specs.Storage.{Stored, FitsBelow, PortReady, port_from}
+use Rattle.kp_cycle_plan.specs.{Plans.OfPort, Plans.OfRoots, Storage.Stored, Storage.FitsBelow, Storage.PortReady, Storage.port_from}
 
 -- the files up to here are updated by their ports, and the others are unchanged
 pub record Written (files : List NetFile) (values : List ℕ) (old new : List (List ℕ)) (i : ℕ) : Type 0 where

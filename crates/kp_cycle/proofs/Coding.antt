@@ -9,8 +9,7 @@ use Rattle.kp_net.specs.declared.node.Kind.TheVariants.{Not, Binary, Mux, Concat
 use Rattle.kp_net.specs.{declared.node.Node.Node, Nodes.Cells, Nodes.word_of_kind, Nodes.word_of_node}
 use Rattle.kp_net.specs.{Widths.wide, Widths.no_node, Widths.is_cell, Widths.KindOk, Widths.AllRight, Parts.NetOk, Netlist.Net}
 use Rattle.kp_net.proofs.Exact.{Has}
-use Rattle.kp_cycle_plan.specs.Codes.{binary_op, joined_op, kind_op, op_for, number_of, IsReady}
-use Rattle.kp_cycle_memory.specs.Storage.{FitsBelow, seen}
+use Rattle.kp_cycle_plan.specs.{Codes.binary_op, Codes.joined_op, Codes.kind_op, Codes.op_for, Codes.number_of, Codes.IsReady, Storage.FitsBelow, Storage.seen}
 use Rattle.kp_cycle.proofs.Settling.{operands_have, whole}
 
 -- numbers of 64 bits

@@ -4,8 +4,7 @@ use Rattle.std.specs.Prelude.{if◌then◌else◌}
 use Rattle.kp_net.specs.{declared.node.Node.Node, declared.netlist.WritePort.WritePort, Nodes.Cells, Nodes.at, Nodes.on}
 use Rattle.kp_net.specs.{Netlist.Net, Netlist.Input, Netlist.State, Netlist.resets, Netlist.cells_of, Parts.no_file}
 use Rattle.kp_cycle.specs.Steps.{port_writes, written_in}
-use Rattle.kp_cycle_plan.specs.Plans.{OfPort, OfRoots}
-use Rattle.kp_cycle_memory.specs.Storage.{port_noted}
+use Rattle.kp_cycle_plan.specs.{Plans.OfPort, Plans.OfRoots, Storage.port_noted}
 
 port_same : (c : Cells) (ns : List Node) (values : List ℕ) (port : Option WritePort) → OfPort (λ j. get_or values j 0 ≡ at c ns j) port → port_noted port values ≡ port_writes c ns port
 unfolding on

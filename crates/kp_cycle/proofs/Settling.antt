@@ -6,7 +6,7 @@ use Rattle.kp_bits.specs.Word as bits
 use Rattle.kp_net.specs.{declared.node.Kind.Kind, declared.node.Node.Node, Nodes.Cells, Nodes.word_of_kind, Nodes.word_of_node}
 use Rattle.kp_net.specs.{Widths.wide, Widths.no_node, Widths.is_cell, Widths.KindOk, Widths.AllRight, Netlist.Net}
 use Rattle.kp_net.proofs.Exact.{Has, node_exact}
-use Rattle.kp_cycle_memory.specs.Storage.{Stored, Fits, FitsBelow, seen}
+use Rattle.kp_cycle_plan.specs.Storage.{Stored, Fits, FitsBelow, seen}
 
 pub fits_more : (net : Net) (m : Stored) (i v : ℕ) → Fits net m → Fits net (record m { nodes = set m.nodes i v })
 fits_more net m i v h = record { right = h.right; nodes = length-set m.nodes i v ∙ h.nodes; regs = h.regs; files = h.files; words = h.words }

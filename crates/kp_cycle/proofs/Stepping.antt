@@ -12,9 +12,9 @@ use Rattle.kp_net.{specs.Parts.CellOk, specs.Parts.NetOk, proofs.Values.word_the
 use Rattle.kp_cycle_plan.specs.declared.codes.{Op.Op, Op.TheVariants.Plain, Step.Step}
 use Rattle.kp_cycle_plan.specs.Codes.{op_for, number_of, IsReady}
 use Rattle.kp_cycle_plan.specs.Plans.{reads, reads_at, Among, IsKnown, OfRoots, IsPlan, no_step, targets}
+use Rattle.kp_cycle_plan.specs.Storage.{Stored, Fits, FitsBelow, StateFits, cells, seen, state_of}
 use Rattle.kp_cycle_plan.proofs.{Lists.set_has, Marking.roots_are}
 use Rattle.kp_cycle.{specs.inner.Settling.AreFixed, specs.inner.Settling.Settled, proofs.Coding.coded, proofs.Coding.ready}
-use Rattle.kp_cycle_memory.specs.Storage.{Stored, Fits, FitsBelow, StateFits, cells, seen, state_of}
 
 -- a node's word depends on the words of its operands alone
 parts_read : (v w : Words) (parts : List NodeId) → All (λ a. v a.0 ≡ w a.0) parts → map (λ a. v a.0) parts ≡ map (λ a. w a.0) parts

@@ -2,10 +2,9 @@
 ghost use Rattle.std.specs.Prelude.{◌≡◌, ◌<◌, ◌≤◌, ℕ, length, Some};
 ghost use Rattle.kp_net.specs.Netlist.{Input};
 ghost use Rattle.kp_net.specs.Parts.{NetOk};
-ghost use Rattle.kp_cycle_plan.specs.Codes.{number_of, IsReady};
+ghost use Rattle.kp_cycle_plan.specs.{Codes.number_of, Codes.IsReady, Storage.Stored};
 ghost use Rattle.kp_cycle_plan.specs.Plans.{IsPlan};
 ghost use Rattle.kp_cycle.specs.inner.Settling.{Settled};
-ghost use Rattle.kp_cycle_memory.specs.Storage.{Stored};
 
 use kp_cycle_plan::{Op, Step};
 use kp_net::Netlist;

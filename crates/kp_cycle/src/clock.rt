@@ -5,10 +5,9 @@ ghost use Rattle.kp_net.specs.Parts.{NetOk, no_file};
 ghost use Rattle.kp_net.specs.Widths.{wide};
 ghost use Rattle.kp_cycle_plan.specs.declared.latches.Latch.TheVariants.{If};
 ghost use Rattle.kp_cycle_plan.specs.Latches.{IsLatched, latch_for, latched};
-ghost use Rattle.kp_cycle_memory.specs.Storage.{Fits, FitsBelow, PortReady, port_from, port_noted};
+ghost use Rattle.kp_cycle_plan.specs.Storage.{Fits, FitsBelow, PortReady, port_from, port_noted};
 
-use kp_cycle_memory::{Memory, fill_regs};
-use kp_cycle_plan::{Held, Latches, Moved};
+use kp_cycle_plan::{Held, Latches, Memory, Moved, fill_regs};
 use kp_net::{Netlist, WritePort};
 
 /// The end of a cycle: in a netlist with a reset that is raised each register gets its start value; else registers

@@ -9,12 +9,11 @@ ghost use Rattle.kp_net.specs.Parts.{NetOk};
 ghost use Rattle.kp_cycle.specs.Steps.{given};
 ghost use Rattle.kp_cycle_plan.specs.Plans.{IsPlan, OfRoots};
 ghost use Rattle.kp_cycle.specs.inner.Settling.{AreFixed, Settled};
-ghost use Rattle.kp_cycle_memory.specs.Storage.{Fits, FitsBelow, StateFits, cells, seen, state_of};
+ghost use Rattle.kp_cycle_plan.specs.Storage.{Fits, FitsBelow, StateFits, cells, seen, state_of};
 
 use crate::batches::take_batches;
 use kp_bits::Bits;
-use kp_cycle_memory::Memory;
-use kp_cycle_plan::Step;
+use kp_cycle_plan::{Memory, Step};
 use kp_net::{Kind, Netlist, NodeId};
 
 /// Evaluates the nodes of the cycle with this stall word and these values of the sample ports: the heads are copied from the registers, and then all

@@ -5,17 +5,15 @@ ghost use Rattle.kp_net.specs.Netlist.{Net, State, start_of, state_after, row_of
 ghost use Rattle.kp_net.specs.Widths.{wide};
 ghost use Rattle.kp_net.specs.Parts.{no_reg, no_file};
 ghost use Rattle.kp_cycle.specs.Steps.{Running, ShowsRows, SamplesFit, given, reg_shown, word_shown, saved_in, written_in};
-ghost use Rattle.kp_cycle_plan.specs.Latches.{IsLatched};
+ghost use Rattle.kp_cycle_plan.specs.{Latches.IsLatched, Storage.Fits, Storage.FitsBelow, Storage.StateFits, Storage.state_of};
 ghost use Rattle.kp_cycle_plan.specs.Plans.{IsPlan, OfRoots};
 ghost use Rattle.kp_cycle.specs.inner.Settling.{AreFixed};
-ghost use Rattle.kp_cycle_memory.specs.Storage.{Fits, FitsBelow, StateFits, state_of};
 
 use crate::clock::{clock, note_writes};
 use crate::nodes::{put_constants, settle, word};
 use kp_base::{NoMemory, Row};
 use kp_bits::Bits;
-use kp_cycle_memory::Memory;
-use kp_cycle_plan::{Latches, Step, heads_of, latches_of, plan};
+use kp_cycle_plan::{Latches, Memory, Step, heads_of, latches_of, plan};
 use kp_net::{Netlist, NodeId};
 use std::alloc::Global;
 use std::marker::Model;
@@ -52,7 +50,7 @@ impl<'n> Model for Sim<'n> {
     ghost use Rattle.kp_cycle_plan.specs.Plans.{IsPlan};
     ghost use Rattle.kp_cycle.specs.inner.Settling.{AreFixed};
     ghost use Rattle.kp_cycle.specs.Steps.{Running, ShowsRows};
-    ghost use Rattle.kp_cycle_memory.specs.Storage.{Fits, FitsBelow, StateFits, SlotsFit, state_of};
+    ghost use Rattle.kp_cycle_plan.specs.Storage.{Fits, FitsBelow, StateFits, SlotsFit, state_of};
 
     ghost Value = { Running };
 

@@ -1,8 +1,7 @@
 -- The values of the nodes while the steps of a plan are evaluated.
 use Rattle.std.specs.Prelude.{ℕ, ◌<◌, ◌≤◌, ◌≡◌, List, length, get_or}
 use Rattle.kp_net.specs.{declared.node.Kind.TheVariants.Const, declared.node.Node.Node, Nodes.at, Netlist.Net, Netlist.Input, Widths.no_node}
-use Rattle.kp_cycle_plan.specs.{declared.codes.Step.Step, Plans.targets}
-use Rattle.kp_cycle_memory.specs.Storage.{Stored, FitsBelow, cells}
+use Rattle.kp_cycle_plan.specs.{declared.codes.Step.Step, Plans.targets, Storage.Stored, Storage.FitsBelow, Storage.cells}
 
 -- the targets of the first n steps are constants, and these are their values
 abbrev pub AreFixed : List Node → List Step → ℕ → List ℕ → Type 0

@@ -1,7 +1,7 @@
 use Rattle.std.proofs.Common.{◌≡◌, ◌<◌, ◌≤◌, ◌-◌, length}
 use Rattle.kp_net.specs.Netlist.{Input}
 use Rattle.kp_cycle.specs.inner.Settling.{Settled}
-use Rattle.kp_cycle_memory.specs.Storage.{Stored}
+use Rattle.kp_cycle_plan.specs.Storage.{Stored}
 use Rattle.kp_cycle.proofs.batches.take_while.Given as goal
 
 abbrev pub invariant-batch : goal.invariant-batch

@@ -1,5 +1,5 @@
 use Rattle.std.proofs.Common.{◌≡◌}
-use Rattle.kp_cycle_memory.specs.Storage.{Fits}
+use Rattle.kp_cycle_plan.specs.Storage.{Fits}
 use Rattle.kp_cycle.proofs.Clocking.{Written}
 use Rattle.kp_cycle.proofs.clock.clock_files.Given as goal
 

@@ -1,5 +1,5 @@
 use Rattle.std.proofs.Common.{◌≡◌, length}
-use Rattle.kp_cycle_memory.specs.Storage.{Fits}
+use Rattle.kp_cycle_plan.specs.Storage.{Fits}
 use Rattle.kp_cycle.proofs.Latching.{Moving, Holding}
 use Rattle.kp_cycle.proofs.clock.clock_regs.Given as goal
 

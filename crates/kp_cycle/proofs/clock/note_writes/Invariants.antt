@@ -1,7 +1,7 @@
 use Rattle.std.proofs.Common.{◌≡◌, ◌<◌, ℕ, length, get_or, None}
 use Rattle.std.specs.Prelude.{if◌then◌else◌}
 use Rattle.kp_net.specs.Parts.{no_file}
-use Rattle.kp_cycle_memory.specs.Storage.{port_noted}
+use Rattle.kp_cycle_plan.specs.Storage.{port_noted}
 use Rattle.kp_cycle.proofs.clock.note_writes.Given as goal
 
 abbrev pub invariant-loop-i : goal.invariant-loop-i

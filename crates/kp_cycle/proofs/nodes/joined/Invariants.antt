@@ -1,7 +1,7 @@
 use Rattle.std.{proofs.Common.◌≡◌, proofs.Common.map, proofs.Common.take, specs.List.sum_by}
 use Rattle.kp_bits.specs.{Word.IsWord, Operators.joined_of}
 use Rattle.kp_net.specs.Widths.{wide}
-use Rattle.kp_cycle_memory.specs.Storage.{seen}
+use Rattle.kp_cycle_plan.specs.Storage.{seen}
 use Rattle.kp_cycle.proofs.nodes.joined.Given as goal
 
 abbrev pub invariant-loop-i : goal.invariant-loop-i

@@ -1,6 +1,6 @@
 use Rattle.std.proofs.Common.{◌≡◌, length}
 use Rattle.kp_cycle.specs.inner.Settling.{AreFixed}
-use Rattle.kp_cycle_memory.specs.Storage.{Fits, FitsBelow}
+use Rattle.kp_cycle_plan.specs.Storage.{Fits, FitsBelow}
 use Rattle.kp_cycle.proofs.nodes.put_constants.Given as goal
 
 abbrev pub invariant-loop-k : goal.invariant-loop-k

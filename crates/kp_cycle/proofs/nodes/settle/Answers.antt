@@ -1,11 +1,10 @@
 use Rattle.std.proofs.Common.{◌≡◌, ◌<◌, ◌≤◌, ◌++◌, false, ℕ, List, length, get_or, take, drop, refl, ap, sym, subst, arith, ◌∙◌}
 use Rattle.std.specs.List.{refill}
 use Rattle.kp_net.specs.Netlist.{Net, Input, State}
-use Rattle.kp_cycle_plan.specs.declared.codes.Step.{Step}
+use Rattle.kp_cycle_plan.specs.{declared.codes.Step.Step, Storage.Stored, Storage.Fits, Storage.StateFits, Storage.state_of}
 use Rattle.kp_cycle.specs.{Steps.given, inner.Settling.Settled}
 use Rattle.kp_cycle.proofs.Stepping.{all_settled, fixed_settled, still_fixed, heads_fit}
 use Rattle.kp_cycle.proofs.Settling.{fits_as, over_length, over_front, over_rest, refilled}
-use Rattle.kp_cycle_memory.specs.Storage.{Stored, Fits, StateFits, state_of}
 use Rattle.kp_cycle.proofs.nodes.settle.Goals as goal
 
 pub show_regs-requires-clause-nodes : goal.show_regs-requires-clause-nodes

@@ -1,6 +1,6 @@
 use Rattle.std.proofs.Common.{◌≡◌, ◌≤◌, ◌-◌, false, length}
 use Rattle.kp_cycle.specs.{Steps.given, inner.Settling.Settled}
-use Rattle.kp_cycle_memory.specs.Storage.{Fits}
+use Rattle.kp_cycle_plan.specs.Storage.{Fits}
 use Rattle.kp_cycle.proofs.nodes.settle.Given as goal
 
 abbrev pub invariant-all : goal.invariant-all

@@ -1,6 +1,6 @@
 use Rattle.std.proofs.Common.{false, ◌+◌, sym, subst, arith, ◌∙◌}
 use Rattle.kp_cycle.{specs.Steps.given, specs.inner.Settling.Settled, proofs.Stepping.target_inside, proofs.Stepping.step_word, proofs.Stepping.step_more}
-use Rattle.kp_cycle_memory.specs.Storage.{Stored}
+use Rattle.kp_cycle_plan.specs.Storage.{Stored}
 use Rattle.kp_cycle.proofs.nodes.take_one.Goals as goal
 
 pub value_of-value-requires-clause-inside : goal.value_of-value-requires-clause-inside

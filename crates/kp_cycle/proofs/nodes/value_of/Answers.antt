@@ -5,7 +5,7 @@ use Rattle.kp_bits.specs.Operators.{joined_of}
 use Rattle.kp_net.specs.declared.node.{NodeId.NodeId, Kind.TheVariants.Binary, Kind.TheVariants.Concat, Kind.TheVariants.Slice, Node.Node}
 use Rattle.kp_net.{specs.Widths.no_node, proofs.Exact.operand_widths}
 use Rattle.kp_cycle.{specs.Steps.given, proofs.Settling.whole, proofs.Settling.kind_ok}
-use Rattle.kp_cycle_memory.specs.Storage.{seen, cells}
+use Rattle.kp_cycle_plan.specs.Storage.{seen, cells}
 use Rattle.kp_cycle.proofs.nodes.value_of.Goals as goal
 
 pub apply-requires : goal.apply-requires

@@ -4,8 +4,8 @@ use Rattle.kp_bits.specs.Word.{Word}
 use Rattle.kp_net.specs.{Nodes.at, Netlist.Net, Netlist.Input, Netlist.State, Netlist.cells_of, Netlist.resets, Parts.no_file}
 use Rattle.kp_net.proofs.Resets.{reset_state}
 use Rattle.kp_cycle.{specs.Steps.given, specs.inner.Settling.AreFixed, proofs.Clocking.state_is, proofs.Latching.next_value, proofs.Reached.fits_after}
-use Rattle.kp_cycle_plan.{specs.Latches.latch_for, specs.Latches.latched, specs.Plans.OfRoots, proofs.Marking.roots_are}
-use Rattle.kp_cycle_memory.specs.Storage.{Stored, StateFits, port_from, state_of}
+use Rattle.kp_cycle_plan.specs.{Latches.latch_for, Latches.latched, Plans.OfRoots, Storage.Stored, Storage.StateFits, Storage.port_from, Storage.state_of}
+use Rattle.kp_cycle_plan.proofs.Marking.{roots_are}
 use Rattle.kp_cycle.proofs.sim.cycle.Goals as goal
 
 -- the nodes that are read have their values in the cycle

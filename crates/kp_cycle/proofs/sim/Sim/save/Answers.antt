@@ -1,8 +1,8 @@
 use Rattle.std.proofs.Common.{◌<◌, length, set, sym, subst, ap, ◌∙◌, arith, Some}
 use Rattle.kp_cycle.specs.{Steps.Running, Steps.ShowsRows, inner.Settling.AreFixed}
 use Rattle.kp_cycle_plan.specs.{Latches.IsLatched, Plans.IsPlan}
-use Rattle.kp_cycle_memory.specs.Storage.{Stored, Fits, FitsBelow, StateFits, SlotsFit, state_of}
-use Rattle.kp_cycle_memory.proofs.Copies.{fits_slots, is_state, slots_saved_fit}
+use Rattle.kp_cycle_plan.specs.Storage.{Stored, Fits, FitsBelow, StateFits, SlotsFit, state_of}
+use Rattle.kp_cycle_plan.proofs.Copies.{fits_slots, is_state, slots_saved_fit}
 use Rattle.kp_cycle.proofs.sim.Sim.save.Goals as goal
 
 pub save-requires : goal.save-requires

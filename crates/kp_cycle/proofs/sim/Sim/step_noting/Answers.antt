@@ -1,8 +1,7 @@
 use Rattle.std.proofs.Common.{List, ◌<◌, length, sym, subst, ap, ◌∙◌, arith}
 use Rattle.kp_net.specs.Netlist.{state_after}
 use Rattle.kp_cycle.{specs.Steps.Running, specs.Steps.given, specs.Steps.written_in, specs.inner.Settling.AreFixed, proofs.Noting.noted_is}
-use Rattle.kp_cycle_plan.specs.declared.codes.Step.{Step}
-use Rattle.kp_cycle_memory.specs.Storage.{SlotsFit, state_of}
+use Rattle.kp_cycle_plan.specs.{declared.codes.Step.Step, Storage.SlotsFit, Storage.state_of}
 use Rattle.kp_cycle.proofs.sim.Sim.step_noting.Goals as goal
 
 pub invariant_of-self : goal.invariant_of-self

@@ -1,8 +1,7 @@
 use Rattle.std.proofs.Common.{List, sym, subst, ap, ◌∙◌}
 use Rattle.kp_net.specs.Netlist.{state_after}
 use Rattle.kp_cycle.specs.{Steps.Running, Steps.given, inner.Settling.AreFixed}
-use Rattle.kp_cycle_plan.specs.declared.codes.Step.{Step}
-use Rattle.kp_cycle_memory.specs.Storage.{SlotsFit}
+use Rattle.kp_cycle_plan.specs.{declared.codes.Step.Step, Storage.SlotsFit}
 use Rattle.kp_cycle.proofs.sim.Sim.step_with.Goals as goal
 
 pub invariant_of-self : goal.invariant_of-self
