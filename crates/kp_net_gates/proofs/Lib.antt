@@ -1,1 +1,4 @@
 pub mod Truths
+pub mod Standing
+pub mod Within
+pub mod Greatest

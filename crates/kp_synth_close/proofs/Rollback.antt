@@ -5,7 +5,7 @@ use Rattle.kp_pipeline.specs.Pipeline.{PipelineState, Inputs, back, greatest, mi
 use Rattle.kp_machine.specs.Machine.{machine_of}
 use Rattle.kp_net.specs.{declared.node.NodeId.NodeId, Nodes.Cells, Nodes.at, Nodes.on, Growth.Held, Growth.Wire, Growth.Kept}
 use Rattle.kp_net.proofs.Growing.{wire_kept}
-use Rattle.kp_engine.specs.Misses.{bit_at}
+use Rattle.kp_net_gates.specs.Misses.{bit_at}
 use Rattle.kp_synth_registers.specs.{declared.outcome.Outcome.Outcome, Holding.Holds, Holding.word_bit, Meaning.IsTest, Meaning.Gives, Meaning.node_at}
 use Rattle.kp_synth_registers.proofs.Growth.{says_kept}
 use Rattle.kp_synth_close.{specs.declared.control.Control.Control, specs.Control.AllSay, specs.Control.Controls, specs.Control.ShowRow, proofs.Bits.back_same}

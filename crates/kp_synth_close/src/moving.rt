@@ -7,9 +7,8 @@ ghost use Rattle.kp_net.specs.Growth.{Held, Wire, Grown};
 ghost use Rattle.kp_synth_tables.specs.Keys.{pipe_at, hint_at};
 ghost use Rattle.kp_synth_registers.specs.Meaning.{Ready, IsTest, Gives, Says};
 
-use kp_engine::full_next;
 use kp_net::NodeId;
-use kp_net_gates::choose;
+use kp_net_gates::{choose, full_next};
 use kp_pool::Pool;
 use kp_synth_registers::{Outcome, Reads, kept, pipe_in};
 use kp_synth_tables::{Key, Layout};

@@ -3,15 +3,14 @@ ghost use Rattle.std.specs.Prelude.{◌≡◌, ℕ, ◌+◌, ◌*◌, ◌<◌, �
 ghost use Rattle.kp_pipeline.specs.Pipeline.{PipelineState, Inputs, ue, back, mismatches};
 ghost use Rattle.kp_machine.specs.Machine.{machine_of};
 ghost use Rattle.kp_net.specs.Growth.{Held, Wire, Grown};
-ghost use Rattle.kp_engine.specs.Misses.{BitsOk};
+ghost use Rattle.kp_net_gates.specs.Misses.{BitsOk};
 ghost use Rattle.kp_synth_registers.specs.Meaning.{Ready, IsTest, Gives, Says, node_at};
 ghost use Rattle.kp_synth_close.specs.Nexts.{outcome_at};
 ghost use Rattle.kp_synth_close.specs.Control.{AllSay, Controls};
 
 use crate::control::Control;
-use kp_engine::{sweep, update_of};
 use kp_net::NodeId;
-use kp_net_gates::bit;
+use kp_net_gates::{bit, sweep, update_of};
 use kp_pool::Pool;
 use kp_synth_registers::{Outcome, Reads, full_in};
 use kp_synth_tables::Layout;

@@ -5,7 +5,7 @@ ghost use Rattle.kp_machine.specs.Machine.{machine_of};
 ghost use Rattle.kp_machine.specs.Slots.{targets_of};
 ghost use Rattle.kp_net.specs.Nodes.{Cells};
 ghost use Rattle.kp_net.specs.Growth.{Held, Wire, Grown};
-ghost use Rattle.kp_fwd.specs.Forward.{BitOk, enable_on};
+ghost use Rattle.kp_net_gates.specs.Forward.{BitOk, enable_on};
 ghost use Rattle.kp_synth_tables.specs.Keys.{target_at};
 ghost use Rattle.kp_synth_registers.specs.Holding.{Holds};
 ghost use Rattle.kp_synth_tables.specs.Fits.{EnableFits, AddressFits};

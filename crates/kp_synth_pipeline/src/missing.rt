@@ -15,9 +15,8 @@ ghost use Rattle.kp_synth_pipeline.specs.inner.Seeing.{SeesAbove};
 ghost use Rattle.kp_synth_pipeline.specs.inner.Whole.{GuessOk, GuessesOk, is_wrong, Misses};
 
 use kp_base::NoMemory;
-use kp_engine::mismatch;
 use kp_net::NodeId;
-use kp_net_gates::{bit, either};
+use kp_net_gates::{bit, either, mismatch};
 use kp_pool::Pool;
 use kp_synth_registers::{Reads, kept};
 use kp_synth_stage::{Source, Truth, source_at, source_truth};

@@ -4,14 +4,13 @@ ghost use Rattle.kp_net.specs.Widths.{wide};
 ghost use Rattle.kp_pipeline.specs.Pipeline.{ok_value};
 ghost use Rattle.kp_net.specs.Nodes.{Cells, at, on};
 ghost use Rattle.kp_net.specs.Growth.{Held, Wire, Grown};
-ghost use Rattle.kp_fwd.specs.Forward.{BitOk, PairOk, set_on, set_value as number_of_set};
+ghost use Rattle.kp_net_gates.specs.Forward.{BitOk, PairOk, set_on, set_value as number_of_set};
 ghost use Rattle.kp_synth_registers.specs.Holding.{optional};
 ghost use Rattle.kp_synth_registers.specs.Meaning.{SetFits, set_value};
 ghost use Rattle.kp_synth_stage.specs.Rows.{AddressOk, RowOk};
 
-use kp_fwd::carried;
 use kp_net::NodeId;
-use kp_net_gates::{bit, both, either, inverse};
+use kp_net_gates::{bit, both, carried, either, inverse};
 use kp_pool::Pool;
 use kp_synth_registers::Set;
 use kp_synth_stage::Row;

@@ -3,7 +3,7 @@ ghost use Rattle.std.specs.Prelude.{◌≡◌, ◌+◌, ◌-◌, ◌*◌, ◌<�
 ghost use Rattle.kp_net.specs.Nodes.{Cells, at, on};
 ghost use Rattle.kp_net.specs.Widths.{wide};
 ghost use Rattle.kp_net.specs.Growth.{Held, Wire, Grown};
-ghost use Rattle.kp_fwd.specs.Forward.{addresses_agree, CandidateOk, SameWidth, BitOk, enable_on};
+ghost use Rattle.kp_net_gates.specs.Forward.{addresses_agree, CandidateOk, SameWidth, BitOk, enable_on};
 ghost use Rattle.kp_machine.specs.Slots.{targets_of};
 ghost use Rattle.kp_synth_tables.specs.Keys.{target_at};
 ghost use Rattle.kp_synth_registers.specs.Holding.{optional};
@@ -13,9 +13,8 @@ ghost use Rattle.kp_synth_stage.specs.inner.Reading.{Matched, given, lacks, valu
 
 use crate::row::{Got, Own, Row, Source, Truth};
 use kp_base::NoMemory;
-use kp_fwd::{Candidate, hit_of, select};
 use kp_net::{Kind, Node, NodeId};
-use kp_net_gates::{bit, both, choose, constant, inverse};
+use kp_net_gates::{Candidate, bit, both, choose, constant, hit_of, inverse, select};
 use kp_pool::Pool;
 use kp_stage::Design;
 use std::alloc::Global;

@@ -1,7 +1,7 @@
 use Rattle.std.proofs.Common.{◌≡◌, ◌<◌, ℕ, length}
 use Rattle.kp_pipeline.specs.Pipeline.{mismatches}
 use Rattle.kp_machine.specs.Machine.{machine_of}
-use Rattle.kp_engine.specs.Misses.{BitsOk}
+use Rattle.kp_net_gates.specs.Misses.{BitsOk}
 use Rattle.kp_synth_registers.specs.Meaning.{IsTest, node_at}
 use Rattle.kp_synth_close.proofs.steering.misses_of.Given as goal
 

@@ -1,6 +1,6 @@
 use Rattle.std.proofs.Common.{◌≡◌, ◌*◌, length, take, All}
 use Rattle.kp_net.specs.{Nodes.Cells, Growth.Grown}
-use Rattle.kp_fwd.specs.Forward.{CandidateOk}
+use Rattle.kp_net_gates.specs.Forward.{CandidateOk}
 use Rattle.kp_synth_stage.specs.{Rows.asked, inner.Reading.Matched}
 use Rattle.kp_synth_stage.proofs.reading.candidates.Given as goal
 

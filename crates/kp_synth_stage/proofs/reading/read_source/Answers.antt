@@ -1,6 +1,6 @@
 use Rattle.std.proofs.Common.{◌≡◌, ◌∙◌, ◌*◌, ◌+◌, ◌-◌, ℕ, length, ap, arith}
 use Rattle.kp_net.{specs.Nodes.Cells, specs.Nodes.at, specs.Nodes.on, proofs.Growing.grown_then, proofs.Growing.wire_kept}
-use Rattle.kp_fwd.specs.Forward.{enable_on}
+use Rattle.kp_net_gates.specs.Forward.{enable_on}
 use Rattle.kp_synth_registers.{specs.Holding.optional, proofs.Growth.grown_added, proofs.Growth.added_then, proofs.Growth.added_more}
 use Rattle.kp_synth_stage.specs.{inner.Reading.given, Rows.asked, Rows.source_view}
 use Rattle.kp_synth_stage.proofs.Nearest.{ask_inside, asked_kept, source_kept, source_view_kept, orzero_kept, lacks_is}

@@ -1,0 +1,3 @@
+pub mod Forward
+pub mod Misses
+pub mod inner
