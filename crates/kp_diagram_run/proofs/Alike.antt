@@ -1,7 +1,7 @@
 -- A diagram takes stall words of its own cycles alone.
 use Rattle.std.proofs.Common.{◌≡◌, ◌∙◌, ℕ, suc, ◌+◌, ◌<◌, Bool, true, false, List, [], ◌∷◌, length, Option, Some, None, refl, ap, ap₂, arith}
 use Rattle.kp_pipeline.specs.Rows.{Row, count_after}
-use Rattle.kp_diagram.specs.Diagram.{Cell, Fetch, Loss, account_from, and_cycle, cells_from, fetches_from, fetches_next, losses_after, lost_to, mark, next_place}
+use Rattle.kp_pipeline.specs.Diagram.{Cell, Fetch, Loss, account_from, and_cycle, cells_from, fetches_from, fetches_next, losses_after, lost_to, mark, next_place}
 
 -- the stall words of `count` cycles from cycle T on are the same
 abbrev pub SameFrom : (ℕ → ℕ → Bool) → (ℕ → ℕ → Bool) → ℕ → ℕ → Type 0

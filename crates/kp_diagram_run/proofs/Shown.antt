@@ -3,11 +3,11 @@ use Rattle.std.proofs.Common.{◌≡◌, ◌∙◌, ℕ, suc, ◌-◌, Bool, Lis
 use Rattle.kp_ast.specs.declared.tree.Job.{Job}
 use Rattle.kp_stage.specs.Start.{start_of}
 use Rattle.kp_pipeline.specs.{Accepted.Accepted, Machine.Machine, Pipeline.Inputs, Pipeline.pipeline_start, Rows.Row, Rows.pipe}
-use Rattle.kp_pipeline.proofs.Taken.{rows-length}
+use Rattle.kp_pipeline.specs.DiagramClaims.{numbers_from, stalls_of}
+use Rattle.kp_pipeline.specs.Diagram.{Filling, Loss, losses_after, spent, spent_from}
+use Rattle.kp_pipeline.proofs.{Taken.rows-length, Adding.adds-up, Adding.retired-passed, Causes.causes, Causes.counted}
+use Rattle.kp_pipeline.proofs.{Cells.holds-shown, Cells.reasons, Cells.shown-holds, Retired.retired-in_order}
 use Rattle.kp_machine.specs.Machine.{inputs_from, machine_of, start_hints, state_of}
-use Rattle.kp_diagram.specs.{Claims.numbers_from, Claims.stalls_of, Diagram.Filling, Diagram.Loss, Diagram.losses_after, Diagram.spent, Diagram.spent_from}
-use Rattle.kp_diagram.proofs.{Adding.adds-up, Adding.retired-passed, Causes.causes, Causes.counted, Cells.holds-shown, Cells.reasons, Cells.shown-holds}
-use Rattle.kp_diagram.proofs.Retired.{retired-in_order}
 use Rattle.kp_diagram_text.specs.Figures.{figure_from}
 use Rattle.kp_diagram_run.specs.{Claims.ShowsPipe, Claims.ShowsRun, Runs.job_figure}
 

@@ -4,13 +4,12 @@ use Rattle.std.proofs.{Math.Nat.mod-eq_of_lt, lemmas.Bool.cases_lt}
 use Rattle.std.proofs.lemmas.List.{get_or-map, get_or_append_left, get_or_push, length-map}
 use Rattle.kp_ast.specs.declared.tree.Job.{Job}
 use Rattle.kp_stage.specs.Start.{stall_word, is_stalled, stalls_of as entries_of}
-use Rattle.kp_pipeline.specs.Pipeline.{Inputs}
+use Rattle.kp_pipeline.specs.{Pipeline.Inputs, DiagramClaims.stalls_of}
 use Rattle.kp_machine.specs.Machine.{inputs_from}
 use Rattle.kp_net.specs.Netlist.{Input}
 use Rattle.kp_sched.{specs.Rows.bit_of, proofs.Bits.word_fits}
 use Rattle.kp_synth_spec.specs.Traces.{input_seen, inputs_seen}
 use Rattle.kp_run.specs.Cycles.{input_at, inputs_to}
-use Rattle.kp_diagram.specs.Claims.{stalls_of}
 use Rattle.kp_diagram_run.specs.inner.Words.{words_to}
 
 stalls-at : (ins : List Inputs) (T k : ℕ) (d : Inputs) → T < length ins → stalls_of ins T k ≡ (get_or ins T d).ext k

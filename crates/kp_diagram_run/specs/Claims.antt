@@ -3,9 +3,9 @@ use Rattle.std.specs.Prelude.{◌≡◌, ℕ, ◌-◌, ◌<◌, List, Option, No
 use Rattle.kp_ast.specs.declared.tree.Job.{Job}
 use Rattle.kp_stage.specs.Start.{start_of}
 use Rattle.kp_pipeline.specs.{Machine.Machine, Pipeline.Inputs, Pipeline.pipeline_start, Rows.passed, Rows.pipe}
+use Rattle.kp_pipeline.specs.DiagramClaims.{Counts, HasReasons, Holds, IsSpentFor, Shows, cycles_of, numbers_from}
+use Rattle.kp_pipeline.specs.Diagram.{Loss, retired_numbers}
 use Rattle.kp_machine.specs.Machine.{inputs_from, machine_of, start_hints, state_of}
-use Rattle.kp_diagram.specs.Claims.{Counts, HasReasons, Holds, IsSpentFor, Shows, cycles_of, numbers_from}
-use Rattle.kp_diagram.specs.Diagram.{Loss, retired_numbers}
 use Rattle.kp_diagram_text.specs.Figures.{Figure}
 
 -- The figure shows a run of a machine, from a start state by target and address and start values of the hints, under these inputs.

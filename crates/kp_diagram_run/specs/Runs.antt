@@ -5,8 +5,7 @@ use Rattle.kp_ast.specs.declared.tree.Job.{Job}
 use Rattle.kp_stage.specs.Start.{stall_word}
 use Rattle.kp_machine.specs.Machine.{inputs_from, pipe_of}
 use Rattle.kp_sched.specs.Rows.{rows_seen}
-use Rattle.kp_diagram.specs.Claims.{stalls_of}
-use Rattle.kp_pipeline.specs.Rows.{Row}
+use Rattle.kp_pipeline.specs.{DiagramClaims.stalls_of, Rows.Row}
 use Rattle.kp_diagram_text.specs.Figures.{Figure, figure_from}
 
 -- The rows and the stall words of n cycles of the pipelined machine of a job, under the job's own stall words and samples.

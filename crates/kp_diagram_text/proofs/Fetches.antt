@@ -2,10 +2,10 @@
 use Rattle.std.proofs.Common.{◌≡◌, ◌∙◌, ℕ, suc, ◌+◌, ◌<◌, ◌≤◌, Bool, true, false, cond, List, [], ◌∷◌, ◌++◌, length, get_or, take, drop, Option, Some, None, refl, ap, ap₂, sym, arith}
 use Rattle.std.proofs.lemmas.List.{drop_all, drop_more, length-take-le, take_more}
 use Rattle.kp_base.specs.declared.row.Row as masks
-use Rattle.kp_pipeline.{specs.Rows.Row, specs.Rows.count_after, specs.Rows.counts, proofs.Counts.counts-more}
+use Rattle.kp_pipeline.specs.Rows.{Row, count_after, counts}
+use Rattle.kp_pipeline.specs.Diagram.{Cell, Fetch, Mark, cells_from, fetches_from, fetches_next, mark, next_place}
+use Rattle.kp_pipeline.proofs.{Counts.counts-more, Cells.cells-none}
 use Rattle.kp_sched.{specs.Rows.row_seen, specs.Rows.rows_seen, proofs.Counting.seen_length, proofs.Counting.seen_more}
-use Rattle.kp_diagram.specs.Diagram.{Cell, Fetch, Mark, cells_from, fetches_from, fetches_next, mark, next_place}
-use Rattle.kp_diagram.proofs.Cells.{cells-none}
 
 -- A cell, and a fetch, by what they have.
 abbrev pub cell_at : ℕ → ℕ → Mark → Cell

@@ -1,10 +1,10 @@
 use Rattle.std.proofs.Common.{◌≡◌, ℕ, suc, ◌+◌, ◌<◌, ◌≤◌, Bool, true, false, cond, not, ◌&&◌, ◌||◌, leb, ltb, Option, Some, None, refl, sym, ap, ap₂, ◌∙◌, ⊎_elim, arith, le-leb}
 use Rattle.std.proofs.lemmas.Bool.{cases_lt, lt-leb, lt-ltb, le-ltb, cond-true, cond-false}
 use Rattle.kp_base.specs.declared.row.Row.{Row}
-use Rattle.kp_pipeline.{specs.Rows.bit, proofs.Lists.bit-at}
+use Rattle.kp_pipeline.specs.Rows.{bit}
+use Rattle.kp_pipeline.specs.Diagram.{Moves, WaitsForValue, WaitsForStage, Held, Squashed, fetches_next, is_squashed, is_waiting, mark, next_place}
+use Rattle.kp_pipeline.proofs.{Lists.bit-at, Steps.bit-past}
 use Rattle.kp_sched.specs.Rows.{bit_of, row_seen}
-use Rattle.kp_diagram.specs.Diagram.{Moves, WaitsForValue, WaitsForStage, Held, Squashed, fetches_next, is_squashed, is_waiting, mark, next_place}
-use Rattle.kp_diagram.proofs.Steps.{bit-past}
 
 -- WHAT THE CODE TESTS of a row of masks, as the diagram's definitions ask it of the row of bits.
 pub ue_seen : (n : ℕ) (r : Row) (k : ℕ) → k < n → bit (row_seen n r).ue k ≡ bit_of r.ue k

@@ -26,3 +26,8 @@ pub mod Runs
 pub mod Sampled
 pub mod SpeculativeRuns
 pub mod Proved
+pub mod Adding
+pub mod Steps
+pub mod Cells
+pub mod Retired
+pub mod Causes

@@ -7,7 +7,7 @@ use Rattle.std.specs.List.{All, list_any}
 use Rattle.kp_bits.specs.Word.{Word}
 use Rattle.kp_ast.specs.declared.tree.Job.{Job}
 use Rattle.kp_pipeline.specs.{Machine.Machine, Pipeline.Inputs, Pipeline.PipelineState, Pipeline.cycle, Pipeline.pipeline_start}
-use Rattle.kp_pipeline.specs.{RightPath.Moment, RightPath.first_moment, RightPath.next_moment, Rows.state_after, Trimming.trimmed}
+use Rattle.kp_pipeline.specs.{RightPath.Moment, RightPath.first_moment, RightPath.next_moment, Rows.state_after, Trimming.trimmed, DiagramClaims.stalls_of}
 use Rattle.kp_stage.specs.Start.{start_of}
 use Rattle.kp_machine.specs.Machine.{inputs_at, inputs_from, machine_of, start_hints, state_of}
 use Rattle.kp_machine.proofs.Cases.{by_test}
@@ -21,7 +21,6 @@ use Rattle.kp_synth_tables.specs.Keys.{is_alive, keys_of}
 use Rattle.kp_stalls.specs.declared.cause.{Cause.Cause, Cause.TheVariants.Value, Cause.TheVariants.Squashed, Guess.Guess, Line.Line, Wait.Wait, Wrong.Wrong}
 use Rattle.kp_stalls.specs.{Claims.moment_at, Occupants.report}
 use Rattle.kp_sites.specs.Sites.{sited}
-use Rattle.kp_diagram.specs.Claims.{stalls_of}
 use Rattle.kp_stalls_run.specs.Claims.{moment_in}
 use Rattle.kp_stalls_run.specs.Runs.{cause_with, given_in, guess_with, guessed_in, line_with, run_lines, settled, state_at, wrong_with}
 use Rattle.kp_stalls_run.specs.inner.Replays.{HoldsState, names_guess, names_one, no_line, run_at}

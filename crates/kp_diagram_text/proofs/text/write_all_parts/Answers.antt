@@ -1,7 +1,7 @@
 use Rattle.std.proofs.lemmas.Result.{err_from_is_err_and}
 use Rattle.std.proofs.Common.{length, subst}
 use Rattle.kp_base.{specs.Bytes.Writes, proofs.Bytes.part_more, proofs.Bytes.writes_next}
-use Rattle.kp_diagram.specs.Diagram.{Account}
+use Rattle.kp_pipeline.specs.Diagram.{Account}
 use Rattle.kp_diagram_text.specs.Text.{account_text}
 use Rattle.kp_diagram_text.proofs.Steps.{part_after}
 use Rattle.kp_diagram_text.proofs.text.write_all_parts.Goals as goal

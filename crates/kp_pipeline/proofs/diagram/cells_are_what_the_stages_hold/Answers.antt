@@ -1,5 +1,5 @@
-use Rattle.kp_diagram.proofs.Cells.{holds-shown, shown-holds}
-use Rattle.kp_diagram.proofs.laws.cells_are_what_the_stages_hold.Goals as goal
+use Rattle.kp_pipeline.proofs.Cells.{holds-shown, shown-holds}
+use Rattle.kp_pipeline.proofs.diagram.cells_are_what_the_stages_hold.Goals as goal
 
 pub returns-clause-shown : goal.returns-clause-shown
 returns-clause-shown c = λ m s hints ins acc. shown-holds m acc s hints ins

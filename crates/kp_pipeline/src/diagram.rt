@@ -2,12 +2,11 @@
 //! of the cycles: a stall word and sample values for each.
 
 ghost use Rattle.std.specs.Prelude.{◌≡◌, ◌<◌, ℕ, suc, Bool, List, length, get_or, None};
-ghost use Rattle.kp_pipeline.specs.Accepted.{Accepted};
+ghost use Rattle.kp_pipeline.specs.{Accepted.Accepted, Diagram.Mark, Diagram.account, Diagram.diagram, Diagram.retired_numbers, Diagram.spent};
 ghost use Rattle.kp_pipeline.specs.Machine.{Machine};
 ghost use Rattle.kp_pipeline.specs.Pipeline.{Inputs, PipelineState, pipeline_start};
 ghost use Rattle.kp_pipeline.specs.Rows.{Row, passed, pipe};
-ghost use Rattle.kp_diagram.specs.Claims.{Counts, HasReasons, Holds, IsReason, IsSpentFor, Shows, cycles_of, numbers_from, stalls_of};
-ghost use Rattle.kp_diagram.specs.Diagram.{Mark, account, diagram, retired_numbers, spent};
+ghost use Rattle.kp_pipeline.specs.DiagramClaims.{Counts, HasReasons, Holds, IsReason, IsSpentFor, Shows, cycles_of, numbers_from, stalls_of};
 
 /// A line of instruction i has a cell in cycle T and stage k exactly where stage k is full in that cycle and holds instruction i.
 pub fn cells_are_what_the_stages_hold()

@@ -1,9 +1,9 @@
 use Rattle.std.specs.Prelude.{◌≡◌, ℕ, zero, suc, ◌+◌, ◌-◌, ◌<◌, ◌≤◌, Bool, true, false, List, [], ◌∷◌, ◌⊎◌, Option, Some, None}
 use Rattle.std.specs.List.{AllByRecursion}
+use Rattle.kp_pipeline.specs.Diagram.{Account, Cell, Fetch, Loss, Filling, DataHazard, WrongGuess, Outside, Mark, Moves, WaitsForValue, WaitsForStage, Held, Squashed}
 use Rattle.kp_pipeline.specs.Machine.{Machine}
 use Rattle.kp_pipeline.specs.Pipeline.{Inputs, PipelineState, above, back, outcome, stall, ue}
 use Rattle.kp_pipeline.specs.Rows.{Row, bit, counts, one_if, state_after}
-use Rattle.kp_diagram.specs.Diagram.{Account, Cell, Fetch, Loss, Filling, DataHazard, WrongGuess, Outside, Mark, Moves, WaitsForValue, WaitsForStage, Held, Squashed}
 
 -- CLAIMS ON DIAGRAMS.
 

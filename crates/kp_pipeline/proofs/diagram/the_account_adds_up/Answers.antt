@@ -1,5 +1,6 @@
-use Rattle.kp_diagram.{specs.Diagram.Filling, proofs.Adding.adds-up, proofs.Adding.retired-passed}
-use Rattle.kp_diagram.proofs.laws.the_account_adds_up.Goals as goal
+use Rattle.kp_pipeline.specs.Diagram.{Filling}
+use Rattle.kp_pipeline.proofs.Adding.{adds-up, retired-passed}
+use Rattle.kp_pipeline.proofs.diagram.the_account_adds_up.Goals as goal
 
 pub returns-clause-total : goal.returns-clause-total
 returns-clause-total c = λ last ext rows. adds-up last ext 0 (λ k. Filling) rows

@@ -2,10 +2,10 @@ use Rattle.std.proofs.Common.{◌≡◌, ℕ, zero, suc, ◌<◌, ◌≤◌, Boo
 use Rattle.std.proofs.lemmas.Bool.{cases_Bool, cases_lt, cond-true, cond-false, both_ways, lt-leb, and_from, and_left, and_right, or_left, or_right, or_from, not_from_true, not_from_false, false_from_ne_true}
 use Rattle.kp_pipeline.specs.Machine.{Machine}
 use Rattle.kp_pipeline.specs.Pipeline.{Inputs, PipelineState, above, back, outcome, stall, ue}
-use Rattle.kp_pipeline.{specs.Rows.bit, specs.Rows.bits, specs.Rows.row, proofs.Lists.bit-at}
-use Rattle.kp_pipeline.proofs.Cycle.{stall-above, stall-is, stall-top, ue-from, ue-parts}
-use Rattle.kp_diagram.specs.Diagram.{Mark, Moves, WaitsForValue, WaitsForStage, Held, Squashed, does_move, fetches_next, is_squashed, is_waiting, mark, next_place}
-use Rattle.kp_diagram.specs.Claims.{IsReason}
+use Rattle.kp_pipeline.specs.Rows.{bit, bits, row}
+use Rattle.kp_pipeline.specs.Diagram.{Mark, Moves, WaitsForValue, WaitsForStage, Held, Squashed, does_move, fetches_next, is_squashed, is_waiting, mark, next_place}
+use Rattle.kp_pipeline.specs.DiagramClaims.{IsReason}
+use Rattle.kp_pipeline.proofs.{Lists.bit-at, Cycle.stall-above, Cycle.stall-is, Cycle.stall-top, Cycle.ue-from, Cycle.ue-parts}
 
 -- ONE CYCLE of a stage, as its row shows it.
 

@@ -1,7 +1,7 @@
 use Rattle.std.proofs.Common.{◌≡◌, ℕ, suc, ◌+◌, Bool, true, false, cond, List, [], ◌∷◌, length, Option, Some, None, refl, ap, ◌∙◌, arith}
 use Rattle.kp_pipeline.specs.Rows.{Row, bit, one_if, passed}
-use Rattle.kp_diagram.specs.Diagram.{Account, Loss, Filling, DataHazard, WrongGuess, Outside, account_from, and_cycle, loss_of_wait, losses_after, lost_to}
-use Rattle.kp_diagram.specs.Claims.{cycles_of}
+use Rattle.kp_pipeline.specs.Diagram.{Account, Loss, Filling, DataHazard, WrongGuess, Outside, account_from, and_cycle, loss_of_wait, losses_after, lost_to}
+use Rattle.kp_pipeline.specs.DiagramClaims.{cycles_of}
 
 -- THE ACCOUNT ADDS UP, and what it says is retired are the update enables of the last stage.
 pub one-more : (o : Option Loss) (a : Account) → cycles_of (and_cycle o a) ≡ suc (cycles_of a)

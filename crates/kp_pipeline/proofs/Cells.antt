@@ -3,12 +3,13 @@ use Rattle.std.{specs.List.AllByRecursion, proofs.lemmas.Bool.cases_lt, proofs.l
 use Rattle.kp_pipeline.specs.Machine.{Machine}
 use Rattle.kp_pipeline.specs.Pipeline.{Inputs, PipelineState, cycle, next_stage, pipeline_start, stall, ue}
 use Rattle.kp_pipeline.specs.Rows.{Row, count_after, counts, counts_from, pipe, row, rows_from, state_after}
-use Rattle.kp_pipeline.{specs.Accepted.Accepted, proofs.Lists.all-map, proofs.Lists.bit-at, proofs.Cycle.ue-parts}
+use Rattle.kp_pipeline.specs.Accepted.{Accepted}
+use Rattle.kp_pipeline.specs.Diagram.{Cell, Fetch, cells_from, diagram, fetches_from, fetches_next, mark, next_place}
+use Rattle.kp_pipeline.specs.DiagramClaims.{HasCell, HasReasons, Holds, IsReason, Shows, input_at, is_full, stalls_of}
+use Rattle.kp_pipeline.proofs.{Lists.all-map, Lists.bit-at, Cycle.ue-parts}
 use Rattle.kp_pipeline.proofs.Movement.{count-moved, count-stays, kept-full, next-from, next-moved, next_count, stall-full}
 use Rattle.kp_pipeline.proofs.{Invariant.Shape, Pending.shape-kept, Pending.shape-start, Counts.AgreeBelow, Counts.counts-row}
-use Rattle.kp_diagram.specs.Diagram.{Cell, Fetch, cells_from, diagram, fetches_from, fetches_next, mark, next_place}
-use Rattle.kp_diagram.specs.Claims.{HasCell, HasReasons, Holds, IsReason, Shows, input_at, is_full, stalls_of}
-use Rattle.kp_diagram.proofs.Steps.{by-fate, fetches-moved, fetches-swept, place-leaves, place-moves, place-stays, place-swept, reason}
+use Rattle.kp_pipeline.proofs.Steps.{by-fate, fetches-moved, fetches-swept, place-leaves, place-moves, place-stays, place-swept, reason}
 
 -- THE CELLS of a diagram are what the stages hold.
 

@@ -1,5 +1,6 @@
-use Rattle.kp_diagram.{specs.Diagram.Filling, proofs.Causes.causes, proofs.Causes.counted}
-use Rattle.kp_diagram.proofs.laws.lost_cycles_have_their_causes.Goals as goal
+use Rattle.kp_pipeline.specs.Diagram.{Filling}
+use Rattle.kp_pipeline.proofs.Causes.{causes, counted}
+use Rattle.kp_pipeline.proofs.diagram.lost_cycles_have_their_causes.Goals as goal
 
 pub returns-clause-causes : goal.returns-clause-causes
 returns-clause-causes c = λ m s hints ins last T acc e b. causes m acc s hints ins last T e b

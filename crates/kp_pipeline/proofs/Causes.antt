@@ -1,13 +1,13 @@
 use Rattle.std.proofs.Common.{◌≡◌, ℕ, zero, suc, ◌+◌, ◌-◌, ◌<◌, ◌≤◌, Bool, true, false, cond, List, [], ◌∷◌, length, get_or, Option, Some, None, refl, sym, ap, ◌∙◌, subst, ⊎_elim, arith}
 use Rattle.std.proofs.lemmas.Bool.{cases_Bool, cases_eq, both_ways, cond-true, cond-false, false_from_ne_true}
+use Rattle.kp_pipeline.specs.Diagram.{Account, Loss, Filling, DataHazard, WrongGuess, Outside, Mark, WaitsForValue, Held, Squashed, account_from, and_cycle, is_squashed, loss_of_wait, losses_after, lost_to, spent, spent_from}
 use Rattle.kp_pipeline.specs.Machine.{Machine}
 use Rattle.kp_pipeline.specs.Pipeline.{Inputs, PipelineState, above, back, cycle, next_stage, pipeline_start, stall, ue}
 use Rattle.kp_pipeline.specs.{Rows.Row, Rows.bit, Rows.pipe, Rows.row, Rows.rows_from, Rows.state_after, Accepted.Accepted}
+use Rattle.kp_pipeline.specs.DiagramClaims.{Counts, IsCausedBy, IsEmpty, IsFilling, IsLostTo, IsReason, IsSpentFor, input_at, stalls_of}
 use Rattle.kp_pipeline.proofs.{Cycle.stall-above, Cycle.stall-top, Movement.kept-full, Movement.next-moved, Pending.shape-start, Counts.shape-along}
-use Rattle.kp_diagram.specs.Diagram.{Account, Loss, Filling, DataHazard, WrongGuess, Outside, Mark, WaitsForValue, Held, Squashed, account_from, and_cycle, is_squashed, loss_of_wait, losses_after, lost_to, spent, spent_from}
-use Rattle.kp_diagram.specs.Claims.{Counts, IsCausedBy, IsEmpty, IsFilling, IsLostTo, IsReason, IsSpentFor, input_at, stalls_of}
-use Rattle.kp_diagram.proofs.Steps.{by-fate, full-bit, hazard-left, not-swept, swept, ue-bit}
-use Rattle.kp_diagram.proofs.{Cells.StallsFrom, Cells.first-full, Cells.stalls-here, Cells.stalls-next, Retired.back-top}
+use Rattle.kp_pipeline.proofs.Steps.{by-fate, full-bit, hazard-left, not-swept, swept, ue-bit}
+use Rattle.kp_pipeline.proofs.{Cells.StallsFrom, Cells.first-full, Cells.stalls-here, Cells.stalls-next, Retired.back-top}
 
 -- EACH CYCLE IS COUNTED UNDER ITS CAUSE.
 

@@ -1,5 +1,0 @@
-pub mod Adding
-pub mod Steps
-pub mod Cells
-pub mod Retired
-pub mod Causes
