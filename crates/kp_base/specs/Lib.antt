@@ -1,10 +1,16 @@
 pub mod Characters
 pub mod Place
+pub mod Lines
 pub mod Refusal
 pub mod First
 pub mod Check
 pub mod Causes
 pub mod Bytes
 pub mod Memory
+pub mod Grammar
+pub mod Tables
+pub mod GrammarMachine
+pub mod Ranks
+pub mod SampleGrammar
 pub mod formers
 pub mod inner

@@ -1,2 +1,3 @@
 -- These modules are for private contracts and proofs: a reader need not trust them.
 pub mod Bytes
+pub mod Words

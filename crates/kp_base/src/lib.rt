@@ -1,7 +1,9 @@
-//! The base of all other crates: positions in a text, rejections, lists, and reading and writing bytes.
+//! The base of all other crates: positions in a text, its lines and their tokens, rejections, lists, reading and writing bytes, and the theory of predictive
+//! grammars (`grammar`).
 #![tactic(auto)]
 
 mod characters;
+pub mod grammar;
 pub mod laws;
 mod list;
 mod memory;
@@ -10,6 +12,7 @@ mod place;
 mod reading;
 mod refusal;
 mod row;
+mod run;
 mod standard;
 mod writing;
 
@@ -21,5 +24,6 @@ pub use place::{Place, place_of};
 pub use reading::{ReadAll, read_all};
 pub use refusal::{Family, Refusal, Refused};
 pub use row::Row;
+pub use run::{Run, lines_in, words_in};
 pub use standard::{StdSink, StdSource};
 pub use writing::{SinkFault, write_all, write_pieces};

@@ -1,7 +1,7 @@
 -- A line is cut at its first `//`.
 use Rattle.std.proofs.Common.{◌≡◌, ℕ, zero, suc, ◌+◌, ◌-◌, ◌<◌, ◌≤◌, Bool, true, false, cond, List, [], ◌∷◌, length, get_or, sym, ap, ◌∙◌, arith}
 use Rattle.std.specs.Prelude.{slice_range}
-use Rattle.kp_lines.proofs.Splitting.{range_head, range_empty}
+use Rattle.kp_base.proofs.Splitting.{range_head, range_empty}
 use Rattle.kp_core_ports.specs.Ports.{begins_comment, uncommented}
 
 module _ (text : List ℕ) (e : ℕ) where

@@ -2,7 +2,7 @@
 use Rattle.std.proofs.Common.{◌≡◌, ℕ, ◌≤◌, ◌-◌, List, [], ◌∷◌, length, drop, map, Result, Ok, Err, sym, subst, ap, ◌∙◌, arith}
 use Rattle.std.{proofs.lemmas.List.take_all, proofs.lemmas.List.length-drop, specs.Prelude.slice_range}
 use Rattle.kp_ast.specs.declared.tree.Job.{Job}
-use Rattle.kp_lines.specs.{Lines.Piece, Lines.lines_of, Lines.piece_of, declared.run.Run.Run}
+use Rattle.kp_base.specs.{Lines.Piece, Lines.lines_of, Lines.piece_of, declared.run.Run.Run}
 use Rattle.kp_core_ports.specs.{Ports.port_in, Ports.tokens_of, Ports.ports_from, Ports.ports_of, Rules.Yields, inner.Reading.IsAdded, declared.port.Port.Port}
 use Rattle.kp_core_ports.specs.declared.port.{PortRefusal.PortRefusal, PortsRefused.PortsRefused}
 use Rattle.kp_core_ports.specs.declared.port.PortsRefused.TheVariants.{Rule, NoMemory}

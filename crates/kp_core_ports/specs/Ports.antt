@@ -7,7 +7,7 @@
 use Rattle.std.specs.Prelude.{◌≡◌, ℕ, ◌+◌, ◌<◌, Bool, true, false, not, ◌&&◌, ◌==◌, nat_lt, if◌then◌else◌, List, [], ◌∷◌, ◌++◌, All, length, drop, codes, decimal, Option, Some, None, unwrap_or, Result, Ok, Err}
 use Rattle.std.specs.{List.list_any, Str.bytes_eq}
 use Rattle.kp_bits.specs.Literals.{is_number, number_of}
-use Rattle.kp_lines.specs.Lines.{Piece, lines_of, words_of}
+use Rattle.kp_base.specs.Lines.{Piece, lines_of, words_of}
 use Rattle.kp_ast.specs.declared.tree.Job.{Job}
 use Rattle.kp_machine.specs.Slots.{Slot, targets_of, pipes_of, is_register}
 use Rattle.kp_synth_tables.specs.Keys.{is_piped, target_at, HasKey}

@@ -1,10 +1,9 @@
 // What a line asks for.
 ghost use Rattle.std.specs.Prelude.{◌≡◌, ◌≤◌, ◌-◌, ◌^◌, ◌<◌, ◌&&◌, ◌∷◌, [], ℕ, length, map, take, codes, All, Some, IfOk, IfSome};
 ghost use Rattle.std.specs.Str.{bytes_eq};
-ghost use Rattle.kp_base.specs.Place.{place_after};
+ghost use Rattle.kp_base.specs.{Place.place_after, Lines.IsWithin, Lines.piece_of};
 ghost use Rattle.kp_machine.specs.Slots.{pipes_of};
 ghost use Rattle.kp_bits.specs.Literals.{is_number};
-ghost use Rattle.kp_lines.specs.Lines.{IsWithin, piece_of};
 ghost use Rattle.kp_core_ports.specs.Ports.{is_there, is_named, asks_register, no_target, target_ask, target_port, of_target, pipe_ask, pipe_label, pipe_port, of_pipe, of_commit, port_by, port_in, stage_of, Exists};
 ghost use Rattle.kp_core_ports.specs.Rules.{Yields};
 ghost use Rattle.kp_core_ports.specs.inner.Reading.{Finds};
@@ -14,8 +13,7 @@ ghost use Rattle.kp_core_ports.specs.declared.port.PortsRefused.TheVariants as r
 use crate::port::{Ask, PipeVerb, Port, PortRefusal, PortRule, PortsRefused, TargetVerb, Verb};
 use crate::slots::{is_held, pipe_of, target_of};
 use crate::words::{bytes_of, is_number, pipe_label, stage_of, verb_of};
-use kp_base::{List, place_of};
-use kp_lines::Run;
+use kp_base::{List, Run, place_of};
 use kp_synth_tables::Layout;
 use std::alloc::Global;
 

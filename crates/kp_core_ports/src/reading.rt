@@ -1,6 +1,6 @@
 // All lines.
 ghost use Rattle.std.specs.Prelude.{◌≡◌, ◌≤◌, ◌-◌, ◌^◌, ◌<◌, [], length, map, All, IfOk, IfErr, OnOk};
-ghost use Rattle.kp_lines.specs.Lines.{IsWithin, piece_of};
+ghost use Rattle.kp_base.specs.Lines.{IsWithin, piece_of};
 ghost use Rattle.kp_core_ports.specs.Ports.{port_in, ports_from, ports_of, tokens_of, AllExist};
 ghost use Rattle.kp_core_ports.specs.Rules.{Yields};
 ghost use Rattle.kp_core_ports.specs.inner.Reading.{IsAdded, IsBroken};
@@ -8,7 +8,7 @@ ghost use Rattle.kp_core_ports.specs.inner.Reading.{IsAdded, IsBroken};
 use crate::line::port_in;
 use crate::port::{Port, PortsRefused};
 use crate::words::uncommented;
-use kp_lines::{Run, lines_in, words_in};
+use kp_base::{Run, lines_in, words_in};
 use kp_synth_tables::Layout;
 use std::alloc::Global;
 

@@ -3,14 +3,13 @@ ghost use Rattle.std.specs.Prelude.{◌≡◌, ◌≤◌, ◌++◌, length, code
 ghost use Rattle.std.specs.Char.{is_digit};
 ghost use Rattle.std.specs.List.{list_all};
 ghost use Rattle.kp_bits.specs.Literals.{is_number};
-ghost use Rattle.kp_lines.specs.Lines.{IsWithin, piece_of};
+ghost use Rattle.kp_base.specs.Lines.{IsWithin, piece_of};
 ghost use Rattle.kp_core_ports.specs.Ports.{begins_comment, uncommented, verb_of, stage_of, pipe_label};
 
 use crate::port::{PipeVerb, TargetVerb, Verb};
 use itoa::Buffer;
-use kp_base::NoMemory;
+use kp_base::{NoMemory, Run};
 use kp_bits::read_number;
-use kp_lines::Run;
 use std::alloc::Global;
 
 /// The bytes of a run.

@@ -4,7 +4,7 @@ use Rattle.std.specs.Prelude.{nat_le, IfErr, IfSome, ◌&&◌, ◌==◌}
 use Rattle.kp_bits.specs.{Word.Word, Literals.is_number, Literals.number_of, Literals.literal_of, Literals.fit_of, declared.literal.Literal.Literal}
 use Rattle.kp_bits.specs.declared.literal.LiteralFault.{LiteralFault}
 use Rattle.kp_ast.specs.declared.tree.Decl.{Decl}
-use Rattle.kp_lines.specs.{Lines.Piece, Lines.piece_of, Lines.IsWithin, declared.run.Run.Run}
+use Rattle.kp_base.specs.{Lines.Piece, Lines.piece_of, Lines.IsWithin, declared.run.Run.Run}
 use Rattle.kp_debug_script.specs.Scripts.{verb_of, count_within, count_of, value_fitting, value_within, value_of, one_count, with_count, alone, with_value, with_register, register_from, until_at, until_by, is_literal, command_by, command_in}
 use Rattle.kp_debug_script.specs.{inner.Reading.IsFaultIn, declared.command.Command.Command, declared.command.Verb.Verb, declared.command.Register.Register}
 use Rattle.kp_debug_script.specs.declared.command.Fault.{Fault}

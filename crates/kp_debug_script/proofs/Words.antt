@@ -1,7 +1,7 @@
 -- The tokens after `until`.
 use Rattle.std.proofs.Common.{◌≡◌, ◌≤◌, ◌-◌, ◌==◌, ℕ, List, [], ◌∷◌, length, map, take, drop, false, refl, arith}
 use Rattle.kp_ast.specs.declared.tree.Decl.{Decl}
-use Rattle.kp_lines.specs.{declared.run.Run.Run, Lines.Piece}
+use Rattle.kp_base.specs.{declared.run.Run.Run, Lines.Piece}
 use Rattle.kp_debug_script.specs.Scripts.{broken, until_by}
 
 -- four tokens or more are none of its forms

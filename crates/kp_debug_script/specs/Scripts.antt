@@ -5,12 +5,11 @@
 -- name or else at the literal. Of the rules that a line violates the one with the lowest number counts, and of the lines that violate one the first.
 use Rattle.std.specs.Prelude.{ℕ, ◌+◌, Bool, true, false, ◌&&◌, ◌==◌, nat_le, if◌then◌else◌, List, [], ◌∷◌, codes, Option, Some, None, Result, Ok, Err, take, drop}
 use Rattle.std.specs.Str.{bytes_eq}
-use Rattle.kp_base.specs.{Place.place_after, Refusal.e_rule, declared.refusal.Refusal.Refusal}
+use Rattle.kp_base.specs.{Place.place_after, Refusal.e_rule, declared.refusal.Refusal.Refusal, Lines.Piece, Lines.lines_of, Lines.words_of}
 use Rattle.kp_bits.specs.{Word.Word, Literals.is_number, Literals.number_of, Literals.literal_of, Literals.fit_of, declared.literal.Literal.Literal}
 use Rattle.kp_bits.specs.declared.literal.LiteralFault.{LiteralFault, TheVariants.BadDigit}
 use Rattle.kp_ast.specs.declared.tree.Decl.{Decl}
 use Rattle.kp_ast.specs.declared.tree.Decl.TheVariants as decls
-use Rattle.kp_lines.specs.Lines.{Piece, lines_of, words_of}
 use Rattle.kp_debug_script.specs.declared.command.{Command.Command, Verb.Verb, Register.Register, Fault.Fault}
 use Rattle.kp_debug_script.specs.declared.command.Command.TheVariants as commands
 use Rattle.kp_debug_script.specs.declared.command.Verb.TheVariants as verbs

@@ -3,13 +3,13 @@ ghost use Rattle.std.specs.Prelude.{[], ◌∷◌, ◌≡◌, ◌≤◌, ◌^◌
 ghost use Rattle.std.specs.Char.{is_digit};
 ghost use Rattle.std.specs.List.{list_all};
 ghost use Rattle.kp_bits.specs.Literals.{is_number};
-ghost use Rattle.kp_lines.specs.Lines.{piece_of, IsWithin};
+ghost use Rattle.kp_base.specs.Lines.{piece_of, IsWithin};
 ghost use Rattle.kp_debug_script.specs.Scripts.{verb_of, register_in, targets_in, register_from, count_of, value_of, is_literal, one_count, alone, until_by, until_at, command_by, command_in};
 
 use crate::command::{Command, Fault, Register, Verb};
 use kp_ast::Decl;
+use kp_base::Run;
 use kp_bits::{Bits, LiteralFault, read_literal, read_number};
-use kp_lines::Run;
 
 // The keyword that these bytes are, if they are one.
 fn verb_of(word: &[u8]) -> Option<Verb>

@@ -1,17 +1,15 @@
 // The script after a job.
 ghost use Rattle.std.specs.Prelude.{◌≡◌, ◌≤◌, ◌+◌, ◌-◌, ◌^◌, ◌<◌, true, false, [], length, get_or, take, IfOk, IfErr, OnOk, IfSome};
-ghost use Rattle.kp_base.specs.Check.{Gives};
+ghost use Rattle.kp_base.specs.{Check.Gives, Lines.is_break, Lines.piece_of, Lines.words_of, Lines.IsWithin};
 ghost use Rattle.kp_base.specs.Place.{place_after};
 ghost use Rattle.kp_base.specs.Refusal.{e_rule};
-ghost use Rattle.kp_lines.specs.Lines.{is_break, piece_of, words_of, IsWithin};
 ghost use Rattle.kp_debug_script.specs.Scripts.{script_of, command_in};
 ghost use Rattle.kp_debug_script.specs.inner.Reading.{IsAdded, IsBroken, IsFaultIn};
 
 use crate::command::{Command, Fault};
 use crate::line::command_in;
 use kp_ast::Decl;
-use kp_base::{Refusal, Refused, place_of};
-use kp_lines::{Run, words_in};
+use kp_base::{Refusal, Refused, Run, place_of, words_in};
 use std::alloc::Global;
 
 /// Reads the script that starts at an offset of a text, for a job with these declarations.

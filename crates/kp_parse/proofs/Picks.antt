@@ -1,7 +1,6 @@
 -- The alternatives of the names of the language, and the tokens that select them.
 use Rattle.std.proofs.{Common.ℕ, Common.◌≡◌, Common.◌==◌, Common.[], Common.◌∷◌, Common.List, Common.drop, Common.true, Common.false, Common.refl, Common.sym, Common.ap, Common.◌∙◌, lemmas.Bool.eqb-true}
-use Rattle.kp_base.specs.declared.place.Place.{Place}
-use Rattle.kp_grammar.specs.{Grammar.Nonterminal, Grammar.Action, Machine.Outcome, Machine.look, Machine.goes}
+use Rattle.kp_base.specs.{declared.place.Place.Place, Grammar.Nonterminal, Grammar.Action, GrammarMachine.Outcome, GrammarMachine.look, GrammarMachine.goes}
 use Rattle.kp_lex.specs.declared.token.Keyword.TheVariants as keywords
 use Rattle.kp_lex.specs.declared.token.Mark.TheVariants as marks
 use Rattle.kp_parse_grammar.specs.Language.{Sym, State, Step, language, word, mark, placed, NAME, NUM, LIT, ADDRESS, BINDING, DECL, ENABLE, ENTRIES, ENTRY, HEDGE, IMAGE, INDEX, INPUTS, JOB, LITS, NUMBERED, PAR, PARS, SPAN, SPANS, STAGE, STAGES, STALLS, STEP, STMT, WHEN, WHOLE, WORD, WORDS, DECLS, STMTS}

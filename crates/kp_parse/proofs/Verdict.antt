@@ -1,10 +1,10 @@
 -- A text has a verdict: a tree, or a violated rule.
 use Rattle.std.proofs.Common.{ℕ, ◌≡◌, ◌≤◌, ◌-◌, ◌⊎◌, inl, inr, List, [], length, drop, refl, sym, subst, arith}
 use Rattle.std.proofs.lemmas.List.{length-drop}
+use Rattle.kp_base.specs.GrammarMachine.{Outcome, Accepts, Stops, Exceeds, Leads, accept, more, goes, take, make, wrong, lost, exceed}
 use Rattle.kp_base.specs.declared.refusal.Refusal.{Refusal}
 use Rattle.kp_ast.specs.declared.tree.Job.{Job}
-use Rattle.kp_grammar.specs.Machine.{Outcome, Accepts, Stops, Exceeds, Leads, accept, more, goes, take, make, wrong, lost, exceed}
-use Rattle.kp_grammar.proofs.{Check.decides, Ends.ends}
+use Rattle.kp_base.proofs.{TableTests.decides, Ends.ends}
 use Rattle.kp_lex.specs.declared.token.Token.{Token}
 use Rattle.kp_parse_grammar.specs.Tokens.{Lexeme, lexemes}
 use Rattle.kp_parse_grammar.specs.Language.{JOB, Sym, State, language, rules, at, is_over}

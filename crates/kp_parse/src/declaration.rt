@@ -1,7 +1,6 @@
 // Declarations.
 ghost use Rattle.std.specs.Prelude.{◌≡◌, ◌==◌, [], ◌∷◌, length, MatchResult, true, false};
-ghost use Rattle.kp_grammar.specs.Grammar.{Nonterminal};
-ghost use Rattle.kp_grammar.specs.Tables.{among};
+ghost use Rattle.kp_base.specs.{Grammar.Nonterminal, Tables.among};
 ghost use Rattle.kp_lex.specs.declared.token.Keyword.TheVariants as keywords;
 ghost use Rattle.kp_parse_grammar.specs.Tokens.{keyword_class};
 ghost use Rattle.kp_parse_grammar.specs.inner.Follow.{decl_words};

@@ -1,7 +1,6 @@
 // Complete jobs.
 ghost use Rattle.std.specs.Prelude.{◌≡◌, ◌≤◌, ◌+◌, ◌-◌, ◌^◌, [], ◌∷◌, Ok, length, drop, MatchResult, IfOk};
-ghost use Rattle.kp_grammar.specs.Grammar.{Nonterminal};
-ghost use Rattle.kp_grammar.specs.Machine.{Accepts};
+ghost use Rattle.kp_base.specs.{Grammar.Nonterminal, GrammarMachine.Accepts};
 ghost use Rattle.kp_lex.specs.Text.{HasOutcome};
 ghost use Rattle.kp_base.specs.declared.refusal.Refused.TheVariants as refused;
 ghost use Rattle.kp_ast.specs.declared.tree.Job.{Job as JobTree};

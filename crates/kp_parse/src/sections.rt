@@ -1,6 +1,6 @@
 // The sections after the stages.
 ghost use Rattle.std.specs.Prelude.{[], ◌∷◌, MatchResult};
-ghost use Rattle.kp_grammar.specs.Grammar.{Nonterminal};
+ghost use Rattle.kp_base.specs.Grammar.{Nonterminal};
 ghost use Rattle.kp_parse_grammar.specs.Language.{perhaps_images, images as images_value, image as image_value, perhaps_stalls, stalls as stalls_value, stall as stall_value, perhaps_inputs, inputs as inputs_value, input as input_value, number as number_value, perhaps_number, literals as literals_value, IMAGE, WORDS, WORD, NUMBERED, LITS, STALLS, SPANS, SPAN, STEP, INPUTS, ENTRIES, ENTRY};
 ghost use Rattle.kp_parse_grammar.specs.Reading.{Turns, Ends};
 ghost use Rattle.kp_parse_grammar.specs.inner.Stretch.{TurnsAll, EndsAll};

@@ -1,7 +1,6 @@
 // Stages and their statements.
 ghost use Rattle.std.specs.Prelude.{◌≡◌, ◌==◌, [], ◌∷◌, MatchResult, true, false, ◌-◌, length};
-ghost use Rattle.kp_grammar.specs.Grammar.{Nonterminal};
-ghost use Rattle.kp_grammar.specs.Tables.{among};
+ghost use Rattle.kp_base.specs.{Grammar.Nonterminal, Tables.among};
 ghost use Rattle.kp_lex.specs.declared.token.Keyword.TheVariants as keywords;
 ghost use Rattle.kp_parse_grammar.specs.Tokens.{keyword_class};
 ghost use Rattle.kp_parse_grammar.specs.inner.Follow.{stmt_words};

@@ -1,7 +1,7 @@
 -- What the machine does at a name, as the next token says.
 use Rattle.std.proofs.Common.{ℕ, ◌≡◌, ◌==◌, List, [], ◌∷◌, ◌++◌, drop, Bool, true, false, cond, ◌||◌, Option, Some, refl, sym, ap, ◌∙◌, subst}
 use Rattle.std.proofs.lemmas.Bool.{eqb-true}
-use Rattle.kp_grammar.specs.{Grammar.Nonterminal, Grammar.Action, Tables.pick, Tables.among, Machine.Outcome, Machine.look, Machine.goes}
+use Rattle.kp_base.specs.{Grammar.Nonterminal, Grammar.Action, Tables.pick, Tables.among, GrammarMachine.Outcome, GrammarMachine.look, GrammarMachine.goes}
 use Rattle.kp_base.specs.declared.place.Place.{Place}
 use Rattle.kp_lex.specs.declared.token.Keyword.{Keyword}
 use Rattle.kp_lex.specs.declared.token.Keyword.TheVariants as keywords

@@ -1,7 +1,8 @@
 -- The token at an index.
 use Rattle.std.proofs.Common.{ℕ, ◌≡◌, ◌==◌, ◌<◌, ◌≤◌, ◌+◌, ◌-◌, List, [], ◌∷◌, length, drop, take, map, true, false, refl, sym, ap, ◌∙◌, eq-eqb, arith}
 use Rattle.std.{proofs.lemmas.List.drop_more, proofs.lemmas.List.drop-map, proofs.lemmas.Bool.eqb-true, specs.Prelude.slice_index_or}
-use Rattle.kp_grammar.{specs.Grammar.Terminal, specs.Machine.Stops, specs.Machine.look, specs.Machine.wrong, proofs.Ways.took}
+use Rattle.kp_base.specs.{Grammar.Terminal, GrammarMachine.Stops, GrammarMachine.look, GrammarMachine.wrong}
+use Rattle.kp_base.proofs.Ways.{took}
 use Rattle.kp_lex.specs.declared.token.{Token.Token, TokenKind.TokenKind}
 use Rattle.kp_lex.specs.declared.token.Keyword.TheVariants as keywords
 use Rattle.kp_lex.specs.declared.token.Mark.TheVariants as marks

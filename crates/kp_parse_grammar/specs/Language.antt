@@ -1,7 +1,6 @@
 -- The grammar of machine descriptions, with what it builds.
 use Rattle.std.specs.Prelude.{ℕ, ◌+◌, ◌||◌, nat_lt, List, [], ◌∷◌, ◌++◌, Bool, false, Option, Some, None}
-use Rattle.kp_base.specs.declared.place.Place.{Place}
-use Rattle.kp_grammar.specs.Grammar.{Symbol, Terminal, Nonterminal, Action, Rules, Grammar}
+use Rattle.kp_base.specs.{declared.place.Place.Place, Grammar.Symbol, Grammar.Terminal, Grammar.Nonterminal, Grammar.Action, Grammar.Rules, Grammar.Grammar}
 use Rattle.kp_bits.specs.declared.operator.BinOp.{BinOp}
 use Rattle.kp_bits.specs.declared.operator.BinOp.TheVariants as ops
 use Rattle.kp_ast.specs.declared.tree.{Named.Named, Num.Num, Lit.Lit, Expr.Expr, Stmt.Stmt, Block.Block, Param.Param, Decl.Decl, Image.Image, Stalls.Stalls}

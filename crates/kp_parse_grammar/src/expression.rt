@@ -1,7 +1,7 @@
 // Expressions. The reader of a part takes the nesting count and the number of the part's first token; it returns the
 // part, the count after it, and the number of the next token.
 ghost use Rattle.std.specs.Prelude.{◌≡◌, ◌==◌, ◌≤◌, ◌<◌, ◌+◌, [], ◌∷◌, MatchOption, MatchResult, IfOk, None, true};
-ghost use Rattle.kp_grammar.specs.Grammar.{Nonterminal};
+ghost use Rattle.kp_base.specs.Grammar.{Nonterminal};
 ghost use Rattle.kp_ast.specs.declared.tree.ExprKind.TheViews as expressions;
 ghost use Rattle.kp_lex.specs.declared.token.Mark.TheVariants as marks;
 ghost use Rattle.kp_parse_grammar.specs.declared.fault.Fault.TheVariants as faults;

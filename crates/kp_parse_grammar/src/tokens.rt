@@ -5,7 +5,7 @@ ghost use Rattle.kp_lex.specs.declared.token.TokenKind.TheVariants as kinds;
 ghost use Rattle.kp_parse_grammar.specs.Tokens.{kind_class, keyword_class, mark_class, IDENTIFIER, NUMBER, IsSpelled, lexemes};
 ghost use Rattle.kp_parse_grammar.specs.Language.{NAME, NUM, LIT, named, number as number_value, literal as literal_value};
 ghost use Rattle.kp_parse_grammar.specs.Reading.{class_at, class_of, Finds, Misses, Follows, Turns, Ends};
-ghost use Rattle.kp_grammar.specs.Tables.{END_OF_TEXT};
+ghost use Rattle.kp_base.specs.Tables.{END_OF_TEXT};
 
 use crate::fault::Fault;
 use kp_ast::{Lit, Name, Named, Num};

@@ -2,10 +2,10 @@
 use Rattle.std.proofs.Common.{◌≡◌, ◌∙◌, ◌⊎◌, inl, inr, ℕ, zero, suc, ◌+◌, ◌<◌, ◌≤◌, ◌==◌, ◌&&◌, ◌||◌, Bool, true, false, not, cond, List, [], ◌∷◌, ◌++◌, length, take, drop, Result, Ok, Err, Some, None, refl, sym, ap, ap₂, subst, arith, append_assoc}
 use Rattle.std.proofs.lemmas.{Bool.cases_lt, Bool.ltb-true, Bool.ltb-false, Bool.lt-ltb, List.take-append-le, List.drop-append-le, List.length-drop}
 use Rattle.std.specs.{Prelude.nat_lt, Prelude.⊤, Prelude.All, declared.option.Option.Option}
+use Rattle.kp_base.specs.Grammar.{Grammar, Symbol, Terminal, Nonterminal, Action, Derives, stay, expand, read, build, Has, here, there, alternatives}
 use Rattle.kp_base.specs.{Characters.is_digit, Characters.is_letter, Characters.is_word, Characters.run_length, Place.place_after}
 use Rattle.kp_base.specs.declared.refusal.Refusal.{Refusal}
 use Rattle.kp_ast.specs.declared.tree.Job.{Job}
-use Rattle.kp_grammar.specs.Grammar.{Grammar, Symbol, Terminal, Nonterminal, Action, Derives, stay, expand, read, build, Has, here, there, alternatives}
 use Rattle.kp_lex.specs.Text.{is_layout, gap_length, is_in_run, run_of, keyword_or_name, identifier, literal_or_broken, number_or_literal, number_run, mark_or_broken, mark, mark_or_shorter, token_of, front_of, token_at, is_end, Lexes, finish, skip, token, last, broken, tail_of, StandsIn}
 use Rattle.kp_lex.specs.declared.{front.Front.Front, token.Keyword.Keyword, token.TokenKind.TokenKind, token.Token.Token, token.Lexed.Lexed, token.Mark.Mark}
 use Rattle.kp_lex.specs.Words.{keyword_of, single_mark, double_mark}

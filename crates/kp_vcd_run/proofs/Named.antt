@@ -3,7 +3,7 @@ use Rattle.std.proofs.Common.{◌≡◌, ◌∙◌, ℕ, suc, List, [], ◌∷�
 use Rattle.std.{proofs.lemmas.Bool.and_parts, proofs.lemmas.Bool.eqb-true, proofs.lemmas.Bool.cond_both, specs.Prelude.◌==◌, specs.Prelude.◌&&◌}
 use Rattle.kp_ast.specs.{Name.IsName, declared.tree.Decl.Decl, declared.tree.Job.Job}
 use Rattle.kp_ast.specs.declared.tree.Decl.TheVariants as decls
-use Rattle.kp_grammar.specs.Grammar.{Symbol, Terminal, Rules, alternatives, Has, here, there, Derives, stay, expand, read, build}
+use Rattle.kp_base.specs.Grammar.{Symbol, Terminal, Rules, alternatives, Has, here, there, Derives, stay, expand, read, build}
 use Rattle.kp_lex.specs.{Text.HasOutcome, declared.token.Token.Token, declared.token.Lexed.Lexed, declared.token.Keyword.Keyword, declared.token.Mark.Mark}
 use Rattle.kp_lex.specs.declared.token.TokenKind.{TokenKind}
 use Rattle.kp_lex.specs.declared.token.Keyword.TheVariants as keywords

@@ -1,7 +1,7 @@
 -- A sentence of the grammar is one of the grammar without what it builds, and the other way round.
 use Rattle.std.proofs.Common.{ℕ, ◌≡◌, ◌==◌, List, [], ◌∷◌, ◌++◌, map, Bool, true, false, cond, refl, sym, ap, ◌∙◌, subst}
 use Rattle.std.specs.Prelude.{⊤}
-use Rattle.kp_grammar.specs.Grammar.{Terminal, Nonterminal, Action, Rules, alternatives, Has, here, there, Derives, stay, expand, read, build}
+use Rattle.kp_base.specs.Grammar.{Terminal, Nonterminal, Action, Rules, alternatives, Has, here, there, Derives, stay, expand, read, build}
 use Rattle.kp_lex.specs.declared.token.TokenKind.{TokenKind}
 use Rattle.kp_lex.specs.declared.token.TokenKind.TheVariants as kinds
 use Rattle.kp_parse_grammar.specs.Tokens.{Lexeme, kind_class}

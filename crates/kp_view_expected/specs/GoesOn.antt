@@ -1,6 +1,6 @@
 -- The tokens with which some description goes on.
 use Rattle.std.specs.Prelude.{ℕ, ◌≡◌, List, [], ◌∷◌, ◌++◌, map, slice_get, Some, true}
-use Rattle.kp_grammar.specs.Grammar.{IsSentence}
+use Rattle.kp_base.specs.Grammar.{IsSentence}
 use Rattle.kp_lex.specs.{Words.all_keywords, declared.token.TokenKind.TokenKind}
 use Rattle.kp_lex.specs.declared.token.TokenKind.TheVariants as kinds
 use Rattle.kp_lex.specs.declared.token.Mark.TheVariants as marks

@@ -1,6 +1,6 @@
 // Classes of tokens.
 ghost use Rattle.std.specs.Prelude.{◌≡◌, ◌==◌, map};
-ghost use Rattle.kp_grammar.specs.Tables.{among};
+ghost use Rattle.kp_base.specs.Tables.{among};
 ghost use Rattle.kp_view_expected.specs.GoesOn.{all_classes, class_of};
 ghost use Rattle.kp_parse_grammar.specs.Tokens.{keyword_class, mark_class};
 ghost use Rattle.kp_view_expected.specs.inner.Plain.{number};

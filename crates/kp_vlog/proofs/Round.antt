@@ -2,7 +2,7 @@
 use Rattle.std.proofs.Common.{◌≡◌, ◌∙◌, ℕ, [], ◌∷◌, Option, None, ap, subst}
 use Rattle.kp_net.specs.{Names.IsNamed, Netlist.Net, Parts.NetOk}
 use Rattle.kp_vlog.specs.{declared.tree.VModule.VModule, Canon.canon, Rules.breaks, Rules.broken, Denote.Denotes, Language.MODULE, Language.verilog}
-use Rattle.kp_grammar.specs.Grammar.{Derives, Nonterminal}
+use Rattle.kp_base.specs.Grammar.{Derives, Nonterminal}
 use Rattle.kp_vlog.proofs.{Lex.placed, Words.net_words, Written.canon_says, Written.all_right}
 use Rattle.kp_vlog.proofs.{Sentence.sentence, Sentence.Shown, Sentence.module_of, NamesHold.names_hold, NamesHold.drivers_hold}
 use Rattle.kp_vlog.proofs.{WidthsHold.widths_hold, Denoted.same_net}

@@ -2,7 +2,8 @@
 use Rattle.std.proofs.Common.{ℕ, ◌≡◌, ◌==◌, ◌<◌, ◌≤◌, ◌+◌, ◌-◌, List, [], ◌∷◌, length, drop, take, map, true, false, refl, sym, ap, ◌∙◌, arith}
 use Rattle.std.{proofs.lemmas.Bool.Decides.nat_tests, proofs.lemmas.List.drop_more, proofs.lemmas.List.drop-map, specs.Prelude.slice_index_or}
 use Rattle.kp_bits.specs.declared.literal.Literal.{Literal}
-use Rattle.kp_grammar.{specs.Grammar.Terminal, specs.Machine.Stops, specs.Machine.look, specs.Machine.wrong, proofs.Ways.took}
+use Rattle.kp_base.specs.{Grammar.Terminal, GrammarMachine.Stops, GrammarMachine.look, GrammarMachine.wrong}
+use Rattle.kp_base.proofs.Ways.{took}
 use Rattle.kp_vlog.specs.Language.{Way, Sym, Value, ID, NUM, LIT, dropped, named, number, literal, word_class, keyword_class, mark_class, verilog}
 use Rattle.kp_vlog.specs.{declared.token.Keyword.Keyword, declared.token.Mark.Mark, declared.token.VKind.VKind, declared.token.VToken.VToken, Tokens.Token}
 use Rattle.kp_vlog.specs.{Outcome.token_of, Outcome.word_of, inner.Follow.tables}

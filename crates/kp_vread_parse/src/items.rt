@@ -1,7 +1,6 @@
 // The lines before `initial`.
 ghost use Rattle.std.specs.Prelude.{◌≡◌, ◌==◌, [], ◌∷◌, MatchResult, MatchOption, IfOk, true, false};
-ghost use Rattle.kp_grammar.specs.Grammar.{Nonterminal};
-ghost use Rattle.kp_grammar.specs.Tables.{among};
+ghost use Rattle.kp_base.specs.{Grammar.Nonterminal, Tables.among};
 ghost use Rattle.kp_vlog.specs.declared.token.Keyword.TheVariants as keywords;
 ghost use Rattle.kp_vlog.specs.declared.token.Mark.TheVariants as marks;
 ghost use Rattle.kp_vlog.specs.Language.{keyword_class, mark_class, mark as mark_of, ITEMS, ITEM, DECLARED, RIGHT, named, range as range_value, right as right_value, item as item_value, items as items_value};

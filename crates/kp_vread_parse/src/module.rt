@@ -1,7 +1,6 @@
 // Complete modules.
 ghost use Rattle.std.specs.Prelude.{◌≡◌, ◌==◌, [], ◌∷◌, ◌++◌, MatchResult, MatchOption, IfOk, true, false};
-ghost use Rattle.kp_grammar.specs.Grammar.{Nonterminal};
-ghost use Rattle.kp_grammar.specs.Machine.{Accepts};
+ghost use Rattle.kp_base.specs.{Grammar.Nonterminal, GrammarMachine.Accepts};
 ghost use Rattle.kp_vlog.specs.declared.tree.VModule.{VModule as Tree};
 ghost use Rattle.kp_vlog.specs.Language.{MODULE, whole, named, perhaps_named, perhaps_reset, port as port_value, ports as ports_value, items as items_value, inits as inits_value, updates as updates_value};
 ghost use Rattle.kp_vread_parse.specs.inner.Words.{INPUTS, OUTPUTS, LINES, STARTS, CLOCK, EDGE, LAST};

@@ -1,6 +1,6 @@
 -- For each name its first and follow sets. Only proofs use these tables.
 use Rattle.std.specs.Prelude.{ℕ, List, [], ◌∷◌, true, false}
-use Rattle.kp_grammar.specs.Tables.{Tables, Row, END_OF_TEXT}
+use Rattle.kp_base.specs.Tables.{Tables, Row, END_OF_TEXT}
 use Rattle.kp_lex.specs.declared.token.Keyword.TheVariants as keywords
 use Rattle.kp_lex.specs.declared.token.Mark.TheVariants as marks
 use Rattle.kp_parse_grammar.specs.declared.level.Level.TheVariants as levels

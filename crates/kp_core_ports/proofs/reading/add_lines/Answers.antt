@@ -1,5 +1,5 @@
 use Rattle.std.proofs.{Common.◌+◌, Common.◌<◌, Common.length, Common.get_or, Common.drop, Common.map, Common.ap, Common.arith, lemmas.List.drop_more}
-use Rattle.kp_lines.specs.{Lines.piece_of, declared.run.Run.Run}
+use Rattle.kp_base.specs.{Lines.piece_of, declared.run.Run.Run}
 use Rattle.kp_core_ports.proofs.Turns.{next_line}
 use Rattle.kp_core_ports.proofs.reading.add_lines.Goals as goal
 

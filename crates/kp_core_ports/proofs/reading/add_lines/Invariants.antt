@@ -1,5 +1,5 @@
 use Rattle.std.proofs.Common.{◌≡◌, [], drop, map}
-use Rattle.kp_lines.specs.Lines.{piece_of}
+use Rattle.kp_base.specs.Lines.{piece_of}
 use Rattle.kp_core_ports.specs.Ports.{ports_from, AllExist}
 use Rattle.kp_core_ports.proofs.reading.add_lines.Given as goal
 

@@ -1,5 +1,5 @@
 use Rattle.std.proofs.Common.{sym}
-use Rattle.kp_lines.specs.Lines.{piece_of}
+use Rattle.kp_base.specs.Lines.{piece_of}
 use Rattle.kp_debug_script.proofs.Words.{too_many}
 use Rattle.kp_debug_script.proofs.line.until_valued.Goals as goal
 

@@ -3,7 +3,7 @@ use Rattle.std.proofs.lemmas.{Bool.cases_lt, Result.err_from_is_err_and}
 use Rattle.kp_ast.specs.declared.tree.Decl.{Decl}
 use Rattle.kp_debug_script.specs.{declared.command.Command.Command, inner.Reading.behind}
 use Rattle.kp_debug_script.proofs.Turns.{left_from, all_left, line_more, line_last, this_line, breaks, last_line}
-use Rattle.kp_lines.specs.Lines.{is_break}
+use Rattle.kp_base.specs.Lines.{is_break}
 use Rattle.kp_debug_script.proofs.script.read_lines.Goals as goal
 
 either : {A : Type 0} (b : Bool) → (b ≡ true → A) → (b ≡ false → A) → A

@@ -1,5 +1,5 @@
 use Rattle.std.proofs.Common.{arith, refl}
-use Rattle.kp_grammar.specs.Machine.{make}
+use Rattle.kp_base.specs.GrammarMachine.{make}
 use Rattle.kp_parse_grammar.proofs.Steps.{by_dropped, one, exits}
 use Rattle.kp_parse.proofs.Picks.{decl_file, isnt_end}
 use Rattle.kp_parse.proofs.declaration.file.Goals as goal

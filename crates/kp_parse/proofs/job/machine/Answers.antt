@@ -1,5 +1,5 @@
 use Rattle.std.proofs.Common.{arith, length-drop}
-use Rattle.kp_grammar.specs.Machine.{make}
+use Rattle.kp_base.specs.GrammarMachine.{make}
 use Rattle.kp_parse_grammar.specs.Tokens.{Lexeme}
 use Rattle.kp_parse_grammar.proofs.Steps.{exits}
 use Rattle.kp_parse.proofs.Picks.{job_is}

@@ -1,5 +1,5 @@
 use Rattle.std.proofs.Common.{arith, sym, ◌∙◌}
-use Rattle.kp_grammar.specs.Machine.{make}
+use Rattle.kp_base.specs.GrammarMachine.{make}
 use Rattle.kp_parse_grammar.proofs.Steps.{exits}
 use Rattle.kp_parse.proofs.Picks.{entries_1, entries_else}
 use Rattle.kp_parse.proofs.sections.entries.Goals as goal

@@ -1,5 +1,5 @@
 use Rattle.std.proofs.Common.{arith}
-use Rattle.kp_grammar.specs.Machine.{make}
+use Rattle.kp_base.specs.GrammarMachine.{make}
 use Rattle.kp_parse_grammar.proofs.Steps.{by_dropped, one, exits}
 use Rattle.kp_parse.proofs.Picks.{entry_is}
 use Rattle.kp_parse.proofs.sections.entry.Goals as goal

@@ -1,5 +1,5 @@
 use Rattle.std.proofs.Common.{arith, sym, ◌∙◌}
-use Rattle.kp_grammar.specs.Machine.{make}
+use Rattle.kp_base.specs.GrammarMachine.{make}
 use Rattle.kp_parse_grammar.proofs.Steps.{exits}
 use Rattle.kp_parse.proofs.Picks.{spans_1, spans_else}
 use Rattle.kp_parse.proofs.sections.spans.Goals as goal

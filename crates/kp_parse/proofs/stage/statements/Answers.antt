@@ -1,5 +1,5 @@
 use Rattle.std.proofs.Common.{arith, sym, ◌∙◌}
-use Rattle.kp_grammar.specs.Machine.{make}
+use Rattle.kp_base.specs.GrammarMachine.{make}
 use Rattle.kp_parse_grammar.proofs.{Picks.stmts_1, Picks.stmts_else, Steps.exits}
 use Rattle.kp_parse.proofs.stage.statements.Goals as goal
 

@@ -1,6 +1,6 @@
 use Rattle.std.proofs.Common.{arith, refl, ◌==◌}
 use Rattle.kp_vread_parse.{proofs.Steps.exits, proofs.Picks.goes_at, proofs.Picks.other, specs.inner.Reading.class_at}
-use Rattle.kp_grammar.specs.Machine.{goes}
+use Rattle.kp_base.specs.GrammarMachine.{goes}
 use Rattle.kp_vlog.specs.Language.{keyword_class}
 use Rattle.kp_vlog.specs.declared.token.Keyword.TheVariants as keywords
 use Rattle.kp_vread_parse.proofs.ports.wire.Goals as goal
