@@ -15,9 +15,8 @@ use Rattle.kp_run.specs.declared.difference.Difference.{Difference}
 use Rattle.kp_watch.specs.Watching.{own_due, Agrees, IsFirstDifference}
 use Rattle.kp_tool_report.specs.{Runs.run_text, Runs.count_line, States.State, Texts.differs_line}
 use Rattle.kp_tool_report.specs.inner.Differing as shown
-use Rattle.kp_tool_spec.proofs.OwnText.{run_text_alike}
-use Rattle.kp_tool_spec.specs.Watched.{own_text, differing_text, DueOfRun, agrees, differs}
-use Rattle.kp_tool.specs.Watching.{status_by, text_by}
+use Rattle.kp_tool.proofs.OwnText.{run_text_alike}
+use Rattle.kp_tool.specs.{Watched.own_text, Watched.differing_text, Watched.DueOfRun, Watched.agrees, Watched.differs, Watching.status_by, Watching.text_by}
 
 rows_taken : (n : ℕ) (rows : List masks.Row) (T : ℕ) → rows_seen n (take T rows) ≡ take T (rows_seen n rows)
 rows_taken n rows T = sym (take-map (row_seen n) T rows)

@@ -9,9 +9,10 @@ use Rattle.kp_frontend.specs.{Judging.JudgesText, Judging.JudgesHeadText, Accept
 use Rattle.kp_vlog.specs.Verdict.{AnswersNet}
 use Rattle.kp_timing.specs.{Unfit.untimed, Lines.timing_text}
 use Rattle.kp_tool_report.specs.Texts.{refusal_line}
-use Rattle.kp_tool_spec.{specs.Saying.Says, specs.Due.DueFor, specs.Due.DueOfJob, specs.Due.DueOfTiming, specs.Read.ReadsVerilog, proofs.Dues.accepted_is_due}
-use Rattle.kp_tool.specs.{Ends.Ends, Ends.EndsAt, inner.Failures.failure_of, inner.Failures.misread_of, declared.failure.Failure.Failure}
-use Rattle.kp_tool.specs.declared.failure.Stop.{Stop, TheVariants.ReadFault, TheVariants.WriteFault, TheVariants.NoMemory}
+use Rattle.kp_tool.specs.{Saying.Says, Due.DueFor, Due.DueOfJob, Due.DueOfTiming, Read.ReadsVerilog, Ends.Ends, Ends.EndsAt}
+use Rattle.kp_tool.specs.{inner.Failures.failure_of, inner.Failures.misread_of, declared.failure.Failure.Failure, declared.failure.Stop.Stop}
+use Rattle.kp_tool.specs.declared.failure.Stop.TheVariants.{ReadFault, WriteFault, NoMemory}
+use Rattle.kp_tool.proofs.Dues.{accepted_is_due}
 use Rattle.kp_tool.specs.declared.failure.Failure.TheVariants as failure
 
 module _ {S : Type 0} (held : S → Option (List ℕ)) (faults : S → ℕ) where

@@ -7,3 +7,18 @@ pub mod Programs
 pub mod Running
 pub mod Statuses
 pub mod Summed
+pub mod Dues
+pub mod Pairs
+pub mod Headline
+pub mod Refusals
+pub mod VerilogShapes
+pub mod Readings
+pub mod Differences
+pub mod Outcomes
+pub mod Agreeing
+pub mod Heads
+pub mod Skips
+mod After
+pub mod OwnText
+mod Watches
+pub mod Together

@@ -8,9 +8,9 @@ use Rattle.kp_vread.specs.Matching.{IsRefused}
 use Rattle.kp_net.specs.{Names.IsNamed, Netlist.Net}
 use Rattle.kp_synth_spec.specs.Shows.{HasOutputs, IsOfJob}
 use Rattle.kp_vlog.{specs.Verdict.AnswersNet, proofs.Sound.denoted_named}
-use Rattle.kp_tool_spec.specs.{Watched.wrong_netlist, Compared.ReadsModule, Compared.misread, Compared.not_jobs, Compared.jobs}
+use Rattle.kp_tool.specs.{Watched.wrong_netlist, Compared.ReadsModule, Compared.misread, Compared.not_jobs, Compared.jobs, Ends.Ends, inner.Failures.misread_of}
+use Rattle.kp_tool.specs.{inner.Modules.RefusesModule, inner.Modules.MisreadsModule, declared.failure.Failure.Failure}
 use Rattle.kp_tool_report.specs.Texts.{refusal_line}
-use Rattle.kp_tool.specs.{Ends.Ends, inner.Failures.misread_of, inner.Modules.RefusesModule, inner.Modules.MisreadsModule, declared.failure.Failure.Failure}
 use Rattle.kp_tool.specs.declared.failure.Failure.TheVariants as failure
 
 -- a rule of V1 to V5 is an error

@@ -4,11 +4,10 @@ use Rattle.std.specs.{declared.option.Option.Option, declared.result.Result.Resu
 use Rattle.kp_base.specs.{declared.refusal.Refusal.Refusal, Causes.Rose}
 use Rattle.kp_tool_words.specs.{declared.words.Command.Command, Words.command_of, Words.reads_input}
 use Rattle.kp_tool_report.specs.Texts.{bad_words}
-use Rattle.kp_tool_spec.{proofs.Refusals.refused_where_broken, specs.Saying.Says}
-use Rattle.kp_tool_spec.specs.{Due.DueFor, Due.IsDue, Due.IsFinal, Due.Completes, Due.Begins, Due.Between, Refused.Breaks}
-use Rattle.kp_tool.specs.{Ends.Ends, Ends.EndsAt, inner.Failures.stop_status, inner.Failures.end_status, declared.failure.Failure.Failure}
-use Rattle.kp_tool.specs.declared.failure.Stop.{Stop, TheVariants.ReadFault, TheVariants.WriteFault, TheVariants.NoMemory}
-use Rattle.kp_tool.proofs.{Ends.weaker, Statuses.final, Statuses.no_command}
+use Rattle.kp_tool.proofs.{Refusals.refused_where_broken, Ends.weaker, Statuses.final, Statuses.no_command}
+use Rattle.kp_tool.specs.{Saying.Says, Due.DueFor, Due.IsDue, Due.IsFinal, Due.Completes, Due.Begins, Due.Between, Refused.Breaks, Ends.Ends, Ends.EndsAt}
+use Rattle.kp_tool.specs.{inner.Failures.stop_status, inner.Failures.end_status, declared.failure.Failure.Failure, declared.failure.Stop.Stop}
+use Rattle.kp_tool.specs.declared.failure.Stop.TheVariants.{ReadFault, WriteFault, NoMemory}
 
 nothing_taken : (left : Option (List ℕ)) → Consumes left left []
 nothing_taken None = tt

@@ -6,8 +6,7 @@ use Rattle.kp_base.specs.declared.refusal.Refused.TheVariants as refused
 use Rattle.kp_asm.specs.{Image.image_text_of, Program.assembled}
 use Rattle.kp_tool_words.specs.declared.words.Command.TheVariants.{Assemble}
 use Rattle.kp_tool_report.specs.Texts.{refusal_line}
-use Rattle.kp_tool_spec.specs.Due.{DueFor, DueOfProgram, program_of}
-use Rattle.kp_tool.specs.{Ends.Ends, inner.Failures.failure_of, declared.failure.Failure.Failure}
+use Rattle.kp_tool.specs.{Due.DueFor, Due.DueOfProgram, Due.program_of, Ends.Ends, inner.Failures.failure_of, declared.failure.Failure.Failure}
 
 is_assembled : (input : List ℕ) → length input ≤ 16777216 → program_of input ≡ assembled input
 unfolding program_of

@@ -11,10 +11,10 @@ use Rattle.kp_net.specs.Netlist.{Net}
 use Rattle.kp_timing.specs.Unfit.{untimed}
 use Rattle.kp_equiv.specs.declared.verdict.Verdict.TheVariants.{Same, Differs}
 use Rattle.kp_debug_script.specs.{declared.command.Command.Command as Step, Scripts.script_of}
-use Rattle.kp_tool_spec.specs.Due.{DueFor, DueOfJob, DueOfTiming, DueOfProgram, program_of, IsFinal}
-use Rattle.kp_tool_spec.specs.Read.{DueOfVerilog, read_over, read_within}
-use Rattle.kp_tool_spec.specs.Watched.{DueOfText, DueOfNetlist, of_other, of_job, agrees, differs}
-use Rattle.kp_tool_spec.specs.{Compared.DueOfSecond, Compared.DueOfFirst, Scripted.DueOfScript}
+use Rattle.kp_tool.specs.Due.{DueFor, DueOfJob, DueOfTiming, DueOfProgram, program_of, IsFinal}
+use Rattle.kp_tool.specs.Read.{DueOfVerilog, read_over, read_within}
+use Rattle.kp_tool.specs.Watched.{DueOfText, DueOfNetlist, of_other, of_job, agrees, differs}
+use Rattle.kp_tool.specs.{Compared.DueOfSecond, Compared.DueOfFirst, Scripted.DueOfScript}
 
 abbrev pub IsOfCommand : ℕ → Type 0
 IsOfCommand s = (s ≡ 0) ⊎ ((s ≡ 2) ⊎ ((s ≡ 6) ⊎ (s ≡ 7)))

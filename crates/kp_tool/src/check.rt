@@ -2,8 +2,7 @@
 ghost use Rattle.kp_stage.specs.Counts.{summary_of};
 ghost use Rattle.kp_tool_words.specs.declared.words.JobCommand.TheVariants.{Check};
 ghost use Rattle.kp_tool_report.specs.Texts.{accepted_line};
-ghost use Rattle.kp_tool_spec.specs.Due.{DueOfJob};
-ghost use Rattle.kp_tool.specs.Ends.{Ends};
+ghost use Rattle.kp_tool.specs.{Due.DueOfJob, Ends.Ends};
 
 use crate::failure::Failure;
 use crate::outcome::{Outcome, finish};

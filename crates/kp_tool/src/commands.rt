@@ -1,8 +1,7 @@
 // The list of commands.
 ghost use Rattle.std.specs.Prelude.{◌≤◌, length, Some};
 ghost use Rattle.kp_tool_words.specs.declared.words.Command.TheVariants.{OnJob};
-ghost use Rattle.kp_tool_spec.specs.Due.{DueFor, DueOfJob};
-ghost use Rattle.kp_tool.specs.Ends.{Ends};
+ghost use Rattle.kp_tool.specs.{Due.DueFor, Due.DueOfJob, Ends.Ends};
 
 use crate::asm::asm;
 use crate::check::check;

@@ -5,10 +5,7 @@ ghost use Rattle.kp_synth_spec.specs.Shows.{Shows};
 ghost use Rattle.kp_debug_script.specs.Scripts.{script_of};
 ghost use Rattle.kp_debug_report.specs.Inspecting.{printed, whole_run, AreOfJob};
 ghost use Rattle.kp_tool_words.specs.declared.words.Command.TheVariants.{Debug};
-ghost use Rattle.kp_tool_spec.specs.Due.{DueFor};
-ghost use Rattle.kp_tool_spec.specs.Scripted.{DueOfScriptHead};
-ghost use Rattle.kp_tool.specs.Ends.{Ends};
-ghost use Rattle.kp_tool.specs.inner.OfJob.{of_targets-prop};
+ghost use Rattle.kp_tool.specs.{Due.DueFor, Scripted.DueOfScriptHead, Ends.Ends, inner.OfJob.of_targets-prop};
 
 use crate::failure::Failure;
 use crate::outcome::{Outcome, finish};

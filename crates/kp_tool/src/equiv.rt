@@ -2,9 +2,7 @@
 ghost use Rattle.std.specs.Prelude.{◌≡◌, ◌≤◌, length, IfOk, Ok, Some};
 ghost use Rattle.kp_equiv.specs.Verdicts.{IsComparable};
 ghost use Rattle.kp_tool_words.specs.declared.words.Command.TheVariants.{Compare};
-ghost use Rattle.kp_tool_spec.specs.Due.{DueFor};
-ghost use Rattle.kp_tool_spec.specs.Compared.{DueOfPair, DueOfPairHead, verdict_status};
-ghost use Rattle.kp_tool.specs.Ends.{Ends};
+ghost use Rattle.kp_tool.specs.{Due.DueFor, Compared.DueOfPair, Compared.DueOfPairHead, Compared.verdict_status, Ends.Ends};
 
 use crate::failure::Failure;
 use crate::netlist::netlist_of;

@@ -2,14 +2,13 @@
 ghost use Rattle.std.specs.Prelude.{◌≡◌, IfOk};
 ghost use Rattle.kp_gen.specs.Generated.{gen_job};
 ghost use Rattle.kp_tool_report.specs.Line.{totals_line, gen_text};
-ghost use Rattle.kp_tool_spec.specs.Saying.{Says};
-ghost use Rattle.kp_tool.specs.Ends.{Ends};
+ghost use Rattle.kp_tool.specs.{Saying.Says, Ends.Ends};
 
 use crate::failure::Failure;
 use crate::outcome::{Outcome, finish};
 use kp_base::{NoMemory, Sink, SinkFault};
 use kp_frontend::Accepted;
-use kp_gen_valid::generated;
+use kp_gen::generated;
 use kp_run::board_shown;
 use kp_run::laws::a_run_shows_the_pipeline;
 use kp_synth::synth;

@@ -3,6 +3,9 @@
 //! `carry_out` is the list of commands. Each has a module of its own (`gen` is in `generate.rt`), with a function of its name that goes from the
 //! input to the text: parse and check all rules, compute what is to be written, which gets the allocator and no sink, and `finish`, which gets the
 //! sink and no allocator. From there on only the sink can fail. `specs/Ends.antt` says how a command ends.
+//!
+//! `specs/Due.antt` defines the specified outcome of a call: one status and one text for the arguments and the bytes of the source. `specs/Headline.antt`
+//! and `specs/Agreeing.antt` define what is promised of it, and `laws` shows what follows from the specified outcome alone.
 #![tactic(auto)]
 
 mod asm;
@@ -12,6 +15,7 @@ mod debug;
 mod equiv;
 mod failure;
 mod generate;
+pub mod laws;
 mod netlist;
 mod outcome;
 mod pipe;
@@ -33,12 +37,9 @@ ghost use Rattle.kp_tool_words.specs.declared.words.JobCommand.TheVariants.{Chec
 ghost use Rattle.kp_sched.specs.Runs.{IsLegal};
 ghost use Rattle.kp_synth_spec.specs.Legal.{IsLegalFrom};
 ghost use Rattle.kp_tool_report.specs.Texts.{refusal_line};
-ghost use Rattle.kp_tool_spec.specs.Saying.{Says};
-ghost use Rattle.kp_tool_spec.specs.Due.{Due, IsDue, IsFinal, Completes, Begins, Between};
-ghost use Rattle.kp_tool_spec.specs.Headline.{IsMoving, HasNoNeedlessStall, HasNoNeedlessStallFrom, IsVerilogWith, IsRunWith, IsDumpedWith, IsGeneratedWith, IsTimed, IsDebuggedWith, IsNetlistWith, IsPairAlike, IsImplementation, IsPairWith};
-ghost use Rattle.kp_tool_spec.specs.Agreeing.{IsSequential, IsChecked, IsFaulty, IsReadBack, IsWatched};
-ghost use Rattle.kp_tool_spec.specs.Refused.{Breaks};
-ghost use Rattle.kp_tool.specs.Ends.{Ends, EndsAt};
+ghost use Rattle.kp_tool.specs.{Saying.Says, Due.Due, Due.IsDue, Due.IsFinal, Due.Completes, Due.Begins, Due.Between, Refused.Breaks, Ends.Ends, Ends.EndsAt};
+ghost use Rattle.kp_tool.specs.Headline.{IsMoving, HasNoNeedlessStall, HasNoNeedlessStallFrom, IsVerilogWith, IsRunWith, IsDumpedWith, IsGeneratedWith, IsTimed, IsDebuggedWith, IsNetlistWith, IsPairAlike, IsImplementation, IsPairWith};
+ghost use Rattle.kp_tool.specs.Agreeing.{IsSequential, IsChecked, IsFaulty, IsReadBack, IsWatched};
 ghost use Rattle.kp_tool.specs.inner.Failures.{end_status};
 
 use crate::commands::carry_out;

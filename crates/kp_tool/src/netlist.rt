@@ -1,7 +1,6 @@
 // The netlist of a Verilog module after a job.
 ghost use Rattle.std.specs.Prelude.{◌≤◌, length, MatchResult, Ok};
-ghost use Rattle.kp_tool_spec.specs.Compared.{ReadsModule};
-ghost use Rattle.kp_tool.specs.inner.Modules.{RefusesModule, MisreadsModule};
+ghost use Rattle.kp_tool.specs.{Compared.ReadsModule, inner.Modules.RefusesModule, inner.Modules.MisreadsModule};
 
 use crate::failure::Failure;
 use kp_base::Refused;

@@ -2,9 +2,7 @@
 ghost use Rattle.std.specs.Prelude.{IfOk};
 ghost use Rattle.kp_vlog.specs.Canon.{canon};
 ghost use Rattle.kp_tool_words.specs.declared.words.JobCommand.TheVariants.{Pipe};
-ghost use Rattle.kp_tool_spec.specs.Due.{DueOfJob};
-ghost use Rattle.kp_tool_spec.specs.Written.{IsVerilogOf};
-ghost use Rattle.kp_tool.specs.Ends.{Ends};
+ghost use Rattle.kp_tool.specs.{Due.DueOfJob, Written.IsVerilogOf, Ends.Ends};
 
 use crate::failure::Failure;
 use crate::outcome::{Outcome, finish};

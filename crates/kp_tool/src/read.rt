@@ -1,8 +1,7 @@
 // `read`: the netlist that a Verilog text denotes.
 ghost use Rattle.std.specs.Prelude.{◌≤◌, length, Some};
 ghost use Rattle.kp_tool_words.specs.declared.words.Command.TheVariants.{Read};
-ghost use Rattle.kp_tool_spec.specs.Due.{DueFor};
-ghost use Rattle.kp_tool.specs.Ends.{Ends};
+ghost use Rattle.kp_tool.specs.{Due.DueFor, Ends.Ends};
 
 use crate::failure::Failure;
 use crate::outcome::finish;

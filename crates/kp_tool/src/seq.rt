@@ -8,8 +8,7 @@ ghost use Rattle.kp_machine.specs.Slots.{targets_of};
 ghost use Rattle.kp_seq.specs.Running.{state};
 ghost use Rattle.kp_tool_words.specs.declared.words.JobCommand.TheVariants.{Seq};
 ghost use Rattle.kp_tool_report.specs.States.{text_after};
-ghost use Rattle.kp_tool_spec.specs.Due.{DueOfJob};
-ghost use Rattle.kp_tool.specs.Ends.{Ends};
+ghost use Rattle.kp_tool.specs.{Due.DueOfJob, Ends.Ends};
 
 use crate::failure::Failure;
 use crate::outcome::{Outcome, finish};

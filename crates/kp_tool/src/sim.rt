@@ -4,8 +4,7 @@ ghost use Rattle.kp_sched.specs.Rows.{rows_seen};
 ghost use Rattle.kp_run.specs.Boards.{due_behind};
 ghost use Rattle.kp_tool_words.specs.declared.words.JobCommand.TheVariants.{Sim};
 ghost use Rattle.kp_tool_report.specs.Runs.{run_text, sim_text};
-ghost use Rattle.kp_tool_spec.specs.Due.{DueOfJob};
-ghost use Rattle.kp_tool.specs.Ends.{Ends};
+ghost use Rattle.kp_tool.specs.{Due.DueOfJob, Ends.Ends};
 
 use crate::failure::Failure;
 use crate::outcome::{Outcome, finish};

@@ -3,8 +3,7 @@ ghost use Rattle.std.specs.Prelude.{◌≡◌, IfOk};
 ghost use Rattle.kp_vcd.specs.Text.{dump_text};
 ghost use Rattle.kp_vcd_run.specs.Dumps.{vcd_text};
 ghost use Rattle.kp_tool_words.specs.declared.words.JobCommand.TheVariants.{Vcd};
-ghost use Rattle.kp_tool_spec.specs.Due.{DueOfJob};
-ghost use Rattle.kp_tool.specs.Ends.{Ends};
+ghost use Rattle.kp_tool.specs.{Due.DueOfJob, Ends.Ends};
 
 use crate::failure::Failure;
 use crate::outcome::{Outcome, finish};

@@ -6,10 +6,7 @@ ghost use Rattle.kp_base.specs.Causes.{HasCause};
 ghost use Rattle.kp_machine.specs.Slots.{targets_of};
 ghost use Rattle.kp_synth_spec.specs.Shows.{HasOutputs, IsOfJob};
 ghost use Rattle.kp_tool_words.specs.declared.words.Command.TheVariants.{Watch};
-ghost use Rattle.kp_tool_spec.specs.Due.{DueFor};
-ghost use Rattle.kp_tool_spec.specs.Watched.{DueOfHead, DueOfRun};
-ghost use Rattle.kp_tool.specs.Ends.{Ends};
-ghost use Rattle.kp_tool.specs.Watching.{status_by, text_by};
+ghost use Rattle.kp_tool.specs.{Due.DueFor, Watched.DueOfHead, Watched.DueOfRun, Ends.Ends, Watching.status_by, Watching.text_by};
 
 use crate::failure::Failure;
 use crate::netlist::netlist_of;

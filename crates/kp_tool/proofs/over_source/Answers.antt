@@ -1,6 +1,5 @@
 use Rattle.std.proofs.Common.{ap, ◌∙◌, Err, refl, arith}
-use Rattle.kp_tool_spec.proofs.Dues.{too_long_is_due}
-use Rattle.kp_tool.proofs.Outside.{over_input}
+use Rattle.kp_tool.proofs.{Dues.too_long_is_due, Outside.over_input}
 use Rattle.kp_tool.proofs.over_source.Goals as goal
 
 pub returns-in-Ok : goal.returns-in-Ok

@@ -3,8 +3,7 @@ use Rattle.std.specs.Prelude.{◌≡◌, ℕ, List, Err, ⊤}
 use Rattle.kp_base.specs.declared.refusal.Refused.{Refused}
 use Rattle.kp_base.specs.declared.refusal.Refused.TheVariants as refused
 use Rattle.kp_ast.specs.declared.tree.Job.{Job}
-use Rattle.kp_tool_spec.specs.Compared.{ReadsModule}
-use Rattle.kp_tool.specs.declared.failure.Failure.{Failure}
+use Rattle.kp_tool.specs.{Compared.ReadsModule, declared.failure.Failure.Failure}
 use Rattle.kp_tool.specs.declared.failure.Failure.TheVariants as failure
 use Rattle.kp_tool.specs.declared.failure.Stop.TheVariants as stop
 

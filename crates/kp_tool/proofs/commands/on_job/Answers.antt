@@ -1,7 +1,7 @@
 use Rattle.std.proofs.{Common.Some, lemmas.Result.err_from_is_err_and}
 use Rattle.kp_tool_words.specs.declared.words.Command.TheVariants.{OnJob}
-use Rattle.kp_tool_spec.{specs.Due.DueFor, proofs.Dues.refused_is_due}
-use Rattle.kp_tool.proofs.Ends.{refused_job, accepted_job}
+use Rattle.kp_tool.specs.Due.{DueFor}
+use Rattle.kp_tool.proofs.{Dues.refused_is_due, Ends.refused_job, Ends.accepted_job}
 use Rattle.kp_tool.proofs.commands.on_job.Goals as goal
 
 pub returns-in_err-job : goal.returns-in_err-job

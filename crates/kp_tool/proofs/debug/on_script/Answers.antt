@@ -6,8 +6,8 @@ use Rattle.kp_ast.specs.declared.tree.Job.{Job}
 use Rattle.kp_debug_script.specs.{declared.command.Command.Command, Scripts.script_of}
 use Rattle.kp_debug_report.specs.Inspecting.{Inspected, printed, whole_run}
 use Rattle.kp_tool_report.specs.Texts.{refusal_line}
-use Rattle.kp_tool_spec.specs.Scripted.{DueOfScript, DueOfScriptHead}
-use Rattle.kp_tool.{specs.Ends.Ends, specs.inner.Failures.failure_of, specs.declared.failure.Failure.Failure, proofs.Ends.said}
+use Rattle.kp_tool.specs.{Scripted.DueOfScript, Scripted.DueOfScriptHead, Ends.Ends, inner.Failures.failure_of, declared.failure.Failure.Failure}
+use Rattle.kp_tool.proofs.Ends.{said}
 use Rattle.kp_tool.proofs.debug.on_script.Goals as goal
 
 -- the script violates a rule

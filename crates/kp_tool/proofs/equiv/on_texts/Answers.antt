@@ -1,6 +1,6 @@
 use Rattle.std.proofs.{Common.take, Common.Ok, Common.Err, Common.refl, lemmas.Result.err_from_is_err_and}
 use Rattle.kp_equiv.proofs.Jobs.{comparable}
-use Rattle.kp_tool_spec.specs.Compared.{DueOfPairHead}
+use Rattle.kp_tool.specs.Compared.{DueOfPairHead}
 use Rattle.kp_tool.proofs.{Ends.said, Modules.misread_end, Modules.module_named, Modules.module_jobs}
 use Rattle.kp_tool.proofs.equiv.on_texts.Goals as goal
 

@@ -1,7 +1,7 @@
 use Rattle.std.proofs.Common.{Some}
 use Rattle.kp_tool_words.specs.declared.words.Command.TheVariants.{Read}
-use Rattle.kp_tool_spec.{specs.Due.DueFor, proofs.Dues.denoted_is_due, proofs.Dues.misread_is_due}
-use Rattle.kp_tool.proofs.Ends.{said, misread}
+use Rattle.kp_tool.specs.Due.{DueFor}
+use Rattle.kp_tool.proofs.{Dues.denoted_is_due, Dues.misread_is_due, Ends.said, Ends.misread}
 use Rattle.kp_tool.proofs.read.read.Goals as goal
 
 pub returns-in-Ok : goal.returns-in-Ok

@@ -3,8 +3,8 @@ use Rattle.kp_base.specs.declared.refusal.Refusal.{Refusal}
 use Rattle.kp_ast.specs.declared.tree.Job.{Job}
 use Rattle.kp_net.specs.Netlist.{Net}
 use Rattle.kp_tool_report.specs.Texts.{refusal_line}
-use Rattle.kp_tool_spec.specs.Watched.{DueOfHead, DueOfRun, of_other, of_job}
-use Rattle.kp_tool_spec.specs.Compared.{ReadsModule, misread, not_jobs, jobs}
+use Rattle.kp_tool.specs.Watched.{DueOfHead, DueOfRun, of_other, of_job}
+use Rattle.kp_tool.specs.Compared.{ReadsModule, misread, not_jobs, jobs}
 use Rattle.kp_tool.proofs.{Ends.said, Modules.misread_end, Modules.module_jobs, Modules.module_outputs}
 use Rattle.kp_tool.proofs.watch.on_text.Goals as goal
 
