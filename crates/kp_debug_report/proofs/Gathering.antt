@@ -7,7 +7,7 @@ use Rattle.kp_bits.specs.{Word.Word, Operators.no_word}
 use Rattle.kp_ast.specs.declared.tree.Job.{Job}
 use Rattle.kp_stage.specs.Start.{stall_word, input}
 use Rattle.kp_width.specs.Widths.{widths_of}
-use Rattle.kp_image.specs.{Feeds.Fed, Feeds.row_in, Sections.sections_of, Spans.Pattern, Spans.word_in}
+use Rattle.kp_frontend.specs.{Feeds.Fed, Feeds.row_in, Sections.sections_of, Spans.Pattern, Spans.word_in}
 use Rattle.kp_net.specs.Netlist.{Net, Input}
 use Rattle.kp_cycle.specs.Steps.{SamplesFit, given}
 use Rattle.kp_debug_report.specs.Sessions.{inputs_of, SamplesFitCycles}

@@ -1,13 +1,12 @@
 // The inputs of each cycle of a run.
 ghost use Rattle.std.specs.Prelude.{◌≡◌, IfOk, vec_len};
-ghost use Rattle.kp_image.specs.Feeds.{row_in};
-ghost use Rattle.kp_image.specs.Spans.{word_in};
+ghost use Rattle.kp_frontend.specs.{Feeds.row_in, Spans.word_in};
 ghost use Rattle.kp_debug_report.specs.Inspecting.{all_cycles};
 ghost use Rattle.kp_debug_report.specs.inner.Lists.{words_to, rows_to};
 
 use kp_base::NoMemory;
 use kp_bits::Bits;
-use kp_image::{InputPattern, StallPattern};
+use kp_frontend::{InputPattern, StallPattern};
 use std::alloc::Global;
 
 /// The number of cycles of a run.

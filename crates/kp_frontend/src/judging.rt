@@ -6,9 +6,9 @@ ghost use Rattle.kp_frontend.specs.Accepting.{AnswersText, AnswersHead};
 ghost use Rattle.kp_frontend.specs.inner.Reading.{AnswersTree, AnswersRead, IsCountable};
 
 use crate::accepted::{Accepted, Head};
+use crate::start;
 use kp_ast::Job;
 use kp_base::{Refusal, Refused};
-use kp_image::start;
 use kp_lex::{lex, tail};
 use kp_parse::{Parsed, parse};
 use kp_stage::Design;

@@ -4,7 +4,7 @@ use Rattle.kp_base.specs.declared.row.Row as masks
 use Rattle.kp_base.specs.First.{first}
 use Rattle.kp_ast.specs.declared.tree.Job.{Job}
 use Rattle.kp_width.specs.Widths.{widths_of}
-use Rattle.kp_image.specs.{Feeds.Fed, Feeds.row_in, Sections.sections_of}
+use Rattle.kp_frontend.specs.{Feeds.Fed, Feeds.row_in, Sections.sections_of}
 use Rattle.kp_pipeline.specs.Rows.{taken}
 use Rattle.kp_stage.specs.Start.{AreSamples, input}
 use Rattle.kp_machine.specs.Machine.{inputs_from, machine_of, values_in}

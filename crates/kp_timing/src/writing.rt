@@ -3,7 +3,7 @@ ghost use Rattle.std.specs.Prelude.{◌≡◌, ℕ, ◌<◌, ◌≤◌, None, ge
 ghost use Rattle.kp_base.specs.Bytes.{Writes};
 ghost use Rattle.kp_base.specs.Causes.{HasCause};
 ghost use Rattle.kp_stage.specs.Start.{start_of, stall_word};
-ghost use Rattle.kp_image.specs.Spans.{word_in};
+ghost use Rattle.kp_frontend.specs.Spans.{word_in};
 ghost use Rattle.kp_sched.specs.Rows.{bit_of};
 ghost use Rattle.kp_timing.specs.Lines.{timing_text, timing_line as timing_line_of, total_line as total_line_of};
 ghost use Rattle.kp_timing.specs.Timed.{IsOpened, hold_of};
@@ -12,7 +12,7 @@ use crate::timing::Timing;
 use crate::totals::Totals;
 use crate::{LINE, Timeline, timing_line, total_line};
 use kp_base::{Sink, SinkFault, write_all};
-use kp_image::StallPattern;
+use kp_frontend::StallPattern;
 
 /// Writes the line of each cycle of a timeline, and the line of the totals. A fault comes only from the sink, which then has a prefix of the text.
 /// Allocates nothing.

@@ -2,7 +2,7 @@
 ghost use Rattle.std.specs.Prelude.{◌≡◌, ◌<◌, ◌^◌, ℕ, length, IfOk, OnOk};
 ghost use Rattle.kp_pipeline.specs.Sequential.{seq as runs};
 ghost use Rattle.kp_stage.specs.Start.{AreSamples, input};
-ghost use Rattle.kp_image.specs.Feeds.{row_in};
+ghost use Rattle.kp_frontend.specs.Feeds.{row_in};
 ghost use Rattle.kp_machine.specs.Machine.{machine_of, sequential, values_in};
 ghost use Rattle.kp_machine.specs.Slots.{targets_of};
 ghost use Rattle.kp_seq.specs.Running.{state};
@@ -13,8 +13,7 @@ ghost use Rattle.kp_tool.specs.{Due.DueOfJob, Ends.Ends};
 use crate::failure::Failure;
 use crate::outcome::{Outcome, finish};
 use kp_base::{NoMemory, Sink, SinkFault};
-use kp_frontend::Accepted;
-use kp_image::InputPattern;
+use kp_frontend::{Accepted, InputPattern};
 use kp_seq::SeqMachine;
 use kp_stage::Design;
 use kp_tool_report::write_run_after;

@@ -8,7 +8,7 @@ use Rattle.kp_ast.specs.{Name.IsName, declared.tree.Decl.Decl, declared.tree.Job
 use Rattle.kp_ast.specs.declared.tree.Decl.TheVariants as decls
 use Rattle.kp_width.specs.{TextOrder.declared_names, Widths.widths_of}
 use Rattle.kp_stage.specs.{Start.start_of, Stages.broken_of}
-use Rattle.kp_image.specs.Sections.{sections_of}
+use Rattle.kp_frontend.specs.Sections.{sections_of}
 use Rattle.kp_pipeline.specs.{Machine.Machine, Pipeline.PipelineState, Pipeline.Inputs, Pipeline.cycle, Pipeline.pipeline_start}
 use Rattle.kp_pipeline.specs.Rows.{Row, bits, one_if, rows_from}
 use Rattle.kp_machine.specs.{Machine.machine_of, Machine.state_of, Machine.start_hints, Machine.inputs_from, Slots.targets_of}

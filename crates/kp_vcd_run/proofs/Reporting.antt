@@ -4,10 +4,9 @@ use Rattle.kp_base.specs.First.{first}
 use Rattle.kp_ast.specs.declared.tree.Job.{Job}
 use Rattle.kp_width.specs.{TextOrder.declared_names, Widths.widths_of}
 use Rattle.kp_stage.{specs.Stages.broken_of, proofs.Unbroken.first_none}
-use Rattle.kp_image.specs.Sections.{sections_of}
+use Rattle.kp_frontend.specs.{Sections.sections_of, Judging.Judges, Judging.JudgesHead, Judging.IsSentenceOf, Judging.broken_in, Judging.Judges.within}
+use Rattle.kp_frontend.specs.Judging.{JudgesText.accepted, JudgesHead.head_within, JudgesHeadText.head_accepted}
 use Rattle.kp_lex.specs.declared.token.Lexed.{Lexed}
-use Rattle.kp_frontend.specs.Judging.{Judges, JudgesHead, IsSentenceOf, broken_in, Judges.within, JudgesText.accepted, JudgesHead.head_within}
-use Rattle.kp_frontend.specs.Judging.JudgesHeadText.{head_accepted}
 use Rattle.kp_vcd.specs.{declared.dump.Dump.Dump, Reading.Fault, Reading.verdict, Fitting.FitsForm}
 use Rattle.kp_vcd_run.specs.Dumps.{vcd_dump}
 use Rattle.kp_vcd_run.specs.Accepted.{IsAccepted, IsAccepted.of_input, IsAccepted.of_head}

@@ -1,5 +1,5 @@
 use Rattle.std.proofs.Common.{◌≡◌}
-use Rattle.kp_image.specs.Feeds.{row_in}
+use Rattle.kp_frontend.specs.Feeds.{row_in}
 use Rattle.kp_debug_report.specs.inner.Lists.{rows_to}
 use Rattle.kp_debug_report.proofs.inputs.rows_to.Given as goal
 

@@ -1,5 +1,5 @@
 use Rattle.std.{proofs.Common.◌≡◌, specs.Prelude.vec_len}
-use Rattle.kp_image.specs.Spans.{word_in}
+use Rattle.kp_frontend.specs.Spans.{word_in}
 use Rattle.kp_debug_report.specs.inner.Lists.{words_to}
 use Rattle.kp_debug_report.proofs.inputs.words_to.Given as goal
 

@@ -3,7 +3,7 @@ use Rattle.std.specs.Prelude.{vec_len, vec_capacity}
 use Rattle.kp_base.specs.declared.row.Row.{Row}
 use Rattle.kp_bits.specs.Word.{Word}
 use Rattle.kp_cycle.specs.Steps.{written_in, Running, SamplesFit, given}
-use Rattle.kp_image.specs.{Feeds.row_in, Spans.word_in}
+use Rattle.kp_frontend.specs.{Feeds.row_in, Spans.word_in}
 use Rattle.kp_net.specs.Netlist.{Input, State, last_of, row_of, state_after}
 use Rattle.kp_sched.specs.{Monitors.HasSeen, Rows.rows_seen}
 use Rattle.kp_seq.specs.Running.{Running as Machine}

@@ -1,5 +1,0 @@
-pub mod Declared
-pub mod Feeding
-pub mod Given
-pub mod Loops
-pub mod Patterns

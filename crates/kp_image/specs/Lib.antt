@@ -1,5 +1,0 @@
-pub mod Sections
-pub mod Cycles
-pub mod Spans
-pub mod Feeds
-pub mod inner
