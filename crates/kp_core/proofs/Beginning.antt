@@ -6,9 +6,8 @@ use Rattle.kp_stage.specs.Start.{start_of}
 use Rattle.kp_width.{specs.Widths.widths_of, proofs.Unbroken.Unbroken}
 use Rattle.kp_machine.specs.Machine.{machine_of, state_of, start_hints, pipe_of}
 use Rattle.kp_net.specs.Netlist.{Net, Input, State, start_of as net_start, state_after}
-use Rattle.kp_sched.specs.Runs.{ShowsAlike}
-use Rattle.kp_synth_spec.specs.{Naming.value_shown, Shows.Shows, Traces.trace_of, Traces.inputs_seen, Traces.AreQuiet}
-use Rattle.kp_synth_spec.specs.Anew.{trace_from, left_by_reset, HasMemory, BeginsAnew}
+use Rattle.kp_sched.specs.{Runs.ShowsAlike, Naming.value_shown, Shows.Shows, Traces.trace_of, Traces.inputs_seen, Traces.AreQuiet}
+use Rattle.kp_sched.specs.Anew.{trace_from, left_by_reset, HasMemory, BeginsAnew}
 use Rattle.kp_core.specs.Beginning.{Begins}
 use Rattle.kp_core.proofs.Loading.{after_loading}
 

@@ -6,7 +6,7 @@ use Rattle.kp_base.specs.{Bytes.AppendsPart, declared.refusal.Refusal.Refusal}
 use Rattle.kp_ast.specs.declared.tree.Job.{Job}
 use Rattle.kp_frontend.specs.Judging.{JudgesHead, JudgesHeadText}
 use Rattle.kp_net.specs.{Netlist.Net, Names.IsNamed}
-use Rattle.kp_synth_spec.specs.{Shows.Shows, Shows.IsInOrder, Anew.BeginsAnew}
+use Rattle.kp_sched.specs.{Shows.Shows, Shows.IsInOrder, Anew.BeginsAnew}
 use Rattle.kp_synth.specs.Carrying.{Carries}
 use Rattle.kp_view_texts.specs.Heads.{rule_head}
 use Rattle.kp_core_ports.specs.{declared.port.Port.Port, declared.port.PortRefusal.PortRefusal, Ports.ports_of, Core.core_text, Names.names_text}

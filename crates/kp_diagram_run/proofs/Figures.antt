@@ -5,8 +5,8 @@ use Rattle.kp_base.specs.declared.row.Row as masks
 use Rattle.kp_ast.specs.declared.tree.Job.{Job}
 use Rattle.kp_pipeline.specs.{Rows.Row, Diagram.Account, Diagram.Fetch, Diagram.Filling, DiagramClaims.stalls_of}
 use Rattle.kp_machine.specs.Machine.{inputs_from}
-use Rattle.kp_sched.{specs.Rows.bit_of, specs.Rows.rows_seen, proofs.Counting.seen_length}
-use Rattle.kp_synth_spec.specs.Traces.{inputs_seen}
+use Rattle.kp_sched.specs.{Rows.bit_of, Rows.rows_seen, Traces.inputs_seen}
+use Rattle.kp_sched.proofs.Counting.{seen_length}
 use Rattle.kp_run.specs.Cycles.{inputs_to}
 use Rattle.kp_diagram_text.specs.Figures.{figure_from}
 use Rattle.kp_diagram_run.{specs.Runs.IsRunOf, specs.Runs.job_figure, proofs.Alike.SameFrom, proofs.Alike.account-same, proofs.Alike.fetches-same}

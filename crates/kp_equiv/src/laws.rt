@@ -4,12 +4,10 @@ ghost use Rattle.kp_ast.specs.declared.tree.Job.{Job};
 ghost use Rattle.kp_net.specs.Names.{IsNamed};
 ghost use Rattle.kp_net.specs.Netlist.{Net};
 ghost use Rattle.kp_net.specs.Parts.{NetOk};
-ghost use Rattle.kp_synth_spec.specs.Shows.{IsOfJob};
+ghost use Rattle.kp_sched.specs.{Shows.IsOfJob, Naming.module_name, Anew.BeginsAnew};
 ghost use Rattle.kp_equiv.specs.{declared.verdict.Verdict.Verdict, Agreement.AllAgree, Verdicts.IsComparable, Verdicts.IsVerdict, Runs.RunAlike};
 ghost use Rattle.kp_equiv.specs.declared.verdict.Verdict.TheVariants.{Same};
 ghost use Rattle.kp_equiv.specs.Showing.{renamed, ShowsButName};
-ghost use Rattle.kp_synth_spec.specs.Naming.{module_name};
-ghost use Rattle.kp_synth_spec.specs.Anew.{BeginsAnew};
 
 /// The comparison theorem: for every list of inputs the netlists have the same rows, and the same values of all registers and file words,
 /// by name.

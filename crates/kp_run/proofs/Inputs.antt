@@ -13,8 +13,8 @@ use Rattle.kp_frontend.proofs.Given.{stalls_right, rows_fit}
 use Rattle.kp_pipeline.specs.Pipeline.{Inputs}
 use Rattle.kp_machine.specs.Machine.{inputs_at, inputs_from, values_in}
 use Rattle.kp_net.specs.Netlist.{Input}
-use Rattle.kp_sched.{specs.Rows.bit_of, proofs.Bits.word_fits, proofs.Bits.bit_below}
-use Rattle.kp_synth_spec.specs.Traces.{sample, input_seen, inputs_seen, AreQuiet}
+use Rattle.kp_sched.specs.{Rows.bit_of, Traces.sample, Traces.input_seen, Traces.inputs_seen, Traces.AreQuiet}
+use Rattle.kp_sched.proofs.Bits.{word_fits, bit_below}
 use Rattle.kp_run.specs.Cycles.{input_at, inputs_to}
 use Rattle.kp_run.proofs.Samples.{width_at, word_at, value_at, value_past}
 

@@ -4,11 +4,9 @@ ghost use Rattle.std.specs.Prelude.{◌≡◌, ℕ, List};
 ghost use Rattle.kp_base.specs.declared.row.Row.{Row};
 ghost use Rattle.kp_machine.specs.Machine.{inputs_from, pipe_of};
 ghost use Rattle.kp_net.specs.Netlist.{Net};
-ghost use Rattle.kp_sched.specs.Monitors.{Kept};
+ghost use Rattle.kp_sched.specs.{Monitors.Kept, Shows.Shows, Traces.inputs_seen, Traces.AreQuiet};
 ghost use Rattle.kp_sched.specs.Rows.{rows_seen};
 ghost use Rattle.kp_machine.specs.Words.{HasWord};
-ghost use Rattle.kp_synth_spec.specs.Shows.{Shows};
-ghost use Rattle.kp_synth_spec.specs.Traces.{inputs_seen, AreQuiet};
 ghost use Rattle.kp_run.specs.Boards.{due_behind};
 ghost use Rattle.kp_run.specs.Cycles.{inputs_to, HasRows};
 

@@ -6,8 +6,8 @@ use Rattle.kp_ast.specs.declared.tree.Job.{Job}
 use Rattle.kp_pipeline.specs.{Accepted.Accepted, Rows.Row, Rows.taken, DiagramClaims.stalls_of}
 use Rattle.kp_stage.specs.Start.{start_of}
 use Rattle.kp_machine.specs.Machine.{inputs_from, machine_of, start_hints, state_of}
-use Rattle.kp_sched.{specs.Rows.bit_of, specs.Rows.rows_seen, proofs.Counting.seen_length}
-use Rattle.kp_synth_spec.specs.Traces.{inputs_seen}
+use Rattle.kp_sched.specs.{Rows.bit_of, Rows.rows_seen, Traces.inputs_seen}
+use Rattle.kp_sched.proofs.Counting.{seen_length}
 use Rattle.kp_run.specs.Cycles.{inputs_to}
 use Rattle.kp_diagram_run.{specs.Runs.IsRunOf, proofs.Words.words-seen}
 use Rattle.kp_sites.specs.Sites.{sited}

@@ -16,7 +16,7 @@ use Rattle.kp_cycle.specs.Steps.{Running, saved_in}
 use Rattle.kp_run.{specs.Cycles.input_at, specs.Cycles.inputs_to, proofs.Steps.state_next, proofs.Prefixes.state_is}
 use Rattle.kp_synth.specs.Carrying.{Carries}
 use Rattle.kp_synth_registers.specs.Holding.{Holds, inputs_of}
-use Rattle.kp_synth_spec.specs.Traces.{AreQuiet, inputs_seen}
+use Rattle.kp_sched.specs.Traces.{AreQuiet, inputs_seen}
 use Rattle.kp_synth_tables.specs.Keys.{is_alive, keys_of}
 use Rattle.kp_stalls.specs.declared.cause.{Cause.Cause, Cause.TheVariants.Value, Cause.TheVariants.Squashed, Guess.Guess, Line.Line, Wait.Wait, Wrong.Wrong}
 use Rattle.kp_stalls.specs.{Claims.moment_at, Occupants.report}

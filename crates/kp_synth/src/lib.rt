@@ -4,7 +4,7 @@
 //! the registers (kp_synth_registers), the nodes of the stages (kp_synth_pipeline, kp_synth_stage), and the next
 //! values of registers and files (kp_synth_close). The other parts of the netlist, its registers, files and ports with
 //! their names and start values, are built here (`netlist`). What it means that a netlist shows (implements) the
-//! pipelined machine is defined in kp_synth_spec.
+//! pipelined machine is defined in kp_sched.
 #![tactic(auto)]
 
 mod bound;
@@ -20,8 +20,7 @@ ghost use Rattle.kp_stage.specs.Start.{start_of, IsStartOf};
 ghost use Rattle.kp_net.specs.Names.{IsNamed};
 ghost use Rattle.kp_net.specs.Widths.{Distinct};
 ghost use Rattle.kp_synth_close.specs.Bound as bounds;
-ghost use Rattle.kp_synth_spec.specs.Shows.{Shows, IsInOrder};
-ghost use Rattle.kp_synth_spec.specs.Anew.{BeginsAnew};
+ghost use Rattle.kp_sched.specs.{Shows.Shows, Shows.IsInOrder, Anew.BeginsAnew};
 ghost use Rattle.kp_synth.specs.Carrying.{Carries};
 
 use crate::bound::enough_nodes;

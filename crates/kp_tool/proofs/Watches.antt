@@ -3,7 +3,7 @@ use Rattle.std.proofs.Common.{◌≡◌, ℕ, ◌≤◌, List, ◌++◌, length,
 use Rattle.kp_ast.specs.declared.tree.Job.{Job}
 use Rattle.kp_net.specs.Netlist.{Net}
 use Rattle.kp_lex.specs.Text.{tail_of}
-use Rattle.kp_synth_spec.specs.Shows.{IsOfJob}
+use Rattle.kp_sched.specs.Shows.{IsOfJob}
 use Rattle.kp_watch.specs.Watching.{Agrees}
 use Rattle.kp_equiv.specs.Showing.{ShowsButName}
 use Rattle.kp_frontend.specs.Judging.{JudgesText, JudgesHead, JudgesHeadText, broken_in, most_bytes, JudgesHead.head_within}

@@ -1,8 +1,7 @@
 //! Laws about the definitions of this crate. Each function does nothing: its contract is the law.
 ghost use Rattle.std.specs.Prelude.{◌≡◌, ℕ, List, Some};
 ghost use Rattle.kp_base.specs.declared.refusal.Refusal.{Refusal};
-ghost use Rattle.kp_sched.specs.Runs.{IsLegal};
-ghost use Rattle.kp_synth_spec.specs.Legal.{IsLegalFrom};
+ghost use Rattle.kp_sched.specs.{Runs.IsLegal, Legal.IsLegalFrom};
 ghost use Rattle.kp_tool_report.specs.Texts.{refusal_line};
 ghost use Rattle.kp_tool_words.specs.declared.words.Command.{Command};
 ghost use Rattle.kp_tool_words.specs.declared.words.Command.TheVariants.{OnJob, Watch, Compare, Debug, Generate};

@@ -1,6 +1,6 @@
 // The dump of a run.
 ghost use Rattle.std.specs.Prelude.{◌≡◌, ℕ, ◌<◌, length, get_or, IfOk};
-ghost use Rattle.kp_synth_spec.specs.Shows.{Shows};
+ghost use Rattle.kp_sched.specs.Shows.{Shows};
 ghost use Rattle.kp_vcd.specs.Recording.{recorded};
 ghost use Rattle.kp_vcd_run.specs.Dumps.{values_at, own_run, vcd_dump};
 ghost use Rattle.kp_vcd_run.specs.inner.Shown.{ArePlaces};

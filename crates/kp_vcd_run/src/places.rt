@@ -5,7 +5,7 @@ ghost use Rattle.kp_vcd_run.specs.inner.Shown.{places_from};
 use kp_ast::Decl;
 use kp_base::NoMemory;
 use kp_net::NetReg;
-use kp_synth_spec::register_named;
+use kp_sched::register_named;
 use std::alloc::Global;
 
 /// For each declared register its number among those of a netlist. The only error is out of memory.

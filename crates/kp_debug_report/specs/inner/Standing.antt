@@ -9,7 +9,7 @@ use Rattle.kp_net.specs.Netlist.{Net}
 use Rattle.kp_debug_report.specs.Sessions.{Debugged, state_there}
 use Rattle.kp_run.specs.Cycles.{inputs_to, own_trace}
 use Rattle.kp_tool_report.specs.States.{State}
-use Rattle.kp_synth_spec.specs.{Naming.register_of, Naming.file_of, Naming.value_shown, Shows.IsOfJob, Shows.Shows}
+use Rattle.kp_sched.specs.{Naming.register_of, Naming.file_of, Naming.value_shown, Shows.IsOfJob, Shows.Shows}
 use Rattle.kp_debug_report.specs.Inspecting.{all_cycles, has_value, first_from}
 
 -- it steps through the run of the job's own inputs

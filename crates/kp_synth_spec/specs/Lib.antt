@@ -1,6 +1,0 @@
-pub mod Naming
-pub mod Traces
-pub mod Shows
-pub mod Legal
-pub mod Anew
-pub mod Cuts
