@@ -9,10 +9,10 @@ use Rattle.kp_machine.specs.Machine.{inputs_from, machine_of, start_hints, state
 use Rattle.kp_sched.specs.{Rows.bit_of, Rows.rows_seen, Traces.inputs_seen}
 use Rattle.kp_sched.proofs.Counting.{seen_length}
 use Rattle.kp_run.specs.Cycles.{inputs_to}
-use Rattle.kp_diagram_run.{specs.Runs.IsRunOf, proofs.Words.words-seen}
+use Rattle.kp_stalls_run.specs.{Figures.IsRunOf, Runs.run_lines, Runs.settled, inner.Running.StaysClose}
+use Rattle.kp_stalls_run.proofs.{Words.words-seen, Closeness.stays_close, Steps.lines_same}
 use Rattle.kp_sites.specs.Sites.{sited}
 use Rattle.kp_stalls.specs.{Occupants.report, Cycles.lines_from}
-use Rattle.kp_stalls_run.{specs.Runs.run_lines, specs.Runs.settled, specs.inner.Running.StaysClose, proofs.Closeness.stays_close, proofs.Steps.lines_same}
 
 pub run_close : (job : Job) (n : ℕ) (rows : List masks.Row) (words : List ℕ) → Accepted (machine_of job) → IsRunOf job n rows words
     → StaysClose job.stages.value (rows_seen job.stages.value rows)

@@ -1,3 +1,5 @@
+pub mod Figures
+pub mod FigureClaims
 pub mod Claims
 pub mod Guessed
 pub mod Runs

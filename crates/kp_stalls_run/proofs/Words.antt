@@ -10,7 +10,7 @@ use Rattle.kp_net.specs.Netlist.{Input}
 use Rattle.kp_sched.specs.{Rows.bit_of, Traces.input_seen, Traces.inputs_seen}
 use Rattle.kp_sched.proofs.Bits.{word_fits}
 use Rattle.kp_run.specs.Cycles.{input_at, inputs_to}
-use Rattle.kp_diagram_run.specs.inner.Words.{words_to}
+use Rattle.kp_stalls_run.specs.inner.Words.{words_to}
 
 stalls-at : (ins : List Inputs) (T k : ℕ) (d : Inputs) → T < length ins → stalls_of ins T k ≡ (get_or ins T d).ext k
 stalls-at [] T k d b = absurd (omega (arith, b))

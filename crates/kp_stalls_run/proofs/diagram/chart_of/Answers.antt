@@ -4,8 +4,8 @@ use Rattle.kp_base.specs.declared.row.Row.{Row}
 use Rattle.kp_ast.specs.declared.tree.Job.{Job}
 use Rattle.kp_sched.specs.Rows.{rows_seen}
 use Rattle.kp_run.proofs.Machines.{stages_fit}
-use Rattle.kp_diagram_run.proofs.Figures.{figure-of}
-use Rattle.kp_diagram_run.proofs.chart_of.Goals as goal
+use Rattle.kp_stalls_run.proofs.Figures.{figure-of}
+use Rattle.kp_stalls_run.proofs.diagram.chart_of.Goals as goal
 
 pub overflow_cast-stages : goal.overflow_cast-stages
 overflow_cast-stages c =

@@ -1,18 +1,10 @@
-//! From a job to its diagram: the job is synthesised and run, and its rows and stall words are what the diagram is drawn from.
-//!
-//! `specs/Runs.antt` says of which run the rows are, and defines the figure of a job; `specs/Claims.antt` says what that figure shows of the
-//! pipelined machine of the job. All memory is allocated before anything is drawn, and out of memory is the only error.
-#![tactic(auto)]
-
-pub mod laws;
-
+// The run of a job that its diagram shows.
 ghost use Rattle.std.specs.Prelude.{◌≡◌, ◌≤◌, ◌<◌, ℕ, true, length, get_or, map, string_bytes, IfOk};
 ghost use Rattle.kp_machine.specs.Machine.{inputs_from, pipe_of};
 ghost use Rattle.kp_sched.specs.Rows.{rows_seen};
 ghost use Rattle.kp_frontend.specs.Spans.{word_in};
 ghost use Rattle.kp_diagram_text.specs.Charts.{IsDrawable, are_names, figure_of, rows_of};
-ghost use Rattle.kp_diagram_run.specs.Runs.{IsRunOf, job_figure, job_rows};
-ghost use Rattle.kp_diagram_run.specs.inner.Words.{words_to};
+ghost use Rattle.kp_stalls_run.specs.{Figures.IsRunOf, Figures.job_figure, Figures.job_rows, inner.Words.words_to};
 
 use kp_base::{NoMemory, Row};
 use kp_diagram_text::Chart;

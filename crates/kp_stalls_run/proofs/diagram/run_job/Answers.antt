@@ -1,7 +1,7 @@
 use Rattle.std.proofs.Common.{◌∙◌, ℕ, List, ap, length, get_or}
 use Rattle.kp_frontend.specs.Spans.{word_in}
-use Rattle.kp_diagram_run.proofs.Words.{word-at, words-many}
-use Rattle.kp_diagram_run.proofs.run_job.Goals as goal
+use Rattle.kp_stalls_run.proofs.Words.{word-at, words-many}
+use Rattle.kp_stalls_run.proofs.diagram.run_job.Goals as goal
 
 pub returns : goal.returns
 returns c =

@@ -2,7 +2,7 @@ use Rattle.std.proofs.Common.{◌∙◌, ap, length, List}
 use Rattle.kp_base.specs.declared.row.Row.{Row}
 use Rattle.kp_frontend.proofs.Given.{starts}
 use Rattle.kp_run.proofs.Prefixes.{rows_many}
-use Rattle.kp_diagram_run.proofs.rows_of.Goals as goal
+use Rattle.kp_stalls_run.proofs.diagram.rows_of.Goals as goal
 
 pub synth-requires-clause-suits : goal.synth-requires-clause-suits
 synth-requires-clause-suits c = rw c.args.job.now.start (starts _ c.job-kept.ensures.sound.names c.args.job.now.unbroken)

@@ -9,7 +9,7 @@ use Rattle.kp_pipeline.proofs.{Taken.rows-length, Adding.adds-up, Adding.retired
 use Rattle.kp_pipeline.proofs.{Cells.holds-shown, Cells.reasons, Cells.shown-holds, Retired.retired-in_order}
 use Rattle.kp_machine.specs.Machine.{inputs_from, machine_of, start_hints, state_of}
 use Rattle.kp_diagram_text.specs.Figures.{figure_from}
-use Rattle.kp_diagram_run.specs.{Claims.ShowsPipe, Claims.ShowsRun, Runs.job_figure}
+use Rattle.kp_stalls_run.specs.{FigureClaims.ShowsPipe, FigureClaims.ShowsRun, Figures.job_figure}
 
 one-each : (last : ℕ) (ext : ℕ → ℕ → Bool) (T : ℕ) (loss : ℕ → Loss) (rows : List Row) → length (spent_from last ext T loss rows) ≡ length rows
 one-each last ext T loss [] = refl

@@ -1,4 +1,0 @@
-pub mod Alike
-pub mod Words
-pub mod Figures
-pub mod Shown
