@@ -4,3 +4,5 @@ pub mod CellLaws
 pub mod Ported
 pub mod Steps
 pub mod Named
+pub mod PictureSteps
+pub mod Shown

@@ -2,4 +2,8 @@ pub mod Cells
 pub mod Table
 pub mod Claims
 pub mod Text
+pub mod Arrows
+pub mod ArrowClaims
+pub mod Places
+pub mod Picture
 pub mod inner

@@ -4,7 +4,7 @@ ghost use Rattle.std.specs.Prelude.{◌≡◌, ℕ, List, true, false, Option, S
 ghost use Rattle.kp_ast.specs.declared.tree.Job.{Job};
 ghost use Rattle.kp_pipeline.specs.Machine.{Machine};
 ghost use Rattle.kp_pipeline.specs.Pipeline.{Inputs, PipelineState, candidate_hits, forwarded, intent_known, is_candidate, stall};
-ghost use Rattle.kp_paths.specs.Claims.{ArePaths, HasNoValue, HasValue, state_at};
+ghost use Rattle.kp_paths.specs.{Claims.ArePaths, Claims.HasNoValue, Claims.HasValue, Claims.state_at, ArrowClaims.ShowsCells};
 
 /// What a stage forwards, for every machine, in each state of each run from any start. A stage that has a value for a target forwards one once it
 /// isn't stalled (`value`); one that has none forwards nothing (`none`); and as long as its intent isn't known, a full stage hits at every
@@ -22,4 +22,9 @@ pub fn a_stage_forwards_what_has_been_set()
 /// The cells of a job say where its reads take their values from.
 pub fn the_cells_are_the_paths()
     ensures { (job : Job) → ArePaths job }
+{}
+
+/// The arrows in the row of a read are those cells of the table that say what a stage has for it.
+pub fn the_arrows_are_the_cells()
+    ensures { (job : Job) → ShowsCells job }
 {}

@@ -19,7 +19,8 @@ pub(crate) fn label_length(read: &ReadStmt) -> usize
     read.name.name.bytes().len() + 3 + read.target.name.bytes().len() + brackets(read).len()
 }
 
-fn brackets(read: &ReadStmt) -> &[u8]
+// The brackets of a read of a file.
+pub(crate) fn brackets(read: &ReadStmt) -> &[u8]
     ensures value { result.now ≡ brackets_of read.now }
     ensures few { length result.now ≤ 4 }
 {

@@ -1,14 +1,13 @@
 // `paths --svg`: where each read takes its value from, as a picture.
 ghost use Rattle.std.specs.Prelude.{◌≡◌, None};
-ghost use Rattle.kp_paths_svg.specs.Picture.{paths_svg_text};
+ghost use Rattle.kp_paths.specs.Picture.{paths_svg_text};
 ghost use Rattle.kp_view.specs.Due.{Says};
 ghost use Rattle.kp_view.specs.Ends.{Ends};
 
 use crate::failure::Failure;
 use kp_base::Sink;
 use kp_frontend::Accepted;
-use kp_paths::Paths;
-use kp_paths_svg::write_paths_svg;
+use kp_paths::{Paths, write_paths_svg};
 use std::alloc::Global;
 
 /// Draws the forwarding paths of a job.

@@ -1,4 +1,0 @@
-pub mod Arrows
-pub mod Claims
-pub mod Places
-pub mod Picture
