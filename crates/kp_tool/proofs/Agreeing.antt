@@ -14,7 +14,7 @@ use Rattle.kp_net.specs.Netlist.{Net, Input}
 use Rattle.kp_sched.specs.{Runs.passes, Runs.due_value, Runs.ShowsAlike, Naming.module_name, Traces.trace_of, Traces.inputs_seen}
 use Rattle.kp_sched.proofs.Runs.{alike_is_legal}
 use Rattle.kp_run.{specs.Cycles.inputs_to, specs.Cycles.own_trace, proofs.Inputs.seen_to, proofs.Inputs.quiet_to}
-use Rattle.kp_watch.specs.Watching.{Agrees}
+use Rattle.kp_watch.specs.{Watching.Agrees, Dumps.own_run}
 use Rattle.kp_equiv.specs.Showing.{ShowsButName}
 use Rattle.kp_frontend.proofs.Verdicts.{one_verdict}
 use Rattle.kp_timing.specs.Unfit.{untimed}
@@ -22,7 +22,6 @@ use Rattle.kp_tool_words.specs.declared.words.JobCommand.{JobCommand, TheVariant
 use Rattle.kp_tool_words.specs.declared.words.Command.TheVariants.{OnJob, Read, Watch}
 use Rattle.kp_tool_report.specs.{States.sequential_text, States.text_after, Runs.run_text, Runs.sim_text, Runs.counts_behind}
 use Rattle.kp_tool_report.proofs.Sims.{rows_many}
-use Rattle.kp_vcd_run.specs.Dumps.{own_run}
 use Rattle.kp_tool.specs.{Due.DueFor, Due.DueOfJob, Due.DueOfTiming, Read.ReadsVerilog, Refused.Breaks, Refused.own_rule}
 use Rattle.kp_tool.specs.Watched.{DueOfNetlist, agrees, differs, of_other, of_job}
 use Rattle.kp_tool.specs.Agreeing.{sequential_state, IsSequential, IsChecked, IsFaulty, IsReadBack}

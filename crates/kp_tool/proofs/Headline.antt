@@ -24,7 +24,8 @@ use Rattle.kp_gen.specs.Generated.{gen_job}
 use Rattle.kp_gen.proofs.Unbroken.{generated_unbroken}
 use Rattle.kp_tool_report.specs.Line.{gen_text, totals_of, totals_line}
 use Rattle.kp_vcd.{specs.Held.held, specs.Held.Changes, proofs.Holding.recorded_held, proofs.Holding.recorded_new}
-use Rattle.kp_vcd_run.{specs.Dumps.own_run, specs.Dumps.values_at, specs.Dumps.vcd_dump, proofs.Lasting.run_lasts}
+use Rattle.kp_watch.specs.Dumps.{own_run, values_at, vcd_dump}
+use Rattle.kp_watch.proofs.Lasting.{run_lasts}
 use Rattle.kp_timing.{specs.Unfit.untimed, proofs.Plain.has_timeline}
 use Rattle.kp_tool.specs.Headline.{IsMoving, HasNoNeedlessStall, HasNoNeedlessStallFrom, IsVerilogWith, IsRunWith, IsDumpedWith, IsGeneratedWith, IsTimed, IsDebuggedWith, IsNetlistWith, IsPairAlike, Implements, IsImplementation, RunsWith, IsPairWith}
 use Rattle.kp_tool.specs.{Due.DueFor, Due.DueOfTiming, Read.ReadsVerilog}

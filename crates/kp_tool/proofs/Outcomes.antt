@@ -16,7 +16,7 @@ use Rattle.kp_frontend.specs.Judging.{most_bytes, too_long, Judges, JudgesHead, 
 use Rattle.kp_frontend.proofs.Verdicts.{one_verdict, some_verdict, one_head, some_head}
 use Rattle.kp_tool_report.specs.{Texts.bad_words, Texts.refusal_line, Texts.accepted_line, States.sequential_text, Runs.sim_text}
 use Rattle.kp_tool_report.specs.Line.{gen_text}
-use Rattle.kp_vcd_run.specs.Dumps.{vcd_text}
+use Rattle.kp_watch.specs.Dumps.{vcd_text}
 use Rattle.kp_net.specs.Netlist.{Net}
 use Rattle.kp_vlog.{specs.Canon.canon, specs.Rules.Fault, specs.Verdict.refusal_of, proofs.Unique.one_net, proofs.Unique.one_rule, proofs.Unique.no_rule}
 use Rattle.kp_vlog.{specs.Splitting.FirstEnds, proofs.Ends.one_end, proofs.Ends.some_end}

@@ -25,7 +25,7 @@ use Rattle.kp_tool_report.specs.Runs.{run_text}
 use Rattle.kp_gen.specs.Generated.{gen_job}
 use Rattle.kp_tool_report.specs.Line.{totals_of, totals_line}
 use Rattle.kp_vcd.specs.Held.{held, Changes}
-use Rattle.kp_vcd_run.specs.Dumps.{own_run, values_at, vcd_dump, vcd_text}
+use Rattle.kp_watch.specs.Dumps.{own_run, values_at, vcd_dump, vcd_text}
 use Rattle.kp_timing.specs.Lines.{timing_text}
 use Rattle.kp_tool.specs.{Read.ReadsVerilog, Watched.own_text}
 

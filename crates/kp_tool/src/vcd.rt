@@ -1,7 +1,7 @@
 // `vcd N`: the value changes of the pipelined machine of a job.
 ghost use Rattle.std.specs.Prelude.{◌≡◌, IfOk};
 ghost use Rattle.kp_vcd.specs.Text.{dump_text};
-ghost use Rattle.kp_vcd_run.specs.Dumps.{vcd_text};
+ghost use Rattle.kp_watch.specs.Dumps.{vcd_text};
 ghost use Rattle.kp_tool_words.specs.declared.words.JobCommand.TheVariants.{Vcd};
 ghost use Rattle.kp_tool.specs.{Due.DueOfJob, Ends.Ends};
 
@@ -11,7 +11,7 @@ use kp_base::{NoMemory, Sink, SinkFault};
 use kp_frontend::Accepted;
 use kp_synth::synth;
 use kp_vcd::{Dump, write_dump};
-use kp_vcd_run::dump_of;
+use kp_watch::dump_of;
 use std::alloc::Global;
 
 /// `vcd N`: runs the pipelined machine of a job over `count` cycles, and writes its value changes.

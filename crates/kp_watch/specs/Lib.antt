@@ -1,2 +1,4 @@
 pub mod Watching
+pub mod Dumps
+pub mod Accepted
 pub mod inner

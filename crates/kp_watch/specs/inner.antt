@@ -4,3 +4,4 @@ pub mod Machines
 pub mod Comparing
 pub mod Beside
 pub mod Changes
+pub mod Shown

@@ -1,3 +1,0 @@
-pub mod Dumps
-pub mod Accepted
-pub mod inner
