@@ -5,7 +5,7 @@ use kp_core::{Request as CoreRequest, run_core};
 use kp_tool::tool;
 use kp_view::view;
 use kp_view_explain::{HELP, Order, asks_help, explain_source};
-use kp_view_words::Request as ViewRequest;
+use kp_words::Request as ViewRequest;
 use std::alloc::Global;
 
 /// Calls the program that the words begin with. Without one of the four programs nothing is called, and the status is 1.

@@ -18,8 +18,8 @@ use Rattle.kp_watch.specs.{Watching.Agrees, Dumps.own_run}
 use Rattle.kp_equiv.specs.Showing.{ShowsButName}
 use Rattle.kp_frontend.proofs.Verdicts.{one_verdict}
 use Rattle.kp_timing.specs.Unfit.{untimed}
-use Rattle.kp_tool_words.specs.declared.words.JobCommand.{JobCommand, TheVariants.Seq, TheVariants.Check, TheVariants.Sim, TheVariants.Timing, TheVariants.Pipe}
-use Rattle.kp_tool_words.specs.declared.words.Command.TheVariants.{OnJob, Read, Watch}
+use Rattle.kp_words.specs.declared.commands.JobCommand.{JobCommand, TheVariants.Seq, TheVariants.Check, TheVariants.Sim, TheVariants.Timing, TheVariants.Pipe}
+use Rattle.kp_words.specs.declared.commands.Command.TheVariants.{OnJob, Read, Watch}
 use Rattle.kp_tool_report.specs.{States.sequential_text, States.text_after, Runs.run_text, Runs.sim_text, Runs.counts_behind}
 use Rattle.kp_tool_report.proofs.Sims.{rows_many}
 use Rattle.kp_tool.specs.{Due.DueFor, Due.DueOfJob, Due.DueOfTiming, Read.ReadsVerilog, Refused.Breaks, Refused.own_rule}

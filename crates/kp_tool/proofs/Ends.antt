@@ -4,7 +4,7 @@ use Rattle.std.specs.declared.{option.Option.Option, result.Result.Result}
 use Rattle.kp_base.specs.declared.refusal.{Refusal.Refusal, Refused.Refused}
 use Rattle.kp_base.specs.declared.refusal.Refused.TheVariants as refused
 use Rattle.kp_ast.specs.declared.tree.Job.{Job}
-use Rattle.kp_tool_words.specs.declared.words.{Command.TheVariants.OnJob, JobCommand.JobCommand, JobCommand.TheVariants.Timing}
+use Rattle.kp_words.specs.declared.commands.{Command.TheVariants.OnJob, JobCommand.JobCommand, JobCommand.TheVariants.Timing}
 use Rattle.kp_frontend.specs.{Judging.JudgesText, Judging.JudgesHeadText, Accepting.AnswersText, Accepting.AnswersHead}
 use Rattle.kp_vlog.specs.Verdict.{AnswersNet}
 use Rattle.kp_timing.specs.{Unfit.untimed, Lines.timing_text}

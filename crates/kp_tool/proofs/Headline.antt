@@ -17,8 +17,8 @@ use Rattle.kp_sched.specs.{Shows.Shows, Traces.inputs_seen, Traces.trace_of, Tra
 use Rattle.kp_sched.proofs.{Runs.alike_is_legal, Runs.alike_moves, Runs.alike_stays, Legal.alike_is_legal_from}
 use Rattle.kp_frontend.specs.Judging.{Judges, broken_in, JudgesHead, Judges.within, JudgesText.accepted as no_rule_broken, JudgesHeadText.head_accepted}
 use Rattle.kp_frontend.specs.Judging.JudgesHead.{head_within}
-use Rattle.kp_tool_words.specs.declared.words.JobCommand.TheVariants.{Sim, Vcd, Timing, Pipe}
-use Rattle.kp_tool_words.specs.declared.words.Command.TheVariants.{OnJob, Watch, Compare, Debug, Generate}
+use Rattle.kp_words.specs.declared.commands.JobCommand.TheVariants.{Sim, Vcd, Timing, Pipe}
+use Rattle.kp_words.specs.declared.commands.Command.TheVariants.{OnJob, Watch, Compare, Debug, Generate}
 use Rattle.kp_tool_report.{specs.Runs.sim_text, proofs.Sims.rows_many}
 use Rattle.kp_gen.specs.Generated.{gen_job}
 use Rattle.kp_gen.proofs.Unbroken.{generated_unbroken}

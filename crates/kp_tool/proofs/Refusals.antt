@@ -3,9 +3,9 @@ use Rattle.std.proofs.Common.{ap, sym, ◌≡◌, ℕ, List, Some, None, Ok, Err
 use Rattle.std.specs.declared.{option.Option.Option, result.Result.Result}
 use Rattle.kp_base.specs.declared.refusal.Refusal.{Refusal}
 use Rattle.kp_ast.specs.declared.tree.Job.{Job}
-use Rattle.kp_tool_words.specs.declared.words.Command.{Command}
-use Rattle.kp_tool_words.specs.declared.words.Command.TheVariants.{OnJob, Assemble, Read, Watch, Compare, Debug, Generate}
-use Rattle.kp_tool_words.specs.declared.words.JobCommand.{JobCommand, TheVariants.Timing}
+use Rattle.kp_words.specs.declared.commands.Command.{Command}
+use Rattle.kp_words.specs.declared.commands.Command.TheVariants.{OnJob, Assemble, Read, Watch, Compare, Debug, Generate}
+use Rattle.kp_words.specs.declared.commands.JobCommand.{JobCommand, TheVariants.Timing}
 use Rattle.kp_frontend.proofs.Verdicts.{one_verdict, one_head}
 use Rattle.kp_net.specs.Netlist.{Net}
 use Rattle.kp_tool_report.specs.Texts.{refusal_line}

@@ -3,10 +3,10 @@ use Rattle.std.proofs.Common.{◌≡◌, ◌⊎◌, ℕ, List, Ok, Err, Some, No
 use Rattle.std.specs.declared.{option.Option.Option, result.Result.Result}
 use Rattle.kp_base.specs.declared.refusal.Refusal.{Refusal}
 use Rattle.kp_ast.specs.declared.tree.Job.{Job}
-use Rattle.kp_tool_words.specs.declared.words.Command.{Command}
-use Rattle.kp_tool_words.specs.declared.words.Command.TheVariants.{OnJob, Assemble, Read, Watch, Compare, Debug, Generate}
-use Rattle.kp_tool_words.specs.declared.words.JobCommand.{JobCommand}
-use Rattle.kp_tool_words.specs.declared.words.JobCommand.TheVariants.{Seq, Check, Sim, Pipe, Vcd, Timing}
+use Rattle.kp_words.specs.declared.commands.Command.{Command}
+use Rattle.kp_words.specs.declared.commands.Command.TheVariants.{OnJob, Assemble, Read, Watch, Compare, Debug, Generate}
+use Rattle.kp_words.specs.declared.commands.JobCommand.{JobCommand}
+use Rattle.kp_words.specs.declared.commands.JobCommand.TheVariants.{Seq, Check, Sim, Pipe, Vcd, Timing}
 use Rattle.kp_net.specs.Netlist.{Net}
 use Rattle.kp_timing.specs.Unfit.{untimed}
 use Rattle.kp_equiv.specs.declared.verdict.Verdict.TheVariants.{Same, Differs}

@@ -2,7 +2,7 @@
 use Rattle.std.proofs.Common.{◌∙◌, ◌≡◌, ℕ, List, ◌++◌, Some, Ok, Err, ap, sym, subst, arith}
 use Rattle.kp_ast.specs.declared.tree.Job.{Job}
 use Rattle.kp_frontend.{specs.Judging.Judges, specs.Judging.JudgesText, specs.Judging.Judges.within, proofs.Verdicts.one_verdict}
-use Rattle.kp_tool_words.specs.declared.words.{JobCommand.TheVariants.Sim, JobCommand.TheVariants.Pipe, Command.TheVariants.OnJob, Command.TheVariants.Watch}
+use Rattle.kp_words.specs.declared.commands.{JobCommand.TheVariants.Sim, JobCommand.TheVariants.Pipe, Command.TheVariants.OnJob, Command.TheVariants.Watch}
 use Rattle.kp_tool_report.specs.Runs.{sim_text}
 use Rattle.kp_tool.specs.{Due.DueFor, Agreeing.IsWatched}
 use Rattle.kp_tool.proofs.{Headline.judged_unbroken, Heads.EndsLine, Heads.ends_line, Watches.watched}

@@ -7,8 +7,8 @@ use Rattle.kp_machine.specs.Machine.{machine_of, sequential, values_in}
 use Rattle.kp_net.specs.Netlist.{Net}
 use Rattle.kp_sched.specs.{Runs.passes, Shows.IsOfJob}
 use Rattle.kp_equiv.specs.Showing.{ShowsButName}
-use Rattle.kp_tool_words.specs.declared.words.{Command.TheVariants.OnJob, Command.TheVariants.Read, Command.TheVariants.Watch, JobCommand.JobCommand}
-use Rattle.kp_tool_words.specs.declared.words.JobCommand.TheVariants.{Seq, Sim}
+use Rattle.kp_words.specs.declared.commands.{Command.TheVariants.OnJob, Command.TheVariants.Read, Command.TheVariants.Watch, JobCommand.JobCommand}
+use Rattle.kp_words.specs.declared.commands.JobCommand.TheVariants.{Seq, Sim}
 use Rattle.kp_frontend.specs.Judging.{Judges, JudgesHead, most_bytes}
 use Rattle.kp_watch.specs.{Watching.IsFirstDifference, Dumps.own_run}
 use Rattle.kp_tool_report.specs.{Texts.accepted_line, States.text_after, Runs.run_text, Runs.counts_behind}

@@ -5,11 +5,11 @@ use Rattle.kp_base.specs.{Bytes.AppendsPart, declared.refusal.Refusal.Refusal}
 use Rattle.kp_ast.specs.declared.tree.Job.{Job}
 use Rattle.kp_stage.specs.Counts.{summary_of}
 use Rattle.kp_asm.specs.{Image.image_text_of, Program.assembled}
-use Rattle.kp_tool_words.specs.declared.words.Command.{Command}
-use Rattle.kp_tool_words.specs.declared.words.Command.TheVariants.{OnJob, Assemble, Read, Watch, Compare, Debug, Generate}
-use Rattle.kp_tool_words.specs.declared.words.JobCommand.{JobCommand}
-use Rattle.kp_tool_words.specs.declared.words.JobCommand.TheVariants.{Seq, Check, Sim, Pipe, Vcd, Timing}
-use Rattle.kp_tool_words.specs.Words.{command_of, reads_input}
+use Rattle.kp_words.specs.declared.commands.Command.{Command}
+use Rattle.kp_words.specs.declared.commands.Command.TheVariants.{OnJob, Assemble, Read, Watch, Compare, Debug, Generate}
+use Rattle.kp_words.specs.declared.commands.JobCommand.{JobCommand}
+use Rattle.kp_words.specs.declared.commands.JobCommand.TheVariants.{Seq, Check, Sim, Pipe, Vcd, Timing}
+use Rattle.kp_words.specs.Commands.{command_of, reads_input}
 use Rattle.kp_frontend.specs.Judging.{Judges, too_long}
 use Rattle.kp_tool_report.specs.{Texts.bad_words, Texts.refusal_line, Texts.accepted_line, States.sequential_text, Runs.sim_text}
 use Rattle.kp_tool_report.specs.Line.{gen_text}

@@ -2,9 +2,9 @@
 use Rattle.std.specs.Prelude.{◌≡◌, ◌⊎◌, ◌<◌, ℕ, List, length, Option, Some, None, Ok, Err}
 use Rattle.kp_base.specs.declared.refusal.Refusal.{Refusal}
 use Rattle.kp_ast.specs.declared.tree.Job.{Job}
-use Rattle.kp_tool_words.specs.declared.words.Command.{Command}
-use Rattle.kp_tool_words.specs.declared.words.Command.TheVariants.{OnJob, Assemble, Read, Watch, Compare, Debug, Generate}
-use Rattle.kp_tool_words.specs.declared.words.JobCommand.{JobCommand, TheVariants.Timing}
+use Rattle.kp_words.specs.declared.commands.Command.{Command}
+use Rattle.kp_words.specs.declared.commands.Command.TheVariants.{OnJob, Assemble, Read, Watch, Compare, Debug, Generate}
+use Rattle.kp_words.specs.declared.commands.JobCommand.{JobCommand, TheVariants.Timing}
 use Rattle.kp_frontend.specs.Judging.{Judges, JudgesHead, most_bytes, too_long}
 use Rattle.kp_timing.specs.Unfit.{untimed}
 use Rattle.kp_debug_script.specs.Scripts.{script_of}

@@ -1,6 +1,6 @@
 // `asm`: the image section of an assembler program.
 ghost use Rattle.std.specs.Prelude.{◌≤◌, length, Some};
-ghost use Rattle.kp_tool_words.specs.declared.words.Command.TheVariants.{Assemble};
+ghost use Rattle.kp_words.specs.declared.commands.Command.TheVariants.{Assemble};
 ghost use Rattle.kp_tool.specs.{Due.DueFor, Ends.Ends};
 
 use crate::failure::Failure;

@@ -1,6 +1,6 @@
 // `check`: the numbers of a job that violates no rule.
 ghost use Rattle.kp_stage.specs.Counts.{summary_of};
-ghost use Rattle.kp_tool_words.specs.declared.words.JobCommand.TheVariants.{Check};
+ghost use Rattle.kp_words.specs.declared.commands.JobCommand.TheVariants.{Check};
 ghost use Rattle.kp_tool_report.specs.Texts.{accepted_line};
 ghost use Rattle.kp_tool.specs.{Due.DueOfJob, Ends.Ends};
 

@@ -1,6 +1,6 @@
 // The list of commands.
 ghost use Rattle.std.specs.Prelude.{◌≤◌, length, Some};
-ghost use Rattle.kp_tool_words.specs.declared.words.Command.TheVariants.{OnJob};
+ghost use Rattle.kp_words.specs.declared.commands.Command.TheVariants.{OnJob};
 ghost use Rattle.kp_tool.specs.{Due.DueFor, Due.DueOfJob, Ends.Ends};
 
 use crate::asm::asm;
@@ -18,7 +18,7 @@ use crate::vcd::vcd;
 use crate::watch::watch;
 use kp_base::Sink;
 use kp_frontend::{Accepted, judge};
-use kp_tool_words::{Command, JobCommand};
+use kp_words::{Command, JobCommand};
 use std::alloc::Global;
 
 /// Carries out a command on an input of at most 16 MiB. Nothing is written if it violates a rule: the line of the rule is left to the caller.

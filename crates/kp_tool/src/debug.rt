@@ -3,8 +3,8 @@ ghost use Rattle.std.specs.Prelude.{◌≤◌, length, IfOk, Ok, Some};
 ghost use Rattle.kp_base.specs.Check.{Gives};
 ghost use Rattle.kp_sched.specs.Shows.{Shows};
 ghost use Rattle.kp_debug_script.specs.Scripts.{script_of};
+ghost use Rattle.kp_words.specs.declared.commands.Command.TheVariants.{Debug};
 ghost use Rattle.kp_debug_report.specs.Inspecting.{printed, whole_run, AreOfJob};
-ghost use Rattle.kp_tool_words.specs.declared.words.Command.TheVariants.{Debug};
 ghost use Rattle.kp_tool.specs.{Due.DueFor, Scripted.DueOfScriptHead, Ends.Ends, inner.OfJob.of_targets-prop};
 
 use crate::failure::Failure;

@@ -1,7 +1,7 @@
 // `equiv`: the comparison of two netlists of a job.
 ghost use Rattle.std.specs.Prelude.{◌≡◌, ◌≤◌, length, IfOk, Ok, Some};
+ghost use Rattle.kp_words.specs.declared.commands.Command.TheVariants.{Compare};
 ghost use Rattle.kp_equiv.specs.Verdicts.{IsComparable};
-ghost use Rattle.kp_tool_words.specs.declared.words.Command.TheVariants.{Compare};
 ghost use Rattle.kp_tool.specs.{Due.DueFor, Compared.DueOfPair, Compared.DueOfPairHead, Compared.verdict_status, Ends.Ends};
 
 use crate::failure::Failure;

@@ -2,11 +2,10 @@
 ghost use Rattle.std.specs.Prelude.{◌≡◌, ℕ, List, Some};
 ghost use Rattle.kp_base.specs.declared.refusal.Refusal.{Refusal};
 ghost use Rattle.kp_sched.specs.{Runs.IsLegal, Legal.IsLegalFrom};
+ghost use Rattle.kp_words.specs.{declared.commands.Command.Command, Commands.command_of};
+ghost use Rattle.kp_words.specs.declared.commands.Command.TheVariants.{OnJob, Watch, Compare, Debug, Generate};
+ghost use Rattle.kp_words.specs.declared.commands.JobCommand.TheVariants.{Check, Sim, Vcd, Timing, Pipe};
 ghost use Rattle.kp_tool_report.specs.Texts.{refusal_line};
-ghost use Rattle.kp_tool_words.specs.declared.words.Command.{Command};
-ghost use Rattle.kp_tool_words.specs.declared.words.Command.TheVariants.{OnJob, Watch, Compare, Debug, Generate};
-ghost use Rattle.kp_tool_words.specs.declared.words.JobCommand.TheVariants.{Check, Sim, Vcd, Timing, Pipe};
-ghost use Rattle.kp_tool_words.specs.Words.{command_of};
 ghost use Rattle.kp_tool.specs.{Due.Due, Due.DueFor, Agreeing.IsSequential, Agreeing.IsChecked, Agreeing.IsFaulty, Agreeing.IsReadBack, Agreeing.IsWatched};
 ghost use Rattle.kp_tool.specs.Headline.{IsMoving, HasNoNeedlessStall, HasNoNeedlessStallFrom, IsVerilogWith, IsRunWith, IsDumpedWith, IsGeneratedWith, IsTimed, IsDebuggedWith, IsNetlistWith, IsPairAlike, IsImplementation, IsPairWith};
 ghost use Rattle.kp_tool.specs.Refused.{Breaks};

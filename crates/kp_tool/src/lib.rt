@@ -30,11 +30,10 @@ ghost use Rattle.std.specs.Prelude.{◌≡◌, ◌≢◌, ◌++◌, map, string_
 ghost use Rattle.kp_base.specs.Causes.{Rose};
 ghost use Rattle.kp_base.specs.Refusal.{e_rule};
 ghost use Rattle.kp_base.specs.declared.refusal.Refusal.{Refusal};
-ghost use Rattle.kp_tool_words.specs.Words.{command_of, reads_input};
-ghost use Rattle.kp_tool_words.specs.declared.words.Command.{Command};
-ghost use Rattle.kp_tool_words.specs.declared.words.Command.TheVariants.{OnJob, Watch, Compare, Debug, Generate};
-ghost use Rattle.kp_tool_words.specs.declared.words.JobCommand.TheVariants.{Check, Sim, Vcd, Timing, Pipe};
 ghost use Rattle.kp_sched.specs.{Runs.IsLegal, Legal.IsLegalFrom};
+ghost use Rattle.kp_words.specs.{Commands.command_of, Commands.reads_input, declared.commands.Command.Command};
+ghost use Rattle.kp_words.specs.declared.commands.Command.TheVariants.{OnJob, Watch, Compare, Debug, Generate};
+ghost use Rattle.kp_words.specs.declared.commands.JobCommand.TheVariants.{Check, Sim, Vcd, Timing, Pipe};
 ghost use Rattle.kp_tool_report.specs.Texts.{refusal_line};
 ghost use Rattle.kp_tool.specs.{Saying.Says, Due.Due, Due.IsDue, Due.IsFinal, Due.Completes, Due.Begins, Due.Between, Refused.Breaks, Ends.Ends, Ends.EndsAt};
 ghost use Rattle.kp_tool.specs.Headline.{IsMoving, HasNoNeedlessStall, HasNoNeedlessStallFrom, IsVerilogWith, IsRunWith, IsDumpedWith, IsGeneratedWith, IsTimed, IsDebuggedWith, IsNetlistWith, IsPairAlike, IsImplementation, IsPairWith};
@@ -46,7 +45,7 @@ use crate::failure::{Failure, Stop};
 use crate::outcome::{BadWords, finish};
 use kp_base::{Place, ReadAll, Refusal, Sink, Source, read_all};
 use kp_tool_report::write_refusal;
-use kp_tool_words::Command;
+use kp_words::Command;
 use std::alloc::Global;
 
 /// Carries out a command line: reads the source if the command needs it, writes the text to the sink and returns the status. The status is 3 for a

@@ -1,7 +1,7 @@
 // `pipe`: the pipelined machine of a job, as Verilog.
 ghost use Rattle.std.specs.Prelude.{IfOk};
+ghost use Rattle.kp_words.specs.declared.commands.JobCommand.TheVariants.{Pipe};
 ghost use Rattle.kp_vlog.specs.Canon.{canon};
-ghost use Rattle.kp_tool_words.specs.declared.words.JobCommand.TheVariants.{Pipe};
 ghost use Rattle.kp_tool.specs.{Due.DueOfJob, Written.IsVerilogOf, Ends.Ends};
 
 use crate::failure::Failure;

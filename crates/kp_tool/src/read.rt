@@ -1,6 +1,6 @@
 // `read`: the netlist that a Verilog text denotes.
 ghost use Rattle.std.specs.Prelude.{◌≤◌, length, Some};
-ghost use Rattle.kp_tool_words.specs.declared.words.Command.TheVariants.{Read};
+ghost use Rattle.kp_words.specs.declared.commands.Command.TheVariants.{Read};
 ghost use Rattle.kp_tool.specs.{Due.DueFor, Ends.Ends};
 
 use crate::failure::Failure;

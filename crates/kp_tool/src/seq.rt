@@ -2,11 +2,11 @@
 ghost use Rattle.std.specs.Prelude.{◌≡◌, ◌<◌, ◌^◌, ℕ, length, IfOk, OnOk};
 ghost use Rattle.kp_pipeline.specs.Sequential.{seq as runs};
 ghost use Rattle.kp_stage.specs.Start.{AreSamples, input};
-ghost use Rattle.kp_frontend.specs.Feeds.{row_in};
 ghost use Rattle.kp_machine.specs.Machine.{machine_of, sequential, values_in};
 ghost use Rattle.kp_machine.specs.Slots.{targets_of};
 ghost use Rattle.kp_seq.specs.Running.{state};
-ghost use Rattle.kp_tool_words.specs.declared.words.JobCommand.TheVariants.{Seq};
+ghost use Rattle.kp_words.specs.declared.commands.JobCommand.TheVariants.{Seq};
+ghost use Rattle.kp_frontend.specs.Feeds.{row_in};
 ghost use Rattle.kp_tool_report.specs.States.{text_after};
 ghost use Rattle.kp_tool.specs.{Due.DueOfJob, Ends.Ends};
 

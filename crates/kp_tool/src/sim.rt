@@ -1,8 +1,8 @@
 // `sim N`: a run of the pipelined machine of a job.
 ghost use Rattle.std.specs.Prelude.{◌≡◌, IfOk};
 ghost use Rattle.kp_sched.specs.Rows.{rows_seen};
+ghost use Rattle.kp_words.specs.declared.commands.JobCommand.TheVariants.{Sim};
 ghost use Rattle.kp_run.specs.Boards.{due_behind};
-ghost use Rattle.kp_tool_words.specs.declared.words.JobCommand.TheVariants.{Sim};
 ghost use Rattle.kp_tool_report.specs.Runs.{run_text, sim_text};
 ghost use Rattle.kp_tool.specs.{Due.DueOfJob, Ends.Ends};
 

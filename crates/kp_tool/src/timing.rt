@@ -1,6 +1,6 @@
 // `timing N`: the timeline of a job without guesses and samples.
+ghost use Rattle.kp_words.specs.declared.commands.JobCommand.TheVariants.{Timing as Timed};
 ghost use Rattle.kp_timing.specs.Lines.{timing_text};
-ghost use Rattle.kp_tool_words.specs.declared.words.JobCommand.TheVariants.{Timing as Timed};
 ghost use Rattle.kp_tool.specs.{Due.DueOfJob, Ends.Ends};
 
 use crate::failure::Failure;

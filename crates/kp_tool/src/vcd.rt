@@ -1,8 +1,8 @@
 // `vcd N`: the value changes of the pipelined machine of a job.
 ghost use Rattle.std.specs.Prelude.{◌≡◌, IfOk};
+ghost use Rattle.kp_words.specs.declared.commands.JobCommand.TheVariants.{Vcd};
 ghost use Rattle.kp_vcd.specs.Text.{dump_text};
 ghost use Rattle.kp_watch.specs.Dumps.{vcd_text};
-ghost use Rattle.kp_tool_words.specs.declared.words.JobCommand.TheVariants.{Vcd};
 ghost use Rattle.kp_tool.specs.{Due.DueOfJob, Ends.Ends};
 
 use crate::failure::Failure;

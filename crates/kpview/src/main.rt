@@ -7,7 +7,7 @@ mod output;
 use kp_base::{StdSink, StdSource};
 use kp_view::view;
 use kp_view_explain::{HELP, Order, asks_help, explain_source};
-use kp_view_words::Request;
+use kp_words::Request;
 use output::Output;
 use std::alloc::AllocError;
 use std::env::Env;

@@ -1,6 +1,6 @@
 use Rattle.std.proofs.{Common.◌∙◌, Common.Some, Common.ap, lemmas.Result.err_from_is_err_and}
 use Rattle.kp_asm.specs.Image.{image_text_of}
-use Rattle.kp_tool_words.specs.declared.words.Command.TheVariants.{Assemble}
+use Rattle.kp_words.specs.declared.commands.Command.TheVariants.{Assemble}
 use Rattle.kp_tool.specs.Due.{DueFor}
 use Rattle.kp_tool.proofs.{Ends.said, Programs.program_is_due, Programs.refused_program}
 use Rattle.kp_tool.proofs.asm.asm.Goals as goal

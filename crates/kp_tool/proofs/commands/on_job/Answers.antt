@@ -1,5 +1,5 @@
 use Rattle.std.proofs.{Common.Some, lemmas.Result.err_from_is_err_and}
-use Rattle.kp_tool_words.specs.declared.words.Command.TheVariants.{OnJob}
+use Rattle.kp_words.specs.declared.commands.Command.TheVariants.{OnJob}
 use Rattle.kp_tool.specs.Due.{DueFor}
 use Rattle.kp_tool.proofs.{Dues.refused_is_due, Ends.refused_job, Ends.accepted_job}
 use Rattle.kp_tool.proofs.commands.on_job.Goals as goal

@@ -1,5 +1,5 @@
 use Rattle.std.proofs.{Common.Ok, Common.Some, lemmas.Result.err_from_is_err_and}
-use Rattle.kp_tool_words.specs.declared.words.Command.TheVariants.{Debug}
+use Rattle.kp_words.specs.declared.commands.Command.TheVariants.{Debug}
 use Rattle.kp_tool.specs.{Due.DueFor, Scripted.DueOfScriptHead}
 use Rattle.kp_tool.proofs.{Dues.script_head_refused_is_due, Dues.script_is_due, Ends.refused_head, Ends.wider}
 use Rattle.kp_tool.proofs.debug.debug.Goals as goal

@@ -1,6 +1,6 @@
 use Rattle.std.proofs.{Common.ℕ, Common.◌≤◌, Common.List, Common.length, Common.Ok, Common.Some, lemmas.Result.err_from_is_err_and}
 use Rattle.kp_ast.specs.declared.tree.Job.{Job}
-use Rattle.kp_tool_words.specs.declared.words.Command.TheVariants.{Compare}
+use Rattle.kp_words.specs.declared.commands.Command.TheVariants.{Compare}
 use Rattle.kp_frontend.specs.Judging.{JudgesHeadText}
 use Rattle.kp_tool.specs.{Due.DueFor, Compared.DueOfPairHead}
 use Rattle.kp_tool.proofs.{Dues.pair_head_refused_is_due, Dues.pair_head_accepted_is_due, Ends.refused_head, Ends.wider}

@@ -1,5 +1,5 @@
 use Rattle.std.proofs.Common.{Some}
-use Rattle.kp_tool_words.specs.declared.words.Command.TheVariants.{Read}
+use Rattle.kp_words.specs.declared.commands.Command.TheVariants.{Read}
 use Rattle.kp_tool.specs.Due.{DueFor}
 use Rattle.kp_tool.proofs.{Dues.denoted_is_due, Dues.misread_is_due, Ends.said, Ends.misread}
 use Rattle.kp_tool.proofs.read.read.Goals as goal

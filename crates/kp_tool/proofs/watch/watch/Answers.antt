@@ -1,6 +1,6 @@
 use Rattle.std.proofs.{Common.ℕ, Common.◌≤◌, Common.List, Common.length, Common.Ok, Common.Some, lemmas.Result.err_from_is_err_and}
 use Rattle.kp_ast.specs.declared.tree.Job.{Job}
-use Rattle.kp_tool_words.specs.declared.words.Command.TheVariants.{Watch}
+use Rattle.kp_words.specs.declared.commands.Command.TheVariants.{Watch}
 use Rattle.kp_frontend.specs.Judging.{JudgesHeadText}
 use Rattle.kp_tool.specs.{Due.DueFor, Watched.DueOfHead}
 use Rattle.kp_tool.proofs.{Dues.head_refused_is_due, Dues.head_accepted_is_due, Ends.refused_head, Ends.wider}

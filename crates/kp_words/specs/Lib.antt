@@ -1,0 +1,5 @@
+pub mod Commands
+pub mod Words
+pub mod Asked
+pub mod Texts
+pub mod inner
