@@ -4,9 +4,8 @@ use Rattle.kp_base.specs.{Place.place_after, Refusal.e_rule, declared.place.Plac
 use Rattle.kp_base.specs.Grammar.{IsSentence, IsWrongAt, IsWithin, IsOverAt}
 use Rattle.kp_base.specs.declared.refusal.Refused.TheVariants as refused
 use Rattle.kp_ast.specs.declared.tree.Job.{Job}
-use Rattle.kp_lex.specs.declared.token.Token.{Token}
+use Rattle.kp_parse_grammar.specs.{declared.token.Token.Token, Tokens.lexemes, Language.JOB, Language.language, Language.job, Language.at, Language.is_over}
 use Rattle.kp_parse.specs.declared.job.Parsed.{Parsed}
-use Rattle.kp_parse_grammar.specs.{Tokens.lexemes, Language.JOB, Language.language, Language.job, Language.at, Language.is_over}
 
 -- The tokens are a sentence of the language, and this job is its tree; no nesting count exceeds the limit.
 abbrev pub IsTree : List ℕ → List Token → Job → Type 0

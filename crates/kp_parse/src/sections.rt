@@ -9,8 +9,7 @@ ghost use Rattle.kp_parse.specs.inner.Stretches.{value_symbols, cycle_symbols};
 use crate::declaration::bracketed;
 use kp_ast::{Image, Inputs, Lit, Num, Stalls};
 use kp_base::List;
-use kp_lex::{Keyword, Mark};
-use kp_parse_grammar::{Fault, Tokens};
+use kp_parse_grammar::{Fault, Keyword, Mark, Tokens};
 use std::alloc::Global;
 
 /// The image section, if it is present, and the number of the next token.

@@ -3,15 +3,14 @@ use Rattle.std.proofs.Common.{ℕ, ◌≡◌, ◌==◌, ◌<◌, ◌≤◌, ◌+
 use Rattle.std.{proofs.lemmas.List.drop_more, proofs.lemmas.List.drop-map, proofs.lemmas.Bool.eqb-true, specs.Prelude.slice_index_or}
 use Rattle.kp_base.specs.{Grammar.Terminal, GrammarMachine.Stops, GrammarMachine.look, GrammarMachine.wrong}
 use Rattle.kp_base.proofs.Ways.{took}
-use Rattle.kp_lex.specs.declared.token.{Token.Token, TokenKind.TokenKind}
-use Rattle.kp_lex.specs.declared.token.Keyword.TheVariants as keywords
-use Rattle.kp_lex.specs.declared.token.Mark.TheVariants as marks
-use Rattle.kp_lex.specs.declared.token.TokenKind.TheVariants as kinds
-use Rattle.kp_bits.specs.declared.literal.Literal.{Literal}
-use Rattle.kp_parse_grammar.specs.Tokens.{Lexeme, lexeme_of, lexemes, kind_class, IDENTIFIER, named_of}
-use Rattle.kp_parse_grammar.specs.inner.Follow.{tables}
+use Rattle.kp_parse_grammar.specs.declared.token.{Token.Token, TokenKind.TokenKind}
+use Rattle.kp_parse_grammar.specs.{Tokens.Lexeme, Tokens.lexeme_of, Tokens.lexemes, Tokens.kind_class, Tokens.IDENTIFIER, Tokens.named_of, inner.Follow.tables}
 use Rattle.kp_parse_grammar.specs.Language.{Sym, State, Way, NAME, NUM, LIT, named, number, literal, language, is_over}
 use Rattle.kp_parse_grammar.specs.Reading.{Goes, class_at, Finds, Turns}
+use Rattle.kp_parse_grammar.specs.declared.token.Keyword.TheVariants as keywords
+use Rattle.kp_parse_grammar.specs.declared.token.Mark.TheVariants as marks
+use Rattle.kp_parse_grammar.specs.declared.token.TokenKind.TheVariants as kinds
+use Rattle.kp_bits.specs.declared.literal.Literal.{Literal}
 
 -- the bytes of a token from its start to its end
 same_span : (a b : ℕ) → (a + b) - a ≡ b

@@ -9,11 +9,10 @@ use Rattle.kp_ast.specs.declared.tree.ExprKind.TheVariants as leaves
 use Rattle.kp_ast.specs.declared.tree.ExprKind.TheViews as expressions
 use Rattle.kp_ast.specs.declared.tree.StmtKind.TheVariants as statements
 use Rattle.kp_ast.specs.declared.tree.Decl.TheVariants as declarations
-use Rattle.kp_lex.specs.declared.token.{Keyword.Keyword, Mark.Mark}
-use Rattle.kp_lex.specs.declared.token.Keyword.TheVariants as keywords
-use Rattle.kp_lex.specs.declared.token.Mark.TheVariants as marks
-use Rattle.kp_parse_grammar.specs.declared.level.Level.{Level}
+use Rattle.kp_parse_grammar.specs.declared.{token.Keyword.Keyword, token.Mark.Mark, level.Level.Level}
 use Rattle.kp_parse_grammar.specs.Tokens.{Lexeme, IDENTIFIER, NUMBER, LITERAL, keyword_class, mark_class, kind_class, named_of, number_of, literal_of}
+use Rattle.kp_parse_grammar.specs.declared.token.Keyword.TheVariants as keywords
+use Rattle.kp_parse_grammar.specs.declared.token.Mark.TheVariants as marks
 use Rattle.kp_parse_grammar.specs.declared.level.Level.TheVariants as levels
 
 -- what has been read and built

@@ -1,3 +1,5 @@
+pub mod Words
+pub mod Text
 pub mod Tokens
 pub mod Language
 pub mod Reading

@@ -6,11 +6,11 @@ use Rattle.std.proofs.lemmas.List.{get_or-set_same, get_or-set_other, get_or_pas
 use Rattle.std.specs.{Prelude.find, Prelude.slice_get, Prelude.◌↔◌, List.position_or_len}
 use Rattle.kp_base.specs.{declared.place.Place.Place, Grammar.Nonterminal}
 use Rattle.kp_base.proofs.{Derivations.is_accepted, Derivations.no_limit, Prefix.after}
-use Rattle.kp_lex.specs.declared.token.Keyword.TheVariants as keywords
-use Rattle.kp_lex.specs.declared.token.Mark.TheVariants as marks
-use Rattle.kp_lex.specs.declared.token.{TokenKind.TokenKind, Token.Token}
-use Rattle.kp_lex.specs.declared.token.TokenKind.TheVariants as kinds
-use Rattle.kp_parse_grammar.specs.{Tokens.Lexeme, Tokens.lexemes, Language.JOB, Language.at, inner.Follow.tables}
+use Rattle.kp_parse_grammar.specs.declared.token.Keyword.TheVariants as keywords
+use Rattle.kp_parse_grammar.specs.declared.token.Mark.TheVariants as marks
+use Rattle.kp_parse_grammar.specs.{declared.token.TokenKind.TokenKind, declared.token.Token.Token, Tokens.Lexeme, Tokens.lexemes, Language.JOB, Language.at}
+use Rattle.kp_parse_grammar.specs.inner.Follow.{tables}
+use Rattle.kp_parse_grammar.specs.declared.token.TokenKind.TheVariants as kinds
 use Rattle.kp_view_expected.specs.declared.{token_class.TokenClass.TokenClass, set.Expected.Expected}
 use Rattle.kp_view_expected.specs.GoesOn.{class_of, GoesOn, all_classes, Lists}
 use Rattle.kp_view_expected.specs.inner.Plain.{Plain, number, plain, Steps, Runs, IsAnswer, Follows, Fails, IsListing}

@@ -6,8 +6,7 @@ use Rattle.std.proofs.lemmas.List.{drop_all, drop_more, length-map, map-append, 
 use Rattle.kp_base.specs.Grammar.{Terminal, Nonterminal, Has, here, there, alternatives, stay, expand, read}
 use Rattle.kp_base.specs.{Tables.among, Tables.firsts, Tables.pick, GrammarMachine.goes, GrammarMachine.take}
 use Rattle.kp_base.proofs.{TableTests.picks_rule, Prefix.after}
-use Rattle.kp_lex.specs.declared.token.Token.{Token}
-use Rattle.kp_parse_grammar.specs.inner.Follow.{tables}
+use Rattle.kp_parse_grammar.specs.{declared.token.Token.Token, inner.Follow.tables}
 use Rattle.kp_view_expected.specs.inner.Plain.{Plain, is_solid, name, number, plain, plain_symbol, stack, Runs, Opens, Refuses, Decides, IsAnswer, Follows}
 use Rattle.kp_view_expected.specs.declared.{token_class.TokenClass.TokenClass, part.Part.Part, part.Symbol.Symbol as CodeSymbol}
 use Rattle.kp_view_expected.{specs.GoesOn.class_of, proofs.Tests.choose_or, proofs.Tests.chosen, proofs.Tests.lighter, proofs.Tests.solid, proofs.Tests.work}

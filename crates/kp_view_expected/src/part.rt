@@ -6,7 +6,7 @@ ghost use Rattle.kp_view_expected.specs.inner.Plain.{name, number, plain, plain_
 
 use self::Symbol::Inner;
 use crate::token_class::TokenClass;
-use kp_lex::{Keyword, Mark};
+use kp_parse_grammar::{Keyword, Mark};
 
 /// A part of a description, with its alternatives.
 #[derive(Clone, Copy)]

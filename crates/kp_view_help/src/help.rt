@@ -2,7 +2,7 @@
 use crate::found::FoundToken;
 use crate::phrase::{Term, Terms, write_phrase};
 use crate::word::Word;
-use kp_lex::Mark;
+use kp_parse_grammar::Mark;
 use kp_view_expected::{Expected, TokenClass};
 use std::fmt;
 

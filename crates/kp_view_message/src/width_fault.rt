@@ -1,5 +1,5 @@
 // A wrong width.
-use kp_lex::Mark;
+use kp_parse_grammar::Mark;
 use kp_view_expected::TokenClass;
 use kp_view_help::{Help, Kind, Term, Terms, Word};
 

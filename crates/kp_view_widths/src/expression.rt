@@ -7,7 +7,7 @@ use crate::names::{Names, Position};
 use kp_ast::{Expr, ExprKind, Name, Num, Param};
 use kp_base::{NoMemory, Place};
 use kp_bits::BinOp;
-use kp_lex::Mark;
+use kp_parse_grammar::Mark;
 use kp_view_findings::Findings;
 use kp_view_help::{Wanted, Word};
 use kp_view_message::{Goal, Message, WidthFault};
