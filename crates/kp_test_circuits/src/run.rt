@@ -51,17 +51,27 @@ fn add_cycles(report: &mut Report, alloc: Global, sim: &mut Sim<'_>, lines: &[u8
     while !rest.is_empty() {
         let (text, after) = cut(rest, b'\n');
         rest = after;
-        let line = Line(text);
-        let is_reset = line.word(0) == b"reset-cycle".as_slice();
-        if is_reset || line.word(0) == b"cycle".as_slice() {
-            let Some(row) = cycle(alloc, sim, line, is_reset) else {
-                report.add(&[Term::Text(b"refused\n")]);
-                return;
-            };
+        if !add_line(report, alloc, sim, Line(text)) {
+            return;
+        }
+    }
+}
+
+// Runs the cycle of a line, if it is one. Returns whether the line is well-formed.
+fn add_line(report: &mut Report, alloc: Global, sim: &mut Sim<'_>, line: Line<'_>) -> bool {
+    let is_reset = line.word(0) == b"reset-cycle".as_slice();
+    if !is_reset && line.word(0) != b"cycle".as_slice() {
+        return true;
+    }
+    let row = cycle(alloc, sim, line, is_reset);
+    match row {
+        Some(row) => {
             add_row(report, row);
             add_state(report, sim);
         }
+        None => report.add(&[Term::Text(b"refused\n")]),
     }
+    row.is_some()
 }
 
 fn add_row(report: &mut Report, row: Row) {
@@ -118,38 +128,53 @@ fn samples_fit(net: &Netlist, samples: &[Bits]) -> bool
 // Appends the registers, and the words of files that are not 0.
 fn add_state(report: &mut Report, sim: &Sim<'_>) {
     let parts = sim.netlist().parts();
-    let regs = parts.regs.as_slice();
-    for i in 0..regs.len() {
-        report.add(&[
-            Term::Text(b"  "),
-            Term::Text(regs[i].name.bytes()),
-            Term::Text(b" = "),
-            Term::Number(sim.value(i as u32).value()),
-            Term::Text(b"\n"),
-        ]);
+    for i in 0..parts.regs.as_slice().len() {
+        add_register(report, sim, i);
     }
     for i in 0..parts.files.as_slice().len() {
         add_file(report, sim, i);
     }
 }
 
+fn add_register(report: &mut Report, sim: &Sim<'_>, i: usize) {
+    if let Some(reg) = sim.netlist().parts().regs.as_slice().get(i) {
+        add_value(report, reg.name.bytes(), sim.value(i as u32).value());
+    }
+}
+
+fn add_value(report: &mut Report, name: &[u8], value: u64) {
+    report.add(&[
+        Term::Text(b"  "),
+        Term::Text(name),
+        Term::Text(b" = "),
+        Term::Number(value),
+        Term::Text(b"\n"),
+    ]);
+}
+
 fn add_file(report: &mut Report, sim: &Sim<'_>, i: usize) {
-    let Some(file) = sim.netlist().parts().files.as_slice().get(i) else {
-        return;
-    };
-    let name = file.name.bytes();
-    for address in 0..1u32 << file.address_width {
-        let word = sim.word(i as u32, address).value();
-        if word != 0 {
-            report.add(&[
-                Term::Text(b"  "),
-                Term::Text(name),
-                Term::Text(b"["),
-                Term::Number(u64::from(address)),
-                Term::Text(b"] = "),
-                Term::Number(word),
-                Term::Text(b"\n"),
-            ]);
+    if let Some(file) = sim.netlist().parts().files.as_slice().get(i) {
+        for address in 0..1u32 << file.address_width {
+            add_word(
+                report,
+                file.name.bytes(),
+                address,
+                sim.word(i as u32, address).value(),
+            );
         }
+    }
+}
+
+fn add_word(report: &mut Report, name: &[u8], address: u32, word: u64) {
+    if word != 0 {
+        report.add(&[
+            Term::Text(b"  "),
+            Term::Text(name),
+            Term::Text(b"["),
+            Term::Number(u64::from(address)),
+            Term::Text(b"] = "),
+            Term::Number(word),
+            Term::Text(b"\n"),
+        ]);
     }
 }
