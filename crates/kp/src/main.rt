@@ -1,11 +1,8 @@
 //! The program: it passes the arguments of its command line and the standard streams to the top call.
 #![tactic(auto)]
 
-mod output;
-
-use kp_base::StdSource;
+use kp_base::{StdSink, StdSource};
 use kp_tool::tool;
-use output::Output;
 use std::alloc::{AllocError, Global};
 use std::env::Env;
 use std::io::{BufWriter, ErrorKind};
@@ -28,7 +25,7 @@ fn main(rt: HostRuntime) -> ExitCode {
                 return ExitCode::from(NO_MEMORY);
             };
             let mut source = StdSource::new(rt.reader());
-            let mut sink = Output::new(writer);
+            let mut sink = StdSink::new(writer);
             let status = tool(rt.alloc(), &words, &mut source, &mut sink);
             match sink.finish() {
                 Ok(()) => ExitCode::from(status),

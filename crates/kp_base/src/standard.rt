@@ -50,6 +50,16 @@ impl<W: Write> StdSink<W> {
     {
         StdSink { writer, faults: 0 }
     }
+
+    /// Writes what a writer that buffers still has.
+    pub fn finish(&mut self) -> Result<(), Failed>
+        ensures { self.new.faults ≡ self.old.faults }
+    {
+        match self.writer.flush() {
+            Ok(()) => Ok(()),
+            Err(_) => Err(Failed),
+        }
+    }
 }
 
 impl<W: Write> Sink for StdSink<W> {

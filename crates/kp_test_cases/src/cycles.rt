@@ -1,9 +1,9 @@
-// The run of a netlist under the stalls and inputs of its job.
+//! The run of a netlist under the stalls and inputs of its job.
 ghost use Rattle.std.specs.Prelude.{◌≤◌, length, IsTrue};
 ghost use Rattle.kp_net.specs.Netlist.{Net};
 ghost use Rattle.kp_cycle.specs.Steps.{SamplesFit, ShowsRows};
 
-use anyhow::Result;
+use crate::report::{Report, Term};
 use kp_base::Row;
 use kp_bits::Bits;
 use kp_cycle::Sim;
@@ -12,34 +12,31 @@ use kp_net::Netlist;
 use kp_sched::row_line;
 use std::alloc::Global;
 
-/// Runs `count` cycles, and prints the line of each, and the last state.
-pub fn print_cycles(
-    rt: &impl Print,
-    alloc: Global,
-    net: &Netlist,
-    job: &Accepted,
-    cycles: u32,
-) -> Result<()>
+/// Runs `count` cycles, and appends the line of each, and the last state.
+pub fn add_cycles(report: &mut Report, alloc: Global, net: &Netlist, job: &Accepted, count: u64)
     requires { ShowsRows net.now }
 {
-    let mut sim = Sim::open(alloc, net)?;
-    for cycle in 0..cycles {
-        match step(alloc, &mut sim, job, u64::from(cycle))? {
-            Some(row) => print_row(rt, alloc, u64::from(cycle), net.parts().ext, row)?,
-            None => rt.println("refused")?,
-        }
+    let Ok(mut sim) = Sim::open(alloc, net) else {
+        return report.fail();
+    };
+    for cycle in 0..count {
+        add_cycle(report, alloc, &mut sim, job, cycle);
     }
-    print_state(rt, alloc, &sim)
+    add_registers(report, &sim);
+    add_files(report, &sim);
 }
 
-// One cycle under the job's stall word and samples.
-fn step(alloc: Global, sim: &mut Sim<'_>, job: &Accepted, cycle: u64) -> Result<Option<Row>> {
-    let samples = job.sections.inputs.row(alloc, cycle)?;
+// Appends the line of one cycle under the job's stall word and samples.
+fn add_cycle(report: &mut Report, alloc: Global, sim: &mut Sim<'_>, job: &Accepted, cycle: u64) {
+    let Ok(samples) = job.sections.inputs.row(alloc, cycle) else {
+        return report.fail();
+    };
     if !samples_fit(sim.netlist(), samples.as_slice()) {
-        return Ok(None);
+        return report.add(&[Term::Text(b"refused\n")]);
     }
     let ext = job.sections.stalls.word(cycle);
-    Ok(Some(sim.step_with(ext, false, samples.as_slice())))
+    let row = sim.step_with(ext, false, samples.as_slice());
+    add_row(report, cycle, sim.netlist().parts().ext, row);
 }
 
 fn samples_fit(net: &Netlist, samples: &[Bits]) -> bool
@@ -57,45 +54,64 @@ fn samples_fit(net: &Netlist, samples: &[Bits]) -> bool
     true
 }
 
-fn print_row(rt: &impl Print, alloc: Global, cycle: u64, stages: u8, row: Row) -> Result<()> {
+fn add_row(report: &mut Report, cycle: u64, stages: u8, row: Row) {
     if stages < 2 || 12 < stages {
-        return Ok(rt.println("refused")?);
+        return report.add(&[Term::Text(b"refused\n")]);
     }
     let mut line = [0u8; 80];
     let length = row_line(cycle, stages, row, &mut line);
-    let text = String::from_utf8_lossy(alloc, &line[..length])?;
-    rt.print(&text)?;
-    Ok(())
+    report.add(&[Term::Text(&line[..length])]);
 }
 
-// The registers of the job, and the words of its files that are not 0.
-fn print_state(rt: &impl Print, alloc: Global, sim: &Sim<'_>) -> Result<()> {
-    let parts = sim.netlist().parts();
-    let regs = parts.regs.as_slice();
-    for i in 0..regs.len() {
-        let name = String::from_utf8_lossy(alloc, regs[i].name.bytes())?;
-        if name.starts_with("r_") {
-            println!(rt; "{name} = {}", sim.value(i as u32).value())?;
-        }
+// Appends the registers of the job.
+fn add_registers(report: &mut Report, sim: &Sim<'_>) {
+    for i in 0..sim.netlist().parts().regs.as_slice().len() {
+        add_register(report, sim, i);
     }
-    let files = parts.files.as_slice();
-    for i in 0..files.len() {
-        print_file(rt, alloc, sim, i)?;
-    }
-    Ok(())
 }
 
-fn print_file(rt: &impl Print, alloc: Global, sim: &Sim<'_>, i: usize) -> Result<()> {
-    let parts = sim.netlist().parts();
-    let Some(file) = parts.files.as_slice().get(i) else {
-        return Ok(());
-    };
-    let name = String::from_utf8_lossy(alloc, file.name.bytes())?;
-    for address in 0..1u32 << file.address_width {
-        let word = sim.word(i as u32, address).value();
-        if word != 0 {
-            println!(rt; "{name}[{address}] = {word}")?;
+fn add_register(report: &mut Report, sim: &Sim<'_>, i: usize) {
+    if let Some(reg) = sim.netlist().parts().regs.as_slice().get(i) {
+        add_value(report, reg.name.bytes(), sim.value(i as u32).value());
+    }
+}
+
+fn add_value(report: &mut Report, name: &[u8], value: u64) {
+    if name.starts_with(b"r_") {
+        report.add(&[
+            Term::Text(name),
+            Term::Text(b" = "),
+            Term::Number(value),
+            Term::Text(b"\n"),
+        ]);
+    }
+}
+
+// Appends the words of files that are not 0.
+fn add_files(report: &mut Report, sim: &Sim<'_>) {
+    for i in 0..sim.netlist().parts().files.as_slice().len() {
+        add_file(report, sim, i);
+    }
+}
+
+fn add_file(report: &mut Report, sim: &Sim<'_>, i: usize) {
+    if let Some(file) = sim.netlist().parts().files.as_slice().get(i) {
+        for address in 0..1u32 << file.address_width {
+            let word = sim.word(i as u32, address).value();
+            add_word(report, file.name.bytes(), address, word);
         }
     }
-    Ok(())
+}
+
+fn add_word(report: &mut Report, name: &[u8], address: u32, word: u64) {
+    if word != 0 {
+        report.add(&[
+            Term::Text(name),
+            Term::Text(b"["),
+            Term::Number(u64::from(address)),
+            Term::Text(b"] = "),
+            Term::Number(word),
+            Term::Text(b"\n"),
+        ]);
+    }
 }

@@ -21,87 +21,110 @@
 //! - `unended`: the line feed that ends the input is not part of it.
 #![tactic(auto)]
 
+ghost use Rattle.std.specs.Prelude.{◌<◌, ◌≤◌, length};
+
 mod cycles;
 mod dump;
 mod head;
 mod netlist;
 mod programs;
+mod report;
+mod streams;
 
-use anyhow::Result;
-use dump::print_read;
-use head::{Options, Streams, words_in};
-use netlist::print_netlist;
+use dump::add_dump;
+use head::{cut, words_in};
+use netlist::add_netlist;
 use programs::run;
-use std::alloc::Global;
+use report::{Report, Term};
+use std::alloc::{AllocError, Global};
 use std::io;
-use std::io::Read;
+use std::io::{Read, Write};
+use streams::Streams;
 
 /// The start of a head.
 const MARK: &[u8] = b"==== ";
 
-fn main(rt: HostRuntime) -> Result<()> {
+fn main(rt: HostRuntime) -> io::Result<()> {
     let alloc = rt.alloc();
     let mut text = Vec::new(alloc);
     rt.reader().read_to_end(&mut text)?;
-    let mut line = None;
-    let mut input = Vec::new(alloc);
-    for piece in text.split_inclusive(|byte| *byte == b'\n') {
-        match piece.strip_prefix(MARK) {
-            Some(next) => {
-                if let Some(head) = line {
-                    print_case(&rt, alloc, head, &input)?;
-                }
-                line = Some(next);
-                input.clear();
+    let mut report = Report::new(alloc);
+    add_cases(&mut report, alloc, text.as_slice());
+    match report.text() {
+        Some(text) => io::writer(&rt).write_all(text),
+        None => Err(AllocError.into()),
+    }
+}
+
+// Appends the result of each case. A text that starts with no head has none.
+fn add_cases(report: &mut Report, alloc: Global, text: &[u8]) {
+    let mut rest = match text.strip_prefix(MARK) {
+        Some(rest) => rest,
+        None => return,
+    };
+    while !rest.is_empty() {
+        let (case, after) = cut_case(rest);
+        rest = after;
+        let (head, input) = cut(case, b'\n');
+        add_case(report, alloc, head, input);
+    }
+}
+
+// The text before the first head in it, and the text after the start of this head.
+fn cut_case(text: &[u8]) -> (&[u8], &[u8])
+    ensures { 1 ≤ length text.now → length result.1.now < length text.now }
+{
+    for at in 1..text.len() {
+        if text[at - 1] == b'\n' {
+            if let Some(after) = text[at..].strip_prefix(MARK) {
+                return (&text[..at], after);
             }
-            None => input.extend_from_slice(piece)?,
         }
     }
-    match line {
-        Some(head) => print_case(&rt, alloc, head, &input),
-        None => Ok(()),
-    }
+    (text, &[])
 }
 
-fn print_case(rt: &impl Print, alloc: Global, line: &[u8], input: &[u8]) -> Result<()> {
-    let line = String::from_utf8_lossy(alloc, line)?;
-    let line = line.trim_end();
-    let (form, rest) = line.split_once(" ").unwrap_or((line, ""));
-    match form {
-        "#" => Ok(println!(rt; "==== {line}\n")?),
-        "netlist" => {
-            println!(rt; "==== {line}")?;
-            let count = rest.split_whitespace().next().unwrap_or("");
-            print_netlist(rt, alloc, count.parse::<u32>().ok(), input)
-        }
-        "dump" => {
-            println!(rt; "==== {line}")?;
-            Ok(print_read(rt, alloc, input)?)
-        }
-        _ => Ok(print_call(rt, alloc, line, input)?),
-    }
-}
-
-fn print_call(rt: &impl Print, alloc: Global, line: &str, input: &[u8]) -> io::Result<()> {
-    let words = words_in(alloc, line)?;
-    let mut streams = Options::of(alloc, line)?.streams(alloc, input)?;
-    let status = run(alloc, &words, &mut streams);
-    print_result(rt, alloc, line, status, &streams)
-}
-
-fn print_result(
-    rt: &impl Print,
-    alloc: Global,
-    line: &str,
-    status: u8,
-    streams: &Streams,
-) -> io::Result<()> {
-    let out = String::from_utf8_lossy(alloc, streams.out.bytes())?;
-    let err = String::from_utf8_lossy(alloc, streams.err.bytes())?;
-    println!(rt; "==== {line} gives {status}\n{out}")?;
-    if err.is_empty() {
-        Ok(())
+fn add_case(report: &mut Report, alloc: Global, head: &[u8], input: &[u8]) {
+    report.add(&[Term::Text(MARK), Term::Text(head)]);
+    let (form, rest) = cut(head, b' ');
+    if form == b"#".as_slice() {
+        report.add(&[Term::Text(b"\n")]);
+    } else if form == b"netlist".as_slice() {
+        report.add(&[Term::Text(b"\n")]);
+        add_netlist(report, alloc, cut(rest, b' ').0, input);
+    } else if form == b"dump".as_slice() {
+        report.add(&[Term::Text(b"\n")]);
+        add_dump(report, alloc, input);
     } else {
-        println!(rt; "--\n{err}")
+        add_call(report, alloc, head, input);
+    }
+    report.add(&[Term::Text(b"\n")]);
+}
+
+fn add_call(report: &mut Report, alloc: Global, head: &[u8], input: &[u8]) {
+    let mut words = Vec::new(alloc);
+    if words_in(alloc, head, &mut words).is_err() {
+        return report.fail();
+    }
+    match Streams::of(alloc, head, input) {
+        Some(streams) => add_result(report, alloc, words.as_slice(), streams),
+        None => report.fail(),
+    }
+}
+
+fn add_result(report: &mut Report, alloc: Global, words: &[String], mut streams: Streams) {
+    let status = run(alloc, words, &mut streams);
+    add_texts(report, status, streams.out.bytes(), streams.err.bytes());
+}
+
+fn add_texts(report: &mut Report, status: u8, out: &[u8], err: &[u8]) {
+    report.add(&[
+        Term::Text(b" gives "),
+        Term::Number(u64::from(status)),
+        Term::Text(b"\n"),
+        Term::Text(out),
+    ]);
+    if !err.is_empty() {
+        report.add(&[Term::Text(b"\n--\n"), Term::Text(err)]);
     }
 }

@@ -1,10 +1,11 @@
-// Cases of netlists: synthesises a job, and runs its netlist.
+//! Cases of netlists: synthesises a job, and runs its netlist.
 ghost use Rattle.std.specs.Prelude.{◌≤◌, length, IfOk};
 ghost use Rattle.kp_cycle.specs.Steps.{ShowsRows};
 ghost use Rattle.kp_frontend.specs.Judging.{most_bytes};
 
-use crate::cycles::print_cycles;
-use anyhow::Result;
+use crate::cycles::add_cycles;
+use crate::head::number;
+use crate::report::{Report, Term};
 use kp_base::NoMemory;
 use kp_frontend::laws::a_start_state_fits;
 use kp_frontend::{Accepted, judge};
@@ -15,20 +16,12 @@ use std::alloc::Global;
 /// The greatest length of the text of a job, in bytes.
 const MOST: usize = 16_777_216;
 
-/// Prints the line of each of the first cycles of the job's netlist, and then its last state, or the number of its nodes where no number of cycles is
-/// given.
-pub fn print_netlist(
-    rt: &impl Print,
-    alloc: Global,
-    cycles: Option<u32>,
-    text: &[u8],
-) -> Result<()> {
+/// Appends the line of each of the first cycles of the job's netlist, and then its last state, or the number of its nodes if the word is `nodes`.
+pub fn add_netlist(report: &mut Report, alloc: Global, word: &[u8], text: &[u8]) {
     match accepted(alloc, text) {
-        Some(job) => print_job(rt, alloc, cycles, &job)?,
-        None => rt.println("refused")?,
+        Some(job) => add_job(report, alloc, word, &job),
+        None => report.add(&[Term::Text(b"refused\n")]),
     }
-    rt.println("")?;
-    Ok(())
 }
 
 fn accepted(alloc: Global, text: &[u8]) -> Option<Accepted> {
@@ -38,11 +31,18 @@ fn accepted(alloc: Global, text: &[u8]) -> Option<Accepted> {
     judge(alloc, text).ok()
 }
 
-fn print_job(rt: &impl Print, alloc: Global, cycles: Option<u32>, job: &Accepted) -> Result<()> {
-    let net = netlist(alloc, job)?;
-    match cycles {
-        Some(cycles) => print_cycles(rt, alloc, &net, job, cycles),
-        None => Ok(println!(rt; "nodes {}", net.nodes().len())?),
+fn add_job(report: &mut Report, alloc: Global, word: &[u8], job: &Accepted) {
+    let Ok(net) = netlist(alloc, job) else {
+        return report.fail();
+    };
+    if word == b"nodes".as_slice() {
+        report.add(&[
+            Term::Text(b"nodes "),
+            Term::Number(net.nodes().len() as u64),
+            Term::Text(b"\n"),
+        ]);
+    } else {
+        add_cycles(report, alloc, &net, job, number(word));
     }
 }
 

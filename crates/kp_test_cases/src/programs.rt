@@ -1,5 +1,5 @@
 // The top calls of the programs.
-use crate::head::Streams;
+use crate::streams::Streams;
 use kp_base::{MemSink, MemSource, write_all};
 use kp_core::{Request as CoreRequest, run_core};
 use kp_tool::tool;

@@ -1,11 +1,8 @@
 //! The program `kpcore`: it passes what the words of its command line ask for, a file or standard input, and the standard streams to the top call.
 #![tactic(auto)]
 
-mod output;
-
-use kp_base::{StdSink, StdSource};
+use kp_base::{StdSink, StdSource, write_all};
 use kp_core::{Request, run_core};
-use output::Output;
 use std::alloc::AllocError;
 use std::env::Env;
 use std::io::{BufWriter, ErrorKind, Read};
@@ -75,7 +72,7 @@ fn on_source<R: Read + Drop>(rt: &HostRuntime, request: &Request<'_>, reader: R)
         return NO_MEMORY;
     };
     let mut source = StdSource::new(reader);
-    let mut out = Output::new(writer);
+    let mut out = StdSink::new(writer);
     let mut err = StdSink::new(rt.stderr());
     let status = run_core(rt.alloc(), request, &mut source, &mut out, &mut err);
     match out.finish() {
@@ -87,10 +84,10 @@ fn on_source<R: Read + Drop>(rt: &HostRuntime, request: &Request<'_>, reader: R)
 // Prints on standard error why nothing, or not all, was printed. The status says the same, so a failure here is ignored.
 fn report(rt: &HostRuntime, status: u8) {
     let reason = match status {
-        UNREAD => "kpcore: reading failed",
-        UNWRITTEN => "kpcore: writing failed",
-        NO_MEMORY => "kpcore: out of memory",
+        UNREAD => "kpcore: reading failed\n",
+        UNWRITTEN => "kpcore: writing failed\n",
+        NO_MEMORY => "kpcore: out of memory\n",
         _ => return,
     };
-    let _ = eprintln!(rt; "{reason}");
+    let _ = write_all(&mut StdSink::new(rt.stderr()), reason.as_bytes());
 }

@@ -2,13 +2,10 @@
 //! `explain`, or that of all other words. The help of `explain` is printed here.
 #![tactic(auto)]
 
-mod output;
-
-use kp_base::{StdSink, StdSource};
+use kp_base::{StdSink, StdSource, write_all};
 use kp_view::view;
 use kp_view_explain::{HELP, Order, asks_help, explain_source};
 use kp_words::Request;
-use output::Output;
 use std::alloc::AllocError;
 use std::env::Env;
 use std::io::{BufWriter, ErrorKind, Read};
@@ -81,7 +78,7 @@ fn on_source<R: Read + Drop>(rt: &HostRuntime, request: &Request<'_>, reader: R)
         return NO_MEMORY;
     };
     let mut source = StdSource::new(reader);
-    let mut out = Output::new(writer);
+    let mut out = StdSink::new(writer);
     let mut err = StdSink::new(rt.stderr());
     let status = view(rt.alloc(), request, &mut source, &mut out, &mut err);
     match out.finish() {
@@ -92,7 +89,7 @@ fn on_source<R: Read + Drop>(rt: &HostRuntime, request: &Request<'_>, reader: R)
 
 // Prints the help of `explain`.
 fn help(rt: &HostRuntime) -> u8 {
-    match print!(rt; "{HELP}") {
+    match write_all(&mut StdSink::new(io::writer(rt)), HELP.as_bytes()) {
         Ok(()) => 0,
         Err(_) => UNWRITTEN,
     }
@@ -132,10 +129,10 @@ fn explain_reader<R: Read + Drop>(
 // Says on standard error why nothing, or not all, was printed. The status says the same, so a failure here is ignored.
 fn report(rt: &HostRuntime, status: u8) {
     let reason = match status {
-        UNREAD => "kpview: reading failed",
-        UNWRITTEN => "kpview: writing failed",
-        NO_MEMORY => "kpview: out of memory",
+        UNREAD => "kpview: reading failed\n",
+        UNWRITTEN => "kpview: writing failed\n",
+        NO_MEMORY => "kpview: out of memory\n",
         _ => return,
     };
-    let _ = eprintln!(rt; "{reason}");
+    let _ = write_all(&mut StdSink::new(rt.stderr()), reason.as_bytes());
 }
