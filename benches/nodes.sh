@@ -6,9 +6,9 @@
 set -eu
 . "$(dirname "$0")/../checks/common.sh"
 mkdir -p "$work/crates"
-for name in kp_base kp_bits kp_region kp_net kp_net_gates kp_cycle_plan kp_cycle_memory kp_cycle kp_test_circuits; do
+for name in kp_base kp_pipeline kp_bits kp_net kp_pool kp_net_gates kp_cycle_plan kp_cycle kp_test_circuits; do
     cp -r "$top/crates/$name" "$work/crates/"
-    grep "^$name:" "$top/crates.txt" | sed 's/ kp_fwd kp_engine//' >> "$work/crates.txt"
+    grep "^$name:" "$top/crates.txt" >> "$work/crates.txt"
 done
 cp "$top/HANDLES" "$work/"
 cd "$work/crates/kp_test_circuits"
