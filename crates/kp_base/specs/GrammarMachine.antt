@@ -1,4 +1,4 @@
--- The machine whose steps are determined by the next token. The laws of this crate relate it to derivations; it
+-- The machine whose steps are determined by the next token. The laws of `grammar` relate it to derivations; it
 -- occurs in a reader's private contracts, but not in its public ones.
 use Rattle.std.specs.Prelude.{ℕ, zero, suc, ◌≡◌, ◌==◌, List, [], ◌∷◌, ◌++◌, length, Bool, true, false, cond, Option, Some, None}
 use Rattle.kp_base.specs.Grammar.{Symbol, Terminal, Nonterminal, Action, Grammar}

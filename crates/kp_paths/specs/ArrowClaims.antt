@@ -1,4 +1,4 @@
--- WHAT THE ARROWS SAY: they are the cells of the table of kp_paths.
+-- WHAT THE ARROWS SAY: they are the cells of the table.
 use Rattle.std.specs.{Prelude.◌≡◌, Prelude.◌<◌, Prelude.ℕ, Prelude.true, List.Contains}
 use Rattle.kp_ast.specs.declared.tree.{Job.Job, ReadStmt.ReadStmt}
 use Rattle.kp_paths.specs.{Table.cell_at, Arrows.Arrow, Arrows.arrows, Arrows.is_shown}

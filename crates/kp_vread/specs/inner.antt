@@ -1,4 +1,4 @@
--- For private contracts and proofs of this crate only: no public clause depends on it.
+-- For private contracts and proofs only: no public clause depends on it.
 pub mod Whole
 pub mod Numbering
 pub mod Building
