@@ -6,7 +6,7 @@ use Rattle.kp_ast.specs.{declared.tree.Expr.Expr, Checked.checked, Checked.all_t
 use Rattle.kp_net.specs.{declared.node.NodeId.NodeId, Nodes.word_at, Growth.Held, Growth.Grown}
 use Rattle.kp_build.specs.Names.{Scope, known_at, IsSound, Gives}
 use Rattle.kp_build.specs.inner.Showing.{IsThere, AllShow, AllInside, words_at, value_in, values_in}
-use Rattle.kp_build.proofs.Rows.{same_at}
+use Rattle.kp_build.proofs.{Giving.first_there, Giving.mapped_there, Rows.same_at}
 
 pub grown_same : (p : Held) → Grown p p 0
 grown_same p = record {
@@ -37,17 +37,12 @@ there_push (Some x ∷ os) vs v e = there_cons x (all_there os) vs (all_there (o
 -- each of several values exists if all do
 each_there : (f : Expr → Option Word) (es : List Expr) (i : ℕ) (d : Expr) → i < length es → is_some (all_there (map f es)) ≡ true → is_some (f (get_or es i d)) ≡ true
 each_there f [] i d l h = absurd (omega arith)
-each_there f (e ∷ es) zero d l h = here (f e) (all_there (map f es)) h
-  where
-    here : (o : Option Word) (os : Option (List Word)) → is_some (option_and_then (λ x. option_map (λ xs. x ∷ xs) os) o) ≡ true → is_some o ≡ true
-    here None os h = h
-    here (Some x) os h = refl
+each_there f (e ∷ es) zero d l h = first_there (λ x. option_map (λ xs. x ∷ xs) (all_there (map f es))) (f e) h
 each_there f (e ∷ es) (suc i) d l h = each_there f es i d (omega arith) (rest (f e) (all_there (map f es)) h)
   where
     rest : (o : Option Word) (os : Option (List Word)) → is_some (option_and_then (λ x. option_map (λ xs. x ∷ xs) os) o) ≡ true → is_some os ≡ true
     rest None os h = cc
-    rest (Some x) None h = h
-    rest (Some x) (Some xs) h = refl
+    rest (Some x) os h = mapped_there (λ xs. x ∷ xs) os h
 
 pub element_sound : (p : Held) (env : Scope) (es : List Expr) (i : ℕ) (e : Expr) → i < length es → e ≡ get_or es i e → IsThere (values_in p env es) → IsSound p env e
 unfolding IsThere IsSound

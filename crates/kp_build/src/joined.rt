@@ -54,7 +54,9 @@ fn list_of(alloc: Global, first: NodeId, rest: &[NodeId]) -> Result<Vec<NodeId>,
 {
     let mut all = Vec::new(alloc);
     all.push(first)?;
-    all.extend_from_slice(rest)?;
+    for node in rest {
+        all.push(*node)?;
+    }
     Ok(all)
 }
 
