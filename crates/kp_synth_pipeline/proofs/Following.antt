@@ -11,7 +11,7 @@ use Rattle.kp_synth_registers.proofs.Growth.{added_then, added_more}
 use Rattle.kp_synth_stage.specs.{declared.row.Source.Source, Rows.SourcesOk}
 use Rattle.kp_synth_pipeline.specs.inner.{Seeing.SeesAbove, Seeing.Nearer, Whole.Few, Whole.AllNearer, Descending.Faces, Descending.SayFrom}
 use Rattle.kp_synth_pipeline.{specs.Stages.no_outcome, specs.Stages.own_room, specs.Stages.stage_room, specs.Stages.stages_room, proofs.Downward.sees_down}
-use Rattle.kp_synth_pipeline.proofs.Spoken.{stall_higher, stall_none, say_at}
+use Rattle.kp_synth_pipeline.proofs.{Spoken.stall_higher, Spoken.stall_none, Spoken.say_at, Rooms.plus_in}
 
 get_small : (ss : List Source) (t : ℕ) (s : Source) → slice_get ss t ≡ Some s → t < length ss
 get_small ss t s e = ⊎_elim (λ a. a.1) (λ a. let n = a.1 in cc) (slice_get_cases ss t).1
@@ -41,9 +41,6 @@ room_parts job i (suc k) d =
     let b : suc i + k ≡ i + suc k = omega arith in
     let more : stages_room job (suc i) (k + d) ≡ stages_room job (suc i) k + stages_room job (i + suc k) d = room_parts job (suc i) k d ∙ ap (λ x. stages_room job (suc i) k + stages_room job x d) b in
     ap (stages_room job i) a ∙ ap (λ x. stage_room job i + x) more ∙ plus_in (stage_room job i) (stages_room job (suc i) k) (stages_room job (i + suc k) d)
-  where
-    plus_in : (x y z : ℕ) → x + (y + z) ≡ x + y + z
-    plus_in x y z = omega arith
 
 pub room_left : (job : Job) (n k d : ℕ) → n ≡ k + suc d → stage_room job k + stages_room job (suc k) d ≤ stages_room job 0 n
 room_left job n k d e =

@@ -15,7 +15,7 @@ use Rattle.kp_synth_registers.proofs.Growth.{test_kept, may_give_kept, set_kept}
 use Rattle.kp_synth_tables.specs.{declared.layout.Port.Port, Keys.target_at, Spans.set_after, Fits.pipe_number, Fits.port_for, Fits.port_at, Fits.AddressFits}
 use Rattle.kp_synth_stage.specs.declared.row.{Row.Row, Source.Source, Own.Own}
 use Rattle.kp_synth_stage.specs.Rows.{AddressOk, address_is, RowOk, RowsOk, OwnOk, SourceOk}
-use Rattle.kp_synth_stage.proofs.Nearest.{source_kept}
+use Rattle.kp_synth_stage.proofs.Nearest.{source_kept, enable_kept}
 use Rattle.kp_synth_pipeline.specs.inner.{Seeing.Nearer, Whole.enabled_by, Whole.addressed_by, Whole.SetMeans}
 use Rattle.kp_synth_pipeline.proofs.Downward.{nearer_row, row_means}
 
@@ -91,10 +91,6 @@ intent_by job t p e fits x a l =
     let v : addressed_by x.pipes p.address a ≡ eqb (address_in ps x.pipes (result_for job t)) a =
     ap (λ (o : Option ℕ). addressed_by x.pipes o a) y.address ∙ addressed_same job t a x.pipes y.result.address f l ∙ sym (ap (λ (o : Option ResultDecl). eqb (address_in ps x.pipes o) a) y.is) in
     λ i. u i && v i
-
-enable_kept : (c : Cells) (p q : Held) (k : ℕ) (o : Option NodeId) → Kept p q k → BitOk p o → enable_on c q o ≡ enable_on c p o
-enable_kept c p q k None g b = refl
-enable_kept c p q k (Some n) g b = g.tests c n.0 b.inside
 
 address_kept : (c : Cells) (p q : Held) (k w a : ℕ) (o : Option NodeId) → Kept p q k → AddressOk p w o → address_is c q o a ≡ address_is c p o a
 address_kept c p q k w a None g b = refl

@@ -147,7 +147,7 @@ extra_by n (stmts.Let e x) = omega arith
 extra_by n (stmts.Put e x) = omega arith
 extra_by n (stmts.Aim e x) = omega arith
 
-plus_in : (x y z : ℕ) → x + (y + z) ≡ x + y + z
+pub plus_in : (x y z : ℕ) → x + (y + z) ≡ x + y + z
 plus_in x y z = omega arith
 
 one_cost : (n all c cs s ss sizes r rs reads t ts sets : ℕ) → all ≡ c + cs → c ≡ 8 * s + 20 * (n * r) + 4 * t → cs ≡ 8 * ss + 20 * (n * rs) + 4 * ts → sizes ≡ s + ss → reads ≡ r + rs → sets ≡ t + ts
