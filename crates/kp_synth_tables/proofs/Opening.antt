@@ -1,5 +1,5 @@
 -- The tables that are laid out are those of the job.
-use Rattle.std.proofs.Common.{◌≡◌, ◌∙◌, ℕ, zero, suc, ◌+◌, ◌-◌, ◌<◌, ◌≤◌, max, List, [], ◌∷◌, ◌++◌, map, Option, Some, None, Bool, true, false, cond, ◌&&◌, ◌||◌, length, get_or, refl, ap, sym, arith}
+use Rattle.std.proofs.Common.{◌≡◌, ◌∙◌, ℕ, zero, suc, ◌+◌, ◌-◌, ◌<◌, ◌≤◌, max, List, [], ◌∷◌, ◌++◌, map, Option, Some, None, Bool, true, false, cond, ◌&&◌, ◌||◌, length, get_or, refl, ap, sym, subst, ◌==◌, arith}
 use Rattle.std.proofs.lemmas.{List.get_or-map, List.length-map, List.map-id, Option.slice_get-get_or, Bool.ltb-true}
 use Rattle.std.specs.{Prelude.is_some, Prelude.nat_lt, Prelude.nat_le, Prelude.slice_get, List.list_any}
 use Rattle.kp_base.specs.{First.first, Refusal.e_rule}
@@ -14,10 +14,10 @@ use Rattle.kp_ast.specs.declared.tree.Decl.TheVariants as decls
 use Rattle.kp_ast.specs.declared.tree.StmtKind.TheVariants as stmts
 use Rattle.kp_width.{specs.Widths.widths_of, proofs.Unbroken.Unbroken}
 use Rattle.kp_synth_tables.specs.Keys.{no_slot, pipe_at, hint_at, no_guess, guesses_of, guess_at, piped_at, set_by, is_stored, visible_keys, pipe_keys, result_keys, guess_keys, stage_keys, stages_keys, later_keys, hint_keys, keys_of}
-use Rattle.kp_synth_tables.specs.inner.Tables.{byte, short, sized, has_aim, aimed_in, short_piped, aimed, known_in, short_number, short_port, short_guess, pipes_by, stored_by, result_here, results_by, stage_by, stages_by}
+use Rattle.kp_synth_tables.specs.inner.Tables.{byte, short, sized, bytes_of, has_aim, aimed_in, short_piped, short_aimed, IsDeclared, AreFew, known_in, short_number, short_port, short_guess, visible_by, pipes_by, stored_by, result_here, results_by, stage_by, stages_by, hints_by, keys_by}
 use Rattle.kp_synth_tables.specs.declared.key.{GuessSlot.GuessSlot, Key.Key}
-use Rattle.kp_synth_tables.specs.declared.key.Key.TheVariants.{Full, Pipe, Valid, Value}
-use Rattle.kp_synth_tables.specs.declared.layout.{Sized.Sized, Port.Port, Piped.Piped, Aimed.Aimed}
+use Rattle.kp_synth_tables.specs.declared.key.Key.TheVariants.{Visible, Full, Pipe, Valid, Value, Hint}
+use Rattle.kp_synth_tables.specs.declared.{layout.Sized.Sized, layout.Port.Port, layout.Piped.Piped, layout.Aimed.Aimed, tables.Declared.Declared}
 use Rattle.kp_synth_tables.specs.Spans.{has_put, put_after, has_set, set_after, uses_name, last_use_in, is_called, last_write, last_use}
 use Rattle.kp_synth_tables.specs.Fits.{pipe_number, port_for, port_at, IsWidth, EnableFits, AddressFits, ResultFits, Fits}
 use Rattle.kp_synth_tables.specs.inner.Laid.{no_size, no_aim, no_piped, piped_of, Vectors, IsLaid}
@@ -28,10 +28,6 @@ byte_is n l = omega arith
 
 short_is : (n : ℕ) → n ≤ 65536 → short n ≡ n
 short_is n l = omega arith
-
--- the widths of slots
-abbrev bytes_of : List Slot → List ℕ
-bytes_of ss = map (λ (s : Slot). byte s.width) ss
 
 byte_at : (ss : List Slot) (x : ℕ) → x < length ss → IsWidth (get_or ss x no_slot).width → get_or (bytes_of ss) x 0 ≡ (get_or ss x no_slot).width
 byte_at ss x l w = get_or-map (λ (s : Slot). byte s.width) ss x no_slot 0 l ∙ byte_is _ (omega (arith, w.at_most))
@@ -105,15 +101,6 @@ module _ (name : List ℕ) where
       (stage_in (aims name) (aim_at name) aim_here (aims_in name) (λ n j. refl) (λ n j s ss. refl) k 0 b.stmts) (aim_same (k + 1) bs)
 
 module _ (job : Job) where
-  -- HINTS
-  abbrev aim_of : Slot → Aimed
-  aim_of s = record { width = byte s.width; stage = short (aimed_in s.name 0 job.blocks) }
-
-  aimed_map : (ds : List Decl) → aimed job ds ≡ map aim_of (hints_of ds)
-  aimed_map [] = refl
-  aimed_map (decls.Hint n width start ∷ ds) = ap (λ (more : List Aimed). record { width = byte width.value; stage = short (aimed_in n.name 0 job.blocks) } ∷ more) (aimed_map ds)
-  aimed_map (d ∷ ds) = aimed_map ds
-
   -- KEYS
   stored_port : (t k : ℕ) (o : Option ResultDecl) → stored_by (port_for job t o) k ≡ (nat_le (set_by job o) k && (is_some o && nat_le k (write_stage_of o)))
   stored_port t k None = sym (none (nat_le 0 k))
@@ -171,9 +158,23 @@ module _ (job : Job) where
     later_same zero l = absurd (omega (arith, l))
     later_same (suc n) l = let z : suc n - 1 ≡ n = omega arith in ap (λ d. stages_by (map (piped_of job) (pipes_of job.decls)) ports (guesses_of job) d 1) z ∙ stages_same n 1
 
-    keys_same : 1 ≤ job.stages.value → visible_keys 0 (targets_of job.decls) ++ (stages_by (map (piped_of job) (pipes_of job.decls)) ports (guesses_of job) (job.stages.value - 1) 1 ++ hint_keys 0 (hints_of job.decls)) ≡ keys_of job
-    unfolding keys_of
-    keys_same l = ap (λ (ks : List Key). visible_keys 0 (targets_of job.decls) ++ (ks ++ hint_keys 0 (hints_of job.decls))) (later_same job.stages.value l)
+  hints_same : (h : ℕ) (xs : List Aimed) (ss : List Slot) → length xs ≡ length ss → hints_by h xs ≡ hint_keys h ss
+  hints_same h [] [] e = refl
+  hints_same h [] (s ∷ ss) e = absurd (omega (arith, e))
+  hints_same h (x ∷ xs) [] e = absurd (omega (arith, e))
+  hints_same h (x ∷ xs) (s ∷ ss) e = let y : h + 1 ≡ suc h = omega arith in ap (λ n. Hint h ∷ hints_by n xs) y ∙ ap (λ (ks : List Key). Hint h ∷ ks) (hints_same (suc h) xs ss (omega (arith, e)))
+
+  visible_same : (t : ℕ) (ss : List Slot) → visible_by t (map sized ss) ≡ visible_keys t ss
+  visible_same t [] = refl
+  visible_same t (s ∷ ss) =
+      let y : t + 1 ≡ suc t = omega arith in
+      let more = ap (λ n. visible_by n (map sized ss)) y ∙ visible_same (suc t) ss in
+      let zero_same : (byte s.address == 0) ≡ (s.address == 0) = grind arith in
+      λ i. cond (zero_same i) (Visible t ∷ more i) (more i)
+
+  all_same : (vs ls hs : List Key) → vs ≡ visible_keys 0 (targets_of job.decls) → ls ≡ later_keys job job.stages.value → hs ≡ hint_keys 0 (hints_of job.decls) → vs ++ (ls ++ hs) ≡ keys_of job
+  unfolding keys_of
+  all_same vs ls hs a b c = λ i. a i ++ (b i ++ c i)
 
 module _ (job : Job) (right : Unbroken (widths_of job)) (kept : broken_of job ≡ None) where
   abbrev facts : Facts
@@ -275,33 +276,30 @@ module _ (job : Job) (right : Unbroken (widths_of job)) (kept : broken_of job �
 
   module _ (v : Vectors) where
     -- what is laid out is laid
-    pub laid : v.targets ≡ map sized (targets_of job.decls) → length v.ports ≡ length (targets_of job.decls)
+    pub laid : IsDeclared job v.all → length v.ports ≡ length (targets_of job.decls)
         → ((t : ℕ) → t < length (targets_of job.decls) → get_or v.ports t None ≡ short_port job (result_for job t))
-        → v.pipes ≡ map (short_piped job) (pipes_of job.decls) → v.hints ≡ aimed job job.decls → v.samples ≡ bytes_of (samples_of job.decls) → v.guesses ≡ map short_guess (guesses_of job)
-        → v.keys ≡ visible_keys 0 (targets_of job.decls) ++ (stages_by v.pipes v.ports v.guesses (job.stages.value - 1) 1 ++ hint_keys 0 (hints_of job.decls))
-        → IsLaid job v
-    laid a n b d e s f g =
+        → v.guesses ≡ map short_guess (guesses_of job) → v.keys ≡ keys_by v.all v.ports v.guesses job.stages.value → IsLaid job v
+    laid d n b f g =
         let ts = targets_of job.decls in
-        let count : length v.targets ≡ length ts = ap length a ∙ length-map ts sized in
-        let ds : v.pipes ≡ map (piped_of job) (pipes_of job.decls) = d ∙ maps_same (short_piped job) (piped_of job) (pipes_of job.decls) no_slot pipe_short in
-        let pipe_count : length v.pipes ≡ length (pipes_of job.decls) = ap length ds ∙ length-map (pipes_of job.decls) (piped_of job) in
-        let sample_count : length v.samples ≡ length (samples_of job.decls) = ap length s ∙ length-map (samples_of job.decls) (λ (s : Slot). byte s.width) in
-        let hs : v.hints ≡ map (aim_of job) (hints_of job.decls) = e ∙ aimed_map job job.decls in
-        let hint_count : length v.hints ≡ length (hints_of job.decls) = ap length hs ∙ length-map (hints_of job.decls) (aim_of job) in
+        let count : length v.all.targets.items ≡ length ts = ap length d.targets ∙ length-map ts sized in
+        let ds : v.all.pipes.items ≡ map (piped_of job) (pipes_of job.decls) = d.pipes ∙ maps_same (short_piped job) (piped_of job) (pipes_of job.decls) no_slot pipe_short in
+        let pipe_count : length v.all.pipes.items ≡ length (pipes_of job.decls) = ap length ds ∙ length-map (pipes_of job.decls) (piped_of job) in
+        let sample_count : length v.all.samples.items ≡ length (samples_of job.decls) = ap length d.samples ∙ length-map (samples_of job.decls) (λ (s : Slot). byte s.width) in
+        let hint_count : length v.all.hints.items ≡ length (hints_of job.decls) = ap length d.hints ∙ length-map (hints_of job.decls) (short_aimed job) in
         let is : (t : ℕ) → t < length ts → get_or v.ports t None ≡ port_at job t = λ t l. b t l ∙ port_is t (result_for job t) refl (fit.results t l) in
         let same : v.guesses ≡ guesses_of job = f ∙ maps_same short_guess (λ g. g) (guesses_of job) no_guess guess_is ∙ map-id (guesses_of job) in
         let all : v.keys ≡ keys_of job =
-        g ∙ ap (λ (gs : List GuessSlot). visible_keys 0 ts ++ (stages_by v.pipes v.ports gs (job.stages.value - 1) 1 ++ hint_keys 0 (hints_of job.decls))) same
-        ∙ ap (λ (ps : List Piped). visible_keys 0 ts ++ (stages_by ps v.ports (guesses_of job) (job.stages.value - 1) 1 ++ hint_keys 0 (hints_of job.decls))) ds
-        ∙ keys_same job v.ports n is (omega (arith, fit.at_least)) in
+        g ∙ all_same job _ _ _ (ap (visible_by 0) d.targets ∙ visible_same job 0 ts)
+        ((λ i. stages_by (ds i) v.ports (same i) (job.stages.value - 1) 1) ∙ later_same job v.ports n is job.stages.value (omega (arith, fit.at_least)))
+        (hints_same job 0 v.all.hints.items (hints_of job.decls) hint_count) in
         record {
           fits = fit;
           target_count = count;
           few_targets = omega (arith, count, small.targets);
           width = λ t l. let m : t < length ts = omega (arith, l, count) in
-              ap (λ (xs : List Sized). (get_or xs t no_size).width) a ∙ ap (λ (z : Sized). z.width) (get_or-map sized ts t no_slot no_size m) ∙ byte_is _ (omega (arith, (fit.targets t m).at_most));
+              ap (λ (xs : List Sized). (get_or xs t no_size).width) d.targets ∙ ap (λ (z : Sized). z.width) (get_or-map sized ts t no_slot no_size m) ∙ byte_is _ (omega (arith, (fit.targets t m).at_most));
           address = λ t l. let m : t < length ts = omega (arith, l, count) in
-              ap (λ (xs : List Sized). (get_or xs t no_size).address) a ∙ ap (λ (z : Sized). z.address) (get_or-map sized ts t no_slot no_size m) ∙ byte_is _ (omega (arith, fit.addresses t m));
+              ap (λ (xs : List Sized). (get_or xs t no_size).address) d.targets ∙ ap (λ (z : Sized). z.address) (get_or-map sized ts t no_slot no_size m) ∙ byte_is _ (omega (arith, fit.addresses t m));
           port_count = n;
           port = λ t l. is t (omega (arith, l, n));
           pipe_count = pipe_count;
@@ -309,13 +307,13 @@ module _ (job : Job) (right : Unbroken (widths_of job)) (kept : broken_of job �
               ap (λ (xs : List Piped). get_or xs x no_piped) ds ∙ get_or-map (piped_of job) (pipes_of job.decls) x no_slot no_piped m;
           hint_count = hint_count;
           hint = λ h l. let m : h < length (hints_of job.decls) = omega (arith, l, hint_count) in
-              ap (λ (xs : List Aimed). (get_or xs h no_aim).width) hs ∙ ap (λ (z : Aimed). z.width) (get_or-map (aim_of job) (hints_of job.decls) h no_slot no_aim m) ∙ byte_is _ (omega (arith, (fit.hints h m).at_most));
+              ap (λ (xs : List Aimed). (get_or xs h no_aim).width) d.hints ∙ ap (λ (z : Aimed). z.width) (get_or-map (short_aimed job) (hints_of job.decls) h no_slot no_aim m) ∙ byte_is _ (omega (arith, (fit.hints h m).at_most));
           aim = λ h l. let m : h < length (hints_of job.decls) = omega (arith, l, hint_count) in
-              ap (λ (xs : List Aimed). (get_or xs h no_aim).stage) hs ∙ ap (λ (z : Aimed). z.stage) (get_or-map (aim_of job) (hints_of job.decls) h no_slot no_aim m) ∙ aim_is h m;
+              ap (λ (xs : List Aimed). (get_or xs h no_aim).stage) d.hints ∙ ap (λ (z : Aimed). z.stage) (get_or-map (short_aimed job) (hints_of job.decls) h no_slot no_aim m) ∙ aim_is h m;
           sample_count = sample_count;
           few_samples = omega (arith, sample_count, small.samples);
           sample = λ x l. let m : x < length (samples_of job.decls) = omega (arith, l, sample_count) in
-              ap (λ (xs : List ℕ). get_or xs x 0) s ∙ byte_at (samples_of job.decls) x m (fit.samples x m);
+              ap (λ (xs : List ℕ). get_or xs x 0) d.samples ∙ byte_at (samples_of job.decls) x m (fit.samples x m);
           guesses = same;
           keys = all;
           key_count = let k = keys_few job kept fit.at_most in omega (arith, ap length all, k);
@@ -329,43 +327,29 @@ module _ (p : Plan) (sound : IsSound p) where
   pub few_stages : p.job.stages.value ≤ 12
   few_stages = (fits p.job sound.names sound.stages).at_most
 
-  module _ (job : Job) (ds : List Decl) (same : job ≡ p.job) (of : ds ≡ job.decls) where
-    decls_are : ds ≡ p.job.decls
-    decls_are = of ∙ ap (λ (j : Job). j.decls) same
+  module _ (job : Job) (same : job ≡ p.job) where
+    kept : broken_of job ≡ None
+    kept = subst (λ (j : Job). broken_of j ≡ None) (sym same) sound.stages
 
-    pub few_decls : length ds ≤ 65536
-    few_decls = let n = small p.job sound.names sound.stages in omega (arith, ap length decls_are, n.decls)
+    pub few_tables : (all : Declared) (ports ps : List (Option Port)) (slots gs : List GuessSlot) (n : ℕ) → IsDeclared job all → n ≡ length all.targets.items
+        → length ports ≡ n → ps ≡ ports → slots ≡ map short_guess (guesses_of job) → gs ≡ slots → AreFew all ps gs
+    few_tables all ports ps slots gs n d e f g s h =
+        let m = few job kept in
+        let count : length all.targets.items ≡ length (targets_of job.decls) = ap length d.targets ∙ length-map (targets_of job.decls) sized in
+        record {
+          targets = omega (arith, count, m.targets);
+          pipes = omega (arith, ap length d.pipes, length-map (pipes_of job.decls) (short_piped job), m.pipes);
+          hints = omega (arith, ap length d.hints, length-map (hints_of job.decls) (short_aimed job), m.hints);
+          ports = omega (arith, ap length g, f, e, count, m.targets);
+          slots = omega (arith, ap length h, ap length s, length-map (guesses_of job) short_guess, m.guesses);
+        }
 
-    targets_are : (sizes : List Sized) → sizes ≡ map sized (targets_of ds) → length sizes ≡ length (targets_of p.job.decls)
-    targets_are sizes a = ap length a ∙ length-map (targets_of ds) sized ∙ ap (λ (xs : List Decl). length (targets_of xs)) decls_are
-
-    pub few_ports : (sizes : List Sized) (ports ps : List (Option Port)) (n : ℕ) → sizes ≡ map sized (targets_of ds) → n ≡ length sizes → length ports ≡ n → ps ≡ ports → length ps ≤ 65536
-    few_ports sizes ports ps n a e f g = let m = small p.job sound.names sound.stages in omega (arith, ap length g, f, e, targets_are sizes a, m.targets)
-
-    pub few_pipes : (pipes qs : List Piped) → pipes ≡ map (short_piped job) (pipes_of job.decls) → qs ≡ pipes → length qs ≤ 65536
-    few_pipes pipes qs e f =
-        let m = small p.job sound.names sound.stages in
-        omega (arith, ap length f, ap length e, length-map (pipes_of job.decls) (short_piped job), ap (λ (j : Job). length (pipes_of j.decls)) same, m.pipes)
-
-    pub few_slots : (slots gs : List GuessSlot) → slots ≡ map short_guess (guesses_of job) → gs ≡ slots → length gs ≤ 65536
-    few_slots slots gs e f =
-        let m = small p.job sound.names sound.stages in
-        omega (arith, ap length f, ap length e, length-map (guesses_of job) short_guess, ap (λ (j : Job). length (guesses_of j)) same, m.guesses)
-
-    pub opened : (v : Vectors) (qs : List Piped) (ps : List (Option Port)) (gs : List GuessSlot) (n stages : ℕ)
-        → v.targets ≡ map sized (targets_of ds) → n ≡ length v.targets → length v.ports ≡ n → ((t : ℕ) → t < n → get_or v.ports t None ≡ short_port job (result_for job t))
-        → v.pipes ≡ map (short_piped job) (pipes_of job.decls) → v.hints ≡ aimed job job.decls → v.samples ≡ bytes_of (samples_of ds) → v.guesses ≡ map short_guess (guesses_of job)
-        → stages ≡ p.job.stages.value → qs ≡ v.pipes → ps ≡ v.ports → gs ≡ v.guesses
-        → v.keys ≡ visible_keys 0 (targets_of ds) ++ (stages_by qs ps gs (stages - 1) 1 ++ hint_keys 0 (hints_of ds))
-        → IsLaid p.job v
-    opened v qs ps gs n stages a e f b d h x g s pipes_are ports_are slots_are k =
-        let count = targets_are v.targets a in
-        laid p.job sound.names sound.stages v
-        (a ∙ ap (λ (xs : List Decl). map sized (targets_of xs)) decls_are)
-        (f ∙ e ∙ count)
-        (λ t l. b t (omega (arith, l, e, count)) ∙ ap (λ (j : Job). short_port j (result_for j t)) same)
-        (d ∙ ap (λ (j : Job). map (short_piped j) (pipes_of j.decls)) same)
-        (h ∙ ap (λ (j : Job). aimed j j.decls) same)
-        (x ∙ ap (λ (xs : List Decl). bytes_of (samples_of xs)) decls_are)
-        (g ∙ ap (λ (j : Job). map short_guess (guesses_of j)) same)
-        (k ∙ (λ i. visible_keys 0 (targets_of (decls_are i)) ++ (stages_by (pipes_are i) (ports_are i) (slots_are i) (s i - 1) 1 ++ hint_keys 0 (hints_of (decls_are i)))))
+    pub opened : (v : Vectors) (ps : List (Option Port)) (gs : List GuessSlot) (n k : ℕ) → IsDeclared job v.all → n ≡ length v.all.targets.items → length v.ports ≡ n
+        → ((t : ℕ) → t < n → get_or v.ports t None ≡ short_port job (result_for job t)) → v.guesses ≡ map short_guess (guesses_of job)
+        → k ≡ p.job.stages.value → ps ≡ v.ports → gs ≡ v.guesses → v.keys ≡ keys_by v.all ps gs k → IsLaid p.job v
+    opened v ps gs n k d e f b g s ports_are slots_are keys =
+        let count : length v.all.targets.items ≡ length (targets_of job.decls) = ap length d.targets ∙ length-map (targets_of job.decls) sized in
+        let stages : k ≡ job.stages.value = s ∙ ap (λ (j : Job). j.stages.value) (sym same) in
+        subst (λ (j : Job). IsLaid j v) same
+        (laid job (subst (λ (j : Job). Unbroken (widths_of j)) (sym same) sound.names) kept v d (f ∙ e ∙ count) (λ t l. b t (omega (arith, l, e, count))) g
+        (keys ∙ (λ i. keys_by v.all (ports_are i) (slots_are i) (stages i))))

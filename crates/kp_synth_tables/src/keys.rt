@@ -1,34 +1,22 @@
 //! The keys of a design, in the order of the registers.
-ghost use Rattle.std.specs.Prelude.{◌≡◌, ℕ, ◌-◌, ◌++◌, ◌≤◌, length, IfOk, OnOk};
-ghost use Rattle.kp_machine.specs.Slots.{targets_of, hints_of};
-ghost use Rattle.kp_synth_tables.specs.Keys.{visible_keys, guess_keys, hint_keys, is_carried};
-ghost use Rattle.kp_synth_tables.specs.inner.Tables.{piped_by, pipes_by, stored_by, result_here, results_by, stage_by, stages_by};
+ghost use Rattle.std.specs.Prelude.{◌≡◌, ◌-◌, ◌++◌, ◌≤◌, length, IfOk, OnOk};
+ghost use Rattle.kp_synth_tables.specs.Keys.{guess_keys, is_carried};
+ghost use Rattle.kp_synth_tables.specs.inner.Tables.{AreFew, visible_by, piped_by, pipes_by, stored_by, result_here, results_by, stage_by, stages_by, hints_by, keys_by};
 
 use crate::key::{GuessSlot, Key};
-use crate::layout::{Piped, Port};
-use kp_ast::Decl;
+use crate::layout::{Aimed, Piped, Port, Sized};
+use crate::tables::Declared;
 use kp_base::NoMemory;
 use std::alloc::Global;
 
 // Adds the visible registers.
-fn add_visible(keys: &mut Vec<Key>, decls: &[Decl]) -> Result<(), NoMemory>
-    requires few { length decls.now ≤ 65536 }
-    ensures { OnOk result (keys.new.items ≡ keys.old.items ++ visible_keys 0 (targets_of decls.now)) }
+fn add_visible(keys: &mut Vec<Key>, targets: &[Sized]) -> Result<(), NoMemory>
+    requires few { length targets.now ≤ 65536 }
+    ensures { OnOk result (keys.new.items ≡ keys.old.items ++ visible_by 0 targets.now) }
 {
-    let mut t = 0u32;
-    for decl in decls {
-        match decl {
-            Decl::Reg(_, _, _) => {
-                keys.push(Key::Visible(t))?;
-                t += 1;
-            }
-            Decl::File(_, _, address) => {
-                if address.value == 0 {
-                    keys.push(Key::Visible(t))?;
-                }
-                t += 1;
-            }
-            _ => {}
+    for (t, target) in targets.iter().enumerate() {
+        if target.address == 0 {
+            keys.push(Key::Visible(t as u32))?;
         }
     }
     Ok(())
@@ -55,16 +43,12 @@ fn add_pipes(keys: &mut Vec<Key>, stage: u32, pipes: &[Piped]) -> Result<(), NoM
 }
 
 // Adds the hints.
-fn add_hints(keys: &mut Vec<Key>, decls: &[Decl]) -> Result<(), NoMemory>
-    requires few { length decls.now ≤ 65536 }
-    ensures { OnOk result (keys.new.items ≡ keys.old.items ++ hint_keys 0 (hints_of decls.now)) }
+fn add_hints(keys: &mut Vec<Key>, hints: &[Aimed]) -> Result<(), NoMemory>
+    requires few { length hints.now ≤ 65536 }
+    ensures { OnOk result (keys.new.items ≡ keys.old.items ++ hints_by 0 hints.now) }
 {
-    let mut h = 0u32;
-    for decl in decls {
-        if let Decl::Hint(_, _, _) = decl {
-            keys.push(Key::Hint(h))?;
-            h += 1;
-        }
+    for h in 0..hints.len() {
+        keys.push(Key::Hint(h as u32))?;
     }
     Ok(())
 }
@@ -170,21 +154,17 @@ fn add_stages(
 pub(crate) fn keys(
     alloc: Global,
     stages: u32,
-    decls: &[Decl],
-    pipes: &[Piped],
+    all: &Declared,
     ports: &[Option<Port>],
     slots: &[GuessSlot],
 ) -> Result<Vec<Key>, NoMemory>
     requires some { 1 ≤ stages }
-    requires decls { length decls.now ≤ 65536 }
-    requires pipes { length pipes.now ≤ 65536 }
-    requires ports { length ports.now ≤ 65536 }
-    requires slots { length slots.now ≤ 65536 }
-    ensures { IfOk result (λ keys. keys.items ≡ visible_keys 0 (targets_of decls.now) ++ (stages_by pipes.now ports.now slots.now (stages - 1) 1 ++ hint_keys 0 (hints_of decls.now))) }
+    requires few { AreFew all.now ports.now slots.now }
+    ensures { IfOk result (λ keys. keys.items ≡ keys_by all.now ports.now slots.now stages) }
 {
     let mut keys = Vec::new(alloc);
-    add_visible(&mut keys, decls)?;
-    add_stages(&mut keys, stages, pipes, ports, slots)?;
-    add_hints(&mut keys, decls)?;
+    add_visible(&mut keys, all.targets.as_slice())?;
+    add_stages(&mut keys, stages, all.pipes.as_slice(), ports, slots)?;
+    add_hints(&mut keys, all.hints.as_slice())?;
     Ok(keys)
 }

@@ -7,7 +7,7 @@ ghost use Rattle.kp_synth_tables.specs.Fits.{port_at, IsWidth, ResultFits, Fits}
 
 use crate::key::{GuessSlot, Key};
 use crate::keys::keys;
-use crate::tables::{guesses, hints, pipes, ports, sample_widths, sizes};
+use crate::tables::{Declared, guesses, ports};
 use kp_ast::Job;
 use kp_base::NoMemory;
 use kp_stage::Design;
@@ -56,11 +56,8 @@ pub struct Aimed {
 /// The tables of a design, seen as its job.
 pub struct Layout<'a> {
     design: &'a Design,
-    targets: Vec<Sized>,
+    declared: Declared,
     ports: Vec<Option<Port>>,
-    pipes: Vec<Piped>,
-    hints: Vec<Aimed>,
-    samples: Vec<u8>,
     guesses: Vec<GuessSlot>,
     keys: Vec<Key>,
 }
@@ -69,19 +66,13 @@ impl Drop for Layout<'_> {
     fn drop(self) {
         let Layout {
             design: _,
-            targets,
+            declared,
             ports,
-            pipes,
-            hints,
-            samples,
             guesses,
             keys,
         } = self;
-        drop(targets);
+        drop(declared);
         drop(ports);
-        drop(pipes);
-        drop(hints);
-        drop(samples);
         drop(guesses);
         drop(keys);
     }
@@ -99,7 +90,7 @@ impl<'a> Model for Layout<'a> {
 
     ghost view = { λ l. l.design.now.job };
 
-    ghost invariant = { λ l. IsLaid l.design.now.job (record { targets = l.targets.items; ports = l.ports.items; pipes = l.pipes.items; hints = l.hints.items; samples = l.samples.items; guesses = l.guesses.items; keys = l.keys.items }) };
+    ghost invariant = { λ l. IsLaid l.design.now.job (record { all = l.declared; ports = l.ports.items; guesses = l.guesses.items; keys = l.keys.items }) };
 }
 
 impl<'a> Layout<'a> {
@@ -108,28 +99,20 @@ impl<'a> Layout<'a> {
         ensures { IfOk result (λ layout. layout ≡ design.now.job) }
     {
         let job = design.job();
-        let decls = job.decls.as_slice();
-        let targets = sizes(alloc, decls)?;
-        let ports = ports(alloc, job, targets.len())?;
-        let pipes = pipes(alloc, job)?;
-        let hints = hints(alloc, job)?;
-        let samples = sample_widths(alloc, decls)?;
+        let declared = Declared::of(alloc, job)?;
+        let ports = ports(alloc, job, declared.targets.len())?;
         let guesses = guesses(alloc, job)?;
         let keys = keys(
             alloc,
             stages_of(design),
-            decls,
-            pipes.as_slice(),
+            &declared,
             ports.as_slice(),
             guesses.as_slice(),
         )?;
         Ok(Layout {
             design,
-            targets,
+            declared,
             ports,
-            pipes,
-            hints,
-            samples,
             guesses,
             keys,
         })
@@ -161,7 +144,7 @@ impl<'a> Layout<'a> {
     pub fn target_count(&self) -> u32
         ensures { result ≡ length (targets_of self.now.decls) }
     {
-        self.targets.len() as u32
+        self.declared.targets.len() as u32
     }
 
     /// Whether a target is a register.
@@ -169,7 +152,7 @@ impl<'a> Layout<'a> {
         requires { target < length (targets_of self.now.decls) }
         ensures { result ≡ is_register (target_at self.now target) }
     {
-        self.targets[target as usize].address == 0
+        self.declared.targets[target as usize].address == 0
     }
 
     /// The width of the values of a target.
@@ -178,7 +161,7 @@ impl<'a> Layout<'a> {
         ensures width { result ≡ (target_at self.now target).width }
         ensures fits { IsWidth result }
     {
-        self.targets[target as usize].width
+        self.declared.targets[target as usize].width
     }
 
     /// The width of the addresses of a target, which is 0 for a register.
@@ -187,7 +170,7 @@ impl<'a> Layout<'a> {
         ensures address { result ≡ (target_at self.now target).address }
         ensures fits { result ≤ 16 }
     {
-        self.targets[target as usize].address
+        self.declared.targets[target as usize].address
     }
 
     /// The width of a pipe.
@@ -196,7 +179,7 @@ impl<'a> Layout<'a> {
         ensures width { result ≡ (pipe_at self.now pipe).width }
         ensures fits { IsWidth result }
     {
-        self.pipes[pipe as usize].width
+        self.declared.pipes[pipe as usize].width
     }
 
     /// Whether a stage stores the value of a pipe.
@@ -204,7 +187,7 @@ impl<'a> Layout<'a> {
         requires { pipe < length (pipes_of self.now.decls) }
         ensures { result ≡ is_piped self.now pipe stage }
     {
-        let pipe = self.pipes[pipe as usize];
+        let pipe = self.declared.pipes[pipe as usize];
         pipe.from <= stage && stage <= pipe.to
     }
 
@@ -227,14 +210,14 @@ impl<'a> Layout<'a> {
         ensures inside { result.stage < self.now.stages.value }
         ensures fits { IsWidth result.width }
     {
-        self.hints[hint as usize]
+        self.declared.hints[hint as usize]
     }
 
     /// The number of samples.
     pub fn sample_count(&self) -> u32
         ensures { result ≡ length (samples_of self.now.decls) }
     {
-        self.samples.len() as u32
+        self.declared.samples.len() as u32
     }
 
     /// The width of a sample.
@@ -243,7 +226,7 @@ impl<'a> Layout<'a> {
         ensures width { result ≡ (sample_at self.now sample).width }
         ensures fits { IsWidth result }
     {
-        self.samples[sample as usize]
+        self.declared.samples[sample as usize]
     }
 
     /// How a target is written, or nothing if it has no result.

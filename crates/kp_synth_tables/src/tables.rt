@@ -1,10 +1,11 @@
 //! Building the tables of a design.
-ghost use Rattle.std.specs.Prelude.{[], ◌≡◌, ℕ, ◌+◌, ◌++◌, ◌≤◌, ◌<◌, length, map, get_or, None, Some, IfOk, OnOk, is_some};
-ghost use Rattle.kp_machine.specs.Slots.{targets_of, pipes_of, samples_of, number_of, width_of};
+ghost use Rattle.std.specs.Prelude.{[], ◌≡◌, ℕ, ◌+◌, ◌++◌, ◌∷◌, ◌≤◌, ◌<◌, List, length, map, max, get_or, None, Some, IfOk, OnOk, is_some};
+ghost use Rattle.kp_ast.specs.declared.tree.Decl.{Decl};
+ghost use Rattle.kp_machine.specs.Slots.{targets_of, pipes_of, hints_of, samples_of, number_of, width_of};
 ghost use Rattle.kp_machine.specs.Machine.{result_for, write_stage_of};
 ghost use Rattle.kp_synth_tables.specs.Spans.{has_put, put_after, has_set, set_after};
 ghost use Rattle.kp_synth_tables.specs.Keys.{guess_slot, guesses_in, guesses_of};
-ghost use Rattle.kp_synth_tables.specs.inner.Tables.{byte, short, sized, has_aim, aimed_in, short_piped, aimed, known_in, short_number, short_port, short_guess, guess_here, guess_count};
+ghost use Rattle.kp_synth_tables.specs.inner.Tables.{byte, short, bytes_of, sized, has_aim, aimed_in, short_piped, short_aimed, IsDeclared, known_in, short_number, short_port, short_guess, guess_here, guess_count};
 
 use crate::key::GuessSlot;
 use crate::layout::{Aimed, Piped, Port, Sized};
@@ -13,17 +14,97 @@ use kp_ast::{Block, Decl, Job, Name, Named, ReadStmt, ResultDecl, StmtKind};
 use kp_base::NoMemory;
 use std::alloc::Global;
 
+/// What is declared: the widths of the targets, pipes, hints and samples, and the stages of the pipes and hints.
+pub(crate) struct Declared {
+    pub targets: Vec<Sized>,
+    pub pipes: Vec<Piped>,
+    pub hints: Vec<Aimed>,
+    pub samples: Vec<u8>,
+}
+
+impl Drop for Declared {
+    fn drop(self) {
+        let Declared {
+            targets,
+            pipes,
+            hints,
+            samples,
+        } = self;
+        drop(targets);
+        drop(pipes);
+        drop(hints);
+        drop(samples);
+    }
+}
+
+impl Declared {
+    /// What a job declares. Error: out of memory.
+    pub(crate) fn of(alloc: Global, job: &Job) -> Result<Declared, NoMemory>
+        ensures { IfOk result (λ all. IsDeclared job.now all) }
+    {
+        let mut all = Declared {
+            targets: Vec::new(alloc),
+            pipes: Vec::new(alloc),
+            hints: Vec::new(alloc),
+            samples: Vec::new(alloc),
+        };
+        for decl in job.decls.as_slice() {
+            all.add(job, decl)?;
+        }
+        Ok(all)
+    }
+
+    // Adds a declaration of a job.
+    fn add(&mut self, job: &Job, decl: &Decl) -> Result<(), NoMemory>
+        ensures targets { IfOk result (λ u. (ds : List Decl) → self.new.targets.items ++ map sized (targets_of ds) ≡ self.old.targets.items ++ map sized (targets_of (decl.now ∷ ds))) }
+        ensures pipes { IfOk result (λ u. (ds : List Decl)
+            → self.new.pipes.items ++ map (short_piped job.now) (pipes_of ds) ≡ self.old.pipes.items ++ map (short_piped job.now) (pipes_of (decl.now ∷ ds))) }
+        ensures hints { IfOk result (λ u. (ds : List Decl)
+            → self.new.hints.items ++ map (short_aimed job.now) (hints_of ds) ≡ self.old.hints.items ++ map (short_aimed job.now) (hints_of (decl.now ∷ ds))) }
+        ensures samples { IfOk result (λ u. (ds : List Decl) → self.new.samples.items ++ bytes_of (samples_of ds) ≡ self.old.samples.items ++ bytes_of (samples_of (decl.now ∷ ds))) }
+    {
+        match decl {
+            Decl::Reg(_, width, _) => self.targets.push(Sized {
+                width: byte(width.value),
+                address: 0,
+            })?,
+            Decl::File(_, width, address) => self.targets.push(Sized {
+                width: byte(width.value),
+                address: byte(address.value),
+            })?,
+            Decl::Pipe(named, width) => self.pipes.push(Piped {
+                width: byte(width.value),
+                from: short(put_after(job.blocks.as_slice(), &named.name) as u64),
+                to: short(last_use(job, &named.name)),
+            })?,
+            Decl::Hint(named, width, _) => self.hints.push(Aimed {
+                width: byte(width.value),
+                stage: short(aimed_in(job.blocks.as_slice(), &named.name) as u64),
+            })?,
+            Decl::Sample(_, width, _) => self.samples.push(byte(width.value))?,
+            _ => {}
+        }
+        Ok(())
+    }
+}
+
 // A number in 8 bits. Widths are at most 64, and numbers of stages and slots are small: larger numbers don't occur.
 fn byte(n: u64) -> u8
     ensures { result ≡ byte n }
 {
-    n.min(255) as u8
+    if n < 255 { n as u8 } else { 255 }
 }
 
 fn short(n: u64) -> u32
     ensures { result ≡ short n }
 {
-    n.min(4294967295) as u32
+    if n < 4294967295 { n as u32 } else { 4294967295 }
+}
+
+pub(crate) fn larger(a: u64, b: u64) -> u64
+    ensures { result ≡ max a b }
+{
+    if a < b { b } else { a }
 }
 
 // The number of the first target with this name, or the number of targets if none has it.
@@ -87,57 +168,6 @@ pub(crate) fn target_width(decls: &[Decl], name: &Name) -> u64
         }
     }
     0
-}
-
-// The sizes of the targets.
-pub(crate) fn sizes(alloc: Global, decls: &[Decl]) -> Result<Vec<Sized>, NoMemory>
-    ensures { IfOk result (λ sizes. sizes.items ≡ map sized (targets_of decls.now)) }
-{
-    let mut sizes = Vec::new(alloc);
-    for decl in decls {
-        match decl {
-            Decl::Reg(_, width, _) => sizes.push(Sized {
-                width: byte(width.value),
-                address: 0,
-            })?,
-            Decl::File(_, width, address) => sizes.push(Sized {
-                width: byte(width.value),
-                address: byte(address.value),
-            })?,
-            _ => {}
-        }
-    }
-    Ok(sizes)
-}
-
-// The pipes.
-pub(crate) fn pipes(alloc: Global, job: &Job) -> Result<Vec<Piped>, NoMemory>
-    ensures { IfOk result (λ pipes. pipes.items ≡ map (short_piped job.now) (pipes_of job.now.decls)) }
-{
-    let mut pipes = Vec::new(alloc);
-    for decl in job.decls.as_slice() {
-        if let Decl::Pipe(named, width) = decl {
-            pipes.push(Piped {
-                width: byte(width.value),
-                from: short(put_after(job.blocks.as_slice(), &named.name) as u64),
-                to: short(last_use(job, &named.name)),
-            })?;
-        }
-    }
-    Ok(pipes)
-}
-
-// The widths of the samples.
-pub(crate) fn sample_widths(alloc: Global, decls: &[Decl]) -> Result<Vec<u8>, NoMemory>
-    ensures { IfOk result (λ widths. widths.items ≡ map (λ s. byte s.width) (samples_of decls.now)) }
-{
-    let mut widths = Vec::new(alloc);
-    for decl in decls {
-        if let Decl::Sample(_, width, _) = decl {
-            widths.push(byte(width.value))?;
-        }
-    }
-    Ok(widths)
 }
 
 // Whether a block aims a hint.
@@ -206,29 +236,12 @@ fn set_after(blocks: &[Block], name: &Name) -> usize
     blocks.len()
 }
 
-// The hints.
-pub(crate) fn hints(alloc: Global, job: &Job) -> Result<Vec<Aimed>, NoMemory>
-    ensures { IfOk result (λ hints. hints.items ≡ aimed job.now job.now.decls) }
-{
-    let mut hints = Vec::new(alloc);
-    for decl in job.decls.as_slice() {
-        if let Decl::Hint(named, width, _) = decl {
-            let stage = aimed_in(job.blocks.as_slice(), &named.name);
-            hints.push(Aimed {
-                width: byte(width.value),
-                stage: short(stage as u64),
-            })?;
-        }
-    }
-    Ok(hints)
-}
-
 // The first stage after the put of an optional pipe.
-fn known_in(job: &Job, pipe: &Option<Named>) -> usize
+fn known_in(job: &Job, pipe: &Option<Named>) -> u64
     ensures { result ≡ known_in job.now pipe.now }
 {
     match pipe {
-        Some(named) => put_after(job.blocks.as_slice(), &named.name),
+        Some(named) => put_after(job.blocks.as_slice(), &named.name) as u64,
         None => 0,
     }
 }
@@ -246,10 +259,10 @@ fn short_number(job: &Job, pipe: &Option<Named>) -> Option<u32>
 fn port_by(job: &Job, r: &ResultDecl) -> Port
     ensures { Some result ≡ short_port job.now (Some r.now) }
 {
-    let known = known_in(job, &r.address).max(known_in(job, &r.enable));
+    let known = larger(known_in(job, &r.address), known_in(job, &r.enable));
     Port {
         write: short(r.stage.value),
-        known: short(known as u64),
+        known: short(known),
         set: short(set_after(job.blocks.as_slice(), &r.name.name) as u64),
         enable: short_number(job, &r.enable),
         address: short_number(job, &r.address),

@@ -4,6 +4,7 @@ ghost use Rattle.std.specs.List.{list_any};
 ghost use Rattle.kp_stage.specs.Uses.{listed, uses, exprs_in};
 ghost use Rattle.kp_synth_tables.specs.Spans.{is_called, uses_name, last_use_in, last_write, last_use};
 
+use crate::tables::larger;
 use kp_ast::{Block, Decl, Expr, ExprKind, Job, Name, Named, StmtKind};
 
 // Whether an expression uses a name.
@@ -110,7 +111,7 @@ pub(crate) fn last_use(job: &Job, name: &Name) -> u64
     for decl in job.decls.as_slice() {
         if let Decl::Target(r) = decl {
             if is_called(&r.address, name) || is_called(&r.enable, name) {
-                last = last.max(r.stage.value);
+                last = larger(last, r.stage.value);
             }
         }
     }

@@ -2,7 +2,7 @@
 use Rattle.std.specs.Prelude.{◌≡◌, ℕ, ◌<◌, ◌≤◌, List, length, get_or, Option, None}
 use Rattle.kp_ast.specs.declared.tree.Job.{Job}
 use Rattle.kp_machine.specs.{Slots.Slot, Slots.targets_of, Slots.pipes_of, Slots.hints_of, Slots.samples_of, Machine.machine_of}
-use Rattle.kp_synth_tables.specs.declared.{key.GuessSlot.GuessSlot, key.Key.Key, layout.Port.Port, layout.Sized.Sized, layout.Aimed.Aimed, layout.Piped.Piped}
+use Rattle.kp_synth_tables.specs.declared.{tables.Declared.Declared, key.GuessSlot.GuessSlot, key.Key.Key, layout.Port.Port, layout.Sized.Sized, layout.Aimed.Aimed, layout.Piped.Piped}
 use Rattle.kp_synth_tables.specs.{Spans.put_after, Spans.last_use, Keys.target_at, Keys.pipe_at, Keys.hint_at, Keys.sample_at, Keys.guesses_of, Keys.keys_of}
 use Rattle.kp_synth_tables.specs.Fits.{port_at, Fits}
 
@@ -22,30 +22,27 @@ piped_of job s = record { width = s.width; from = put_after s.name 0 job.blocks;
 
 -- the vectors of a layout
 pub record Vectors : Type 0 where
-  pub targets : List Sized
+  pub all : Declared
   pub ports : List (Option Port)
-  pub pipes : List Piped
-  pub hints : List Aimed
-  pub samples : List ℕ
   pub guesses : List GuessSlot
   pub keys : List Key
 
 pub record IsLaid (job : Job) (v : Vectors) : Type 0 where
   pub fits : Fits job
-  pub target_count : length v.targets ≡ length (targets_of job.decls)
-  pub few_targets : length v.targets ≤ 16777216
-  pub width : (t : ℕ) → t < length v.targets → (get_or v.targets t no_size).width ≡ (target_at job t).width
-  pub address : (t : ℕ) → t < length v.targets → (get_or v.targets t no_size).address ≡ (target_at job t).address
+  pub target_count : length v.all.targets.items ≡ length (targets_of job.decls)
+  pub few_targets : length v.all.targets.items ≤ 16777216
+  pub width : (t : ℕ) → t < length v.all.targets.items → (get_or v.all.targets.items t no_size).width ≡ (target_at job t).width
+  pub address : (t : ℕ) → t < length v.all.targets.items → (get_or v.all.targets.items t no_size).address ≡ (target_at job t).address
   pub port_count : length v.ports ≡ length (targets_of job.decls)
   pub port : (t : ℕ) → t < length v.ports → get_or v.ports t None ≡ port_at job t
-  pub pipe_count : length v.pipes ≡ length (pipes_of job.decls)
-  pub pipe : (x : ℕ) → x < length v.pipes → get_or v.pipes x no_piped ≡ piped_of job (pipe_at job x)
-  pub hint_count : length v.hints ≡ length (hints_of job.decls)
-  pub hint : (h : ℕ) → h < length v.hints → (get_or v.hints h no_aim).width ≡ (hint_at job h).width
-  pub aim : (h : ℕ) → h < length v.hints → (get_or v.hints h no_aim).stage ≡ (machine_of job).hint_stage h
-  pub sample_count : length v.samples ≡ length (samples_of job.decls)
-  pub few_samples : length v.samples ≤ 16777216
-  pub sample : (x : ℕ) → x < length v.samples → get_or v.samples x 0 ≡ (sample_at job x).width
+  pub pipe_count : length v.all.pipes.items ≡ length (pipes_of job.decls)
+  pub pipe : (x : ℕ) → x < length v.all.pipes.items → get_or v.all.pipes.items x no_piped ≡ piped_of job (pipe_at job x)
+  pub hint_count : length v.all.hints.items ≡ length (hints_of job.decls)
+  pub hint : (h : ℕ) → h < length v.all.hints.items → (get_or v.all.hints.items h no_aim).width ≡ (hint_at job h).width
+  pub aim : (h : ℕ) → h < length v.all.hints.items → (get_or v.all.hints.items h no_aim).stage ≡ (machine_of job).hint_stage h
+  pub sample_count : length v.all.samples.items ≡ length (samples_of job.decls)
+  pub few_samples : length v.all.samples.items ≤ 16777216
+  pub sample : (x : ℕ) → x < length v.all.samples.items → get_or v.all.samples.items x 0 ≡ (sample_at job x).width
   pub guesses : v.guesses ≡ guesses_of job
   pub keys : v.keys ≡ keys_of job
   pub key_count : length v.keys ≤ 16777216

@@ -1,16 +1,15 @@
 -- The contents of the tables of a job, as numbers of limited width.
-use Rattle.std.specs.Prelude.{ℕ, zero, suc, ◌+◌, min, max, List, [], ◌∷◌, ◌++◌, Option, Some, None, Bool, false, ◌&&◌, if◌then◌else◌, nat_le}
+use Rattle.std.specs.Prelude.{◌≡◌, ℕ, zero, suc, ◌+◌, ◌-◌, ◌≤◌, ◌==◌, min, max, List, [], ◌∷◌, ◌++◌, map, length, Option, Some, None, Bool, false, ◌&&◌, if◌then◌else◌, nat_le}
 use Rattle.std.specs.List.{list_any}
-use Rattle.kp_ast.specs.declared.tree.{Named.Named, ResultDecl.ResultDecl, Expr.Expr, ReadStmt.ReadStmt, Stmt.Stmt, StmtKind.StmtKind, Block.Block, Decl.Decl}
+use Rattle.kp_ast.specs.declared.tree.{Named.Named, ResultDecl.ResultDecl, Expr.Expr, ReadStmt.ReadStmt, Stmt.Stmt, StmtKind.StmtKind, Block.Block}
 use Rattle.kp_ast.specs.declared.tree.Job.{Job}
 use Rattle.kp_ast.specs.declared.tree.StmtKind.TheVariants as stmts
-use Rattle.kp_ast.specs.declared.tree.Decl.TheVariants as decls
 use Rattle.kp_stage.specs.{Counts.one_if_some, Uses.aims}
-use Rattle.kp_machine.specs.Slots.{Slot, pipes_of, number_of}
+use Rattle.kp_machine.specs.Slots.{Slot, targets_of, pipes_of, hints_of, samples_of, number_of}
 use Rattle.kp_synth_tables.specs.declared.key.{GuessSlot.GuessSlot, Key.Key}
-use Rattle.kp_synth_tables.specs.declared.key.Key.TheVariants.{Full, Pipe, Valid, Value}
+use Rattle.kp_synth_tables.specs.declared.key.Key.TheVariants.{Visible, Full, Pipe, Valid, Value, Hint}
 use Rattle.kp_synth_tables.specs.{Keys.guess_slot, Keys.guess_keys, declared.layout.Sized.Sized, declared.layout.Port.Port, declared.layout.Piped.Piped}
-use Rattle.kp_synth_tables.specs.{Spans.put_after, Spans.set_after, Spans.last_use, declared.layout.Aimed.Aimed}
+use Rattle.kp_synth_tables.specs.{Spans.put_after, Spans.set_after, Spans.last_use, declared.layout.Aimed.Aimed, declared.tables.Declared.Declared}
 
 -- a number that fits, else the largest that does
 abbrev pub byte : ℕ → ℕ
@@ -21,6 +20,9 @@ short n = min n 4294967295
 
 abbrev pub sized : Slot → Sized
 sized s = record { width = byte s.width; address = byte s.address }
+
+abbrev pub bytes_of : List Slot → List ℕ
+bytes_of ss = map (λ (s : Slot). byte s.width) ss
 
 -- the stage that aims a hint, among the blocks from number k on, and 0 if none does
 abbrev pub has_aim : List ℕ → List Stmt → Bool
@@ -35,10 +37,23 @@ abbrev pub short_piped : Job → Slot → Piped
 short_piped job s = record { width = byte s.width; from = short (put_after s.name 0 job.blocks); to = short (last_use job s.name) }
 
 -- the hints
-abbrev pub aimed : Job → List Decl → List Aimed
-aimed job [] = []
-aimed job (decls.Hint n width start ∷ ds) = record { width = byte width.value; stage = short (aimed_in n.name 0 job.blocks) } ∷ aimed job ds
-aimed job (_ ∷ ds) = aimed job ds
+abbrev pub short_aimed : Job → Slot → Aimed
+short_aimed job s = record { width = byte s.width; stage = short (aimed_in s.name 0 job.blocks) }
+
+-- what a job declares
+pub record IsDeclared (job : Job) (all : Declared) : Type 0 where
+  pub targets : all.targets.items ≡ map sized (targets_of job.decls)
+  pub pipes : all.pipes.items ≡ map (short_piped job) (pipes_of job.decls)
+  pub hints : all.hints.items ≡ map (short_aimed job) (hints_of job.decls)
+  pub samples : all.samples.items ≡ bytes_of (samples_of job.decls)
+
+-- the entries of the tables can be numbered
+pub record AreFew (all : Declared) (ps : List (Option Port)) (gs : List GuessSlot) : Type 0 where
+  pub targets : length all.targets.items ≤ 65536
+  pub pipes : length all.pipes.items ≤ 65536
+  pub hints : length all.hints.items ≤ 65536
+  pub ports : length ps ≤ 65536
+  pub slots : length gs ≤ 65536
 
 -- how a target is written, by its result
 abbrev pub known_in : Job → Option Named → ℕ
@@ -84,7 +99,12 @@ abbrev pub stored_by : Option Port → ℕ → Bool
 stored_by None k = false
 stored_by (Some p) k = nat_le p.set k && nat_le k p.write
 
--- THE KEYS of a stage, by the spans and the ports.
+-- THE KEYS, first those of the visible registers.
+abbrev pub visible_by : ℕ → List Sized → List Key
+visible_by t [] = []
+visible_by t (s ∷ ss) = if s.address == 0 then Visible t ∷ visible_by (t + 1) ss else visible_by (t + 1) ss
+
+-- those of a stage, by the spans and the ports
 abbrev pub pipes_by : ℕ → ℕ → List Piped → List Key
 pipes_by k x [] = []
 pipes_by k x (p ∷ ps) = if piped_by p k then Pipe x k ∷ pipes_by k (x + 1) ps else pipes_by k (x + 1) ps
@@ -103,3 +123,11 @@ stage_by k pipes ports slots = Full k ∷ (pipes_by k 0 pipes ++ (results_by k 0
 abbrev pub stages_by : List Piped → List (Option Port) → List GuessSlot → ℕ → ℕ → List Key
 stages_by pipes ports slots zero k = []
 stages_by pipes ports slots (suc d) k = stage_by k pipes ports slots ++ stages_by pipes ports slots d (k + 1)
+
+-- and those of the hints
+abbrev pub hints_by : ℕ → List Aimed → List Key
+hints_by h [] = []
+hints_by h (x ∷ xs) = Hint h ∷ hints_by (h + 1) xs
+
+abbrev pub keys_by : Declared → List (Option Port) → List GuessSlot → ℕ → List Key
+keys_by all ps gs stages = visible_by 0 all.targets.items ++ (stages_by all.pipes.items ps gs (stages - 1) 1 ++ hints_by 0 all.hints.items)
