@@ -1,7 +1,7 @@
 use Rattle.std.proofs.{Common.◌≡◌, Common.◌∙◌, Common.ℕ, Common.◌+◌, Common.◌<◌, Common.sym, Common.subst, Common.arith, lemmas.List.length-set}
 use Rattle.kp_net.{specs.Growth.Wire, proofs.Growing.wire_kept, proofs.Growing.grown_then}
 use Rattle.kp_synth_registers.{specs.Meaning.IsTest, proofs.Growth.test_kept, proofs.Growth.ready_kept}
-use Rattle.kp_synth_close.proofs.Bits.{at_set}
+use Rattle.kp_net_gates.proofs.Greatest.{at_set}
 use Rattle.kp_synth_close.proofs.outputs.fulls_of.Goals as goal
 
 pub full_in-requires-clause-ready : goal.full_in-requires-clause-ready

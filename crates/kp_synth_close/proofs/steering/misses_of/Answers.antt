@@ -4,7 +4,8 @@ use Rattle.kp_pipeline.specs.Pipeline.{mismatches}
 use Rattle.kp_machine.specs.Machine.{machine_of}
 use Rattle.kp_net.specs.Growth.{Wire}
 use Rattle.kp_synth_registers.{specs.declared.outcome.Outcome.Outcome, specs.Meaning.IsTest, specs.Meaning.Says, proofs.Growth.says_kept}
-use Rattle.kp_synth_close.{specs.Nexts.outcome_at, specs.Nexts.no_outcome, proofs.Bits.at_set}
+use Rattle.kp_net_gates.proofs.Greatest.{at_set}
+use Rattle.kp_synth_close.specs.Nexts.{outcome_at, no_outcome}
 use Rattle.kp_synth_close.proofs.steering.misses_of.Goals as goal
 
 pub loop-k-preserved : goal.loop-k-preserved

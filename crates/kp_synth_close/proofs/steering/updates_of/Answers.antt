@@ -5,7 +5,8 @@ use Rattle.kp_machine.specs.Machine.{machine_of}
 use Rattle.kp_net.{specs.Growth.Wire, proofs.Growing.wire_kept, proofs.Growing.grown_then, proofs.Growing.grown_more}
 use Rattle.kp_synth_registers.specs.{declared.outcome.Outcome.Outcome, Meaning.IsTest, Meaning.Says}
 use Rattle.kp_synth_registers.proofs.Growth.{says_kept, test_kept, ready_kept}
-use Rattle.kp_synth_close.{specs.Nexts.outcome_at, specs.Nexts.no_outcome, proofs.Bits.at_set}
+use Rattle.kp_net_gates.proofs.Greatest.{at_set}
+use Rattle.kp_synth_close.specs.Nexts.{outcome_at, no_outcome}
 use Rattle.kp_synth_close.proofs.steering.updates_of.Goals as goal
 
 pub update_in-requires-clause-ready : goal.update_in-requires-clause-ready
