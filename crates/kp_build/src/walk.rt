@@ -18,7 +18,7 @@ use std::alloc::Global;
 
 /// A node with the value of an expression.
 #[cycle(walk)]
-#[tactic(auto, using(kp_net::proofs::Growing::growing, kp_ast::proofs::Parts::size_Not, kp_ast::proofs::Parts::size_Slice, kp_ast::proofs::Parts::size_Zext, kp_ast::proofs::Parts::size_Sext, kp_ast::proofs::Parts::size_Binary, kp_ast::proofs::Parts::size_Mux,))]
+#[tactic(auto, using(kp_net::proofs::Growing::growing, kp_ast::proofs::Parts::size_Not, kp_ast::proofs::Parts::size_Slice, kp_ast::proofs::Parts::size_Zext, kp_ast::proofs::Parts::size_Sext, kp_ast::proofs::Parts::size_Binary, kp_ast::proofs::Parts::size_Mux))]
 pub(crate) fn node_for(
     alloc: Global,
     pool: &mut Pool,
