@@ -28,7 +28,7 @@ use Rattle.kp_synth_close.specs.Shows.{named_with, reg_slot, file_slot, port_slo
 use Rattle.kp_synth_close.proofs.Whole.{shows_over, words_always, shows_anew, holds_over, holds_anew}
 use Rattle.kp_synth.specs.inner.Built.{no_word, reg_count, file_count, visible_regs, other_reg, other_regs, first_start, net_regs, net_parts, made_net, SpelledReg, SpelledFile, SpelledPort, Spelled}
 use Rattle.kp_synth.proofs.Parts.{zero_plus, visible_named, wide, visible_counted, visible_at, others_counted, others_named, other_at, ports_named, port_at, ports_counted, FileIs, file_at, files_counted, files_named}
-use Rattle.kp_synth.proofs.Numbers.{is_file, register_place, file_number, file_found}
+use Rattle.kp_synth.proofs.{Numbers.is_file, Numbers.register_place, Numbers.file_found, Places.file_number}
 use Rattle.kp_synth.proofs.Begins.{hints_fit, first_word, regs_given, files_given, WordsFit, words_given, reg_value, file_word}
 use Rattle.kp_synth.proofs.Spelled.{all_spelled}
 use Rattle.kp_synth.proofs.Named.{Own, own_apart, own_from, own_filter, led_name, differ_led, differ_both, names_through}
@@ -45,9 +45,6 @@ pub record Source (job : Job) (p : Held) (outs : List Outcome) (start : Start) (
   pub closes : Closes job p outs (node_at nexts) (λ t. get_or ports t None)
   pub shows : ShowRow job p row
   pub cells : CellsFit job p
-
-pub few_decls : (job : Job) → broken_of job ≡ None → length job.decls ≤ 65536
-few_decls job e = let f = few job e in omega (arith, f.decls)
 
 -- the start value of a key that isn't one of a register
 first_is : (job : Job) (start : Start) (key : Key) → is_visible key ≡ false → first_start (hint_starts job.decls) key ≡ key_start job start key

@@ -33,21 +33,22 @@ pub record ComesFrom {X : Type 0} (p : X → Bool) (xs : List X) (i : ℕ) (d : 
   pub there : at < length xs
   pub passes : p (get_or xs at d) ≡ true
   pub is : get_or (filter p xs) i d ≡ get_or xs at d
+  pub before : length (filter p (take at xs)) ≡ i
 
-later : {X : Type 0} (p : X → Bool) (x : X) (xs : List X) (i j : ℕ) (d : X) → ComesFrom p xs i d
-    → get_or (filter p (x ∷ xs)) j d ≡ get_or (filter p xs) i d → ComesFrom p (x ∷ xs) j d
-later p x xs i j d h e = let l = h.there in record { at = suc h.at; there = omega (arith, l); passes = h.passes; is = e ∙ h.is }
+later : {X : Type 0} (p : X → Bool) (x : X) (xs : List X) (i j : ℕ) (d : X) (h : ComesFrom p xs i d)
+    → get_or (filter p (x ∷ xs)) j d ≡ get_or (filter p xs) i d → length (filter p (x ∷ take h.at xs)) ≡ j → ComesFrom p (x ∷ xs) j d
+later p x xs i j d h e b = let l = h.there in record { at = suc h.at; there = omega (arith, l); passes = h.passes; is = e ∙ h.is; before = b }
 
 from_first : {X : Type 0} (p : X → Bool) (x : X) (xs : List X) (i : ℕ) (d : X) → p x ≡ true → i < suc (length (filter p xs))
     → ((k : ℕ) → k < length (filter p xs) → ComesFrom p xs k d) → ComesFrom p (x ∷ xs) i d
-from_first p x xs zero d b l more = record { at = 0; there = omega arith; passes = b; is = rw b refl }
-from_first p x xs (suc i) d b l more = later p x xs i (suc i) d (more i (omega (arith, l))) (rw b refl)
+from_first p x xs zero d b l more = record { at = 0; there = omega arith; passes = b; is = rw b refl; before = refl }
+from_first p x xs (suc i) d b l more = let h = more i (omega (arith, l)) in later p x xs i (suc i) d h (rw b refl) (rw b (ap suc h.before))
 
 pub comes_from : {X : Type 0} (p : X → Bool) (xs : List X) (i : ℕ) (d : X) → i < length (filter p xs) → ComesFrom p xs i d
 comes_from p [] i d l = absurd (omega (arith, l))
 comes_from p (x ∷ xs) i d l = by_test (p x)
     (λ b. from_first p x xs i d b (subst (λ (y : Bool). i < length (cond y (x ∷ filter p xs) (filter p xs))) b l) (λ k h. comes_from p xs k d h))
-    (λ b. later p x xs i i d (comes_from p xs i d (subst (λ (y : Bool). i < length (cond y (x ∷ filter p xs) (filter p xs))) b l)) (rw b refl))
+    (λ b. let h = comes_from p xs i d (subst (λ (y : Bool). i < length (cond y (x ∷ filter p xs) (filter p xs))) b l) in later p x xs i i d h (rw b refl) (rw b h.before))
 
 -- distinct names by their indices
 same_refl : (n : List ℕ) → same n n ≡ true

@@ -18,12 +18,8 @@ use Rattle.kp_sched.proofs.Anew.{left_alike}
 use Rattle.kp_synth_close.specs.Shows as place
 use Rattle.kp_synth_close.specs.Shows.{NamedBy, HoldsFrom, reg_slot, file_slot, port_slot, named_with, shown_word}
 use Rattle.kp_synth.specs.Carrying.{Carries}
+use Rattle.kp_synth.proofs.Named.{names_through}
 use Rattle.kp_synth.proofs.Places.{passes_at, comes_from, stands_at, first_at, file_number}
-
--- names by way of slots
-names_by : {X : Type 0} (f : X → Slot) (g : X → List ℕ) (e : (x : X) → (f x).name ≡ g x) (xs : List X) → map (λ (s : Slot). s.name) (map f xs) ≡ map g xs
-names_by f g e [] = refl
-names_by f g e (x ∷ xs) = rw (e x, names_by f g e xs) refl
 
 -- a port by its slot
 ports_by : (ps : List Port) (ss : List Slot) → map port_slot ps ≡ map (named_with (codes "s_")) ss → ps ≡ map sample_port ss
@@ -287,7 +283,7 @@ module _ (net : Net) (job : Job) (h : place.Shows net job) (n : IsNamed net) whe
         ap (map (λ (x : NetReg). x.name)) (sym (take-append-drop shown regs))
         ∙ map-append (λ (x : NetReg). x.name) (take shown regs) (drop shown regs)
         ∙ ap (λ (l : List (List ℕ)). l ++ map (λ (x : NetReg). x.name) (drop shown regs))
-        (sym (names_by reg_slot (λ (x : NetReg). x.name) (λ x. refl) (take shown regs)) ∙ ap (map (λ (s : Slot). s.name)) h.names.visible ∙ names_by (named_with (codes "r_")) register_name (λ x. refl) (registers_of job))
+        (sym (names_through reg_slot (take shown regs)) ∙ ap (map (λ (s : Slot). s.name)) h.names.visible ∙ names_through (named_with (codes "r_")) (registers_of job))
         ∙ ap (λ (l : List (List ℕ)). map register_name (registers_of job) ++ l) (h.names.others ∙ hidden_same 0 (length regs - shown));
-    files = sym (names_by file_slot (λ (x : NetFile). x.name) (λ x. refl) net.parts.files) ∙ ap (map (λ (s : Slot). s.name)) h.names.files ∙ names_by (named_with (codes "f_")) file_name (λ x. refl) (files_of job);
+    files = sym (names_through file_slot net.parts.files) ∙ ap (map (λ (s : Slot). s.name)) h.names.files ∙ names_through (named_with (codes "f_")) (files_of job);
   }

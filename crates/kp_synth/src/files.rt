@@ -26,7 +26,7 @@ pub(crate) fn files(
 ) -> Result<Vec<NetFile>, NoMemory>
     requires words { file_count layout.now.decls ≤ length words.now }
     requires ports { length (targets_of layout.now.decls) ≤ length ports.now }
-    requires few { length layout.now.decls ≤ 65536 }
+    requires few { length (targets_of layout.now.decls) ≤ 65536 }
     ensures files { IfOk result (λ files. files.items ≡ net_files layout.now words.now ports.now 0 0 layout.now.decls) }
     ensures spelled { IfOk result (λ files. AllSpelled SpelledFile files.items) }
 {
@@ -56,7 +56,7 @@ pub(crate) fn files(
 
 /// The ports of the samples.
 pub(crate) fn sample_ports(alloc: Global, layout: &Layout<'_>) -> Result<Vec<Port>, NoMemory>
-    requires few { length layout.now.decls ≤ 65536 }
+    requires few { length (samples_of layout.now.decls) ≤ 65536 }
     ensures ports { IfOk result (λ ports. ports.items ≡ net_ports layout.now 0 layout.now.decls) }
     ensures spelled { IfOk result (λ ports. AllSpelled SpelledPort ports.items) }
 {

@@ -68,5 +68,6 @@ fn stages(
     ensures added { OnOk result (Added layout.now pool.old pool.new (inside_room layout.now)) }
 {
     let slots = Slots::of(alloc, layout.design())?;
-    run_stages(alloc, pool, layout, reads, &slots)
+    let outs = run_stages(alloc, pool, layout, reads, &slots)?;
+    Ok(outs)
 }

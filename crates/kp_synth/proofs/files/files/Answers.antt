@@ -4,7 +4,6 @@ use Rattle.kp_synth.proofs.files.files.Goals as goal
 
 pub loop-decl-init : goal.loop-decl-init
 loop-decl-init c = record {
-  few = grind (arith, common_steps);
   targets = grind (arith, common_steps);
   count = grind (arith, common_steps);
   files = grind (arith, common_steps);
@@ -13,7 +12,6 @@ loop-decl-init c = record {
 
 pub loop-decl-preserved : goal.loop-decl-preserved
 loop-decl-preserved c = record {
-  few = grind (arith, common_steps);
   targets = grind (arith, common_steps);
   count = grind (arith, common_steps);
   files = grind (arith, common_steps);

@@ -4,7 +4,6 @@ use Rattle.kp_synth.proofs.files.sample_ports.Goals as goal
 
 pub loop-decl-init : goal.loop-decl-init
 loop-decl-init c = record {
-  few = grind (arith, common_steps);
   samples = grind (arith, common_steps);
   ports = grind (arith, common_steps);
   spelled = none_spelled SpelledPort _ c.new-ports.ensures.items;
@@ -12,7 +11,6 @@ loop-decl-init c = record {
 
 pub loop-decl-preserved : goal.loop-decl-preserved
 loop-decl-preserved c = record {
-  few = grind (arith, common_steps);
   samples = grind (arith, common_steps);
   ports = grind (arith, common_steps);
   spelled = grind (arith, common_steps, port_more);
