@@ -1,6 +1,6 @@
 -- A read: the state of the stage after it.
-use Rattle.std.proofs.Common.{◌≡◌, ◌∙◌, ℕ, zero, suc, ◌+◌, ◌<◌, ◌≤◌, List, [], ◌∷◌, ◌++◌, length, Option, Some, None, Bool, true, false, cond, not, ◌||◌, ◌&&◌, refl, ap, sym, subst, arith}
-use Rattle.std.{proofs.lemmas.List.append-nil, specs.Prelude.slice_get, specs.Prelude.is_some, specs.Global.Vec}
+use Rattle.std.proofs.Common.{◌≡◌, ◌∙◌, ℕ, zero, suc, ◌+◌, ◌<◌, ◌≤◌, List, [], ◌∷◌, ◌++◌, length, Option, Some, None, Bool, true, false, cond, not, ◌||◌, ◌&&◌, refl, ap, sym, subst, arith, ⊎_elim}
+use Rattle.std.{proofs.lemmas.List.append-nil, proofs.lemmas.Option.slice_get_cases, specs.Prelude.slice_get, specs.Prelude.is_some, specs.Global.Vec}
 use Rattle.kp_bits.specs.Word.{word}
 use Rattle.kp_ast.specs.declared.tree.{Expr.Expr, ReadStmt.ReadStmt, Job.Job}
 use Rattle.kp_ast.specs.declared.tree.StmtKind.TheVariants as stmts
@@ -23,9 +23,7 @@ use Rattle.kp_synth_stage.proofs.{Taking.ReadRight, Taking.guess_fits, Taking.gu
 use Rattle.kp_synth_stage.specs.inner.Standing as work
 
 source_in : (xs : List Source) (t : ℕ) → t < length xs → (s : Source) × (slice_get xs t ≡ Some s)
-source_in [] t h = absurd (omega arith)
-source_in (x ∷ xs) zero h = (x, refl)
-source_in (x ∷ xs) (suc t) h = source_in xs t (omega arith)
+source_in xs t h = ⊎_elim (λ a. (a.0, a.2)) (λ a. absurd (omega (arith, a.0))) (slice_get_cases xs t).1
 
 pub some_stage : (job : Job) (p : Held) (ss : List Source) (t : ℕ) → SourcesOk job p ss → t < length (targets_of job.decls) → 1 ≤ job.stages.value
 some_stage job p ss t h l =

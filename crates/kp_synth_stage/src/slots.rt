@@ -1,5 +1,6 @@
 // The names of a job that have values, numbered.
-ghost use Rattle.std.specs.Prelude.{◌≡◌, IfOk};
+ghost use Rattle.std.specs.Prelude.{◌≡◌, ◌++◌, ◌∷◌, [], List, IfOk};
+ghost use Rattle.kp_ast.specs.declared.tree.Decl.{Decl};
 ghost use Rattle.kp_machine.specs.Slots.{targets_of, pipes_of, hints_of, samples_of, number_of, slot};
 ghost use Rattle.kp_synth_stage.specs.Work.{AreSlots};
 ghost use Rattle.kp_synth_stage.specs.inner.Statements.{target_named};
@@ -34,17 +35,6 @@ impl Slot {
     {
         &self.name
     }
-
-    fn new(named: &Named, width: &Num, address: u64) -> Result<Slot, NoMemory>
-        ensures { IfOk result (λ s. s ≡ slot named.now width.now address) }
-    {
-        let name = named.name.clone()?;
-        Ok(Slot {
-            name,
-            width: width.value,
-            address,
-        })
-    }
 }
 
 /// The slots of a job, by number.
@@ -75,64 +65,53 @@ impl Slots {
     pub fn of(alloc: Global, d: &Design) -> Result<Slots, NoMemory>
         ensures { IfOk result (λ s. AreSlots d.now.job s) }
     {
-        let decls = d.job().decls.as_slice();
-        Ok(Slots {
-            targets: targets(alloc, decls)?,
-            pipes: pipes(alloc, decls)?,
-            samples: samples(alloc, decls)?,
-            hints: hints(alloc, decls)?,
-        })
+        let mut slots = Slots {
+            targets: Vec::new(alloc),
+            pipes: Vec::new(alloc),
+            samples: Vec::new(alloc),
+            hints: Vec::new(alloc),
+        };
+        for decl in d.job().decls.as_slice() {
+            slots.add(decl)?;
+        }
+        Ok(slots)
     }
-}
 
-fn targets(alloc: Global, decls: &[Decl]) -> Result<Vec<Slot>, NoMemory>
-    ensures { IfOk result (λ slots. slots.items ≡ targets_of decls.now) }
-{
-    let mut slots = Vec::new(alloc);
-    for decl in decls {
+    // Adds the slot of a declaration, if it has one.
+    fn add(&mut self, decl: &Decl) -> Result<(), NoMemory>
+        ensures targets { IfOk result (λ u. (ds : List Decl) → self.new.targets.items ++ targets_of ds ≡ self.old.targets.items ++ targets_of (decl.now ∷ ds)) }
+        ensures pipes { IfOk result (λ u. (ds : List Decl) → self.new.pipes.items ++ pipes_of ds ≡ self.old.pipes.items ++ pipes_of (decl.now ∷ ds)) }
+        ensures samples { IfOk result (λ u. (ds : List Decl) → self.new.samples.items ++ samples_of ds ≡ self.old.samples.items ++ samples_of (decl.now ∷ ds)) }
+        ensures hints { IfOk result (λ u. (ds : List Decl) → self.new.hints.items ++ hints_of ds ≡ self.old.hints.items ++ hints_of (decl.now ∷ ds)) }
+    {
         match decl {
-            Decl::Reg(name, width, _) => slots.push(Slot::new(name, width, 0)?)?,
-            Decl::File(name, width, address) => slots.push(Slot::new(name, width, address.value)?)?,
+            Decl::Reg(name, width, _) => add_slot(&mut self.targets, name, width, 0)?,
+            Decl::File(name, width, address) => add_slot(
+                &mut self.targets,
+                name,
+                width,
+                address.value,
+            )?,
+            Decl::Pipe(name, width) => add_slot(&mut self.pipes, name, width, 0)?,
+            Decl::Sample(name, width, _) => add_slot(&mut self.samples, name, width, 0)?,
+            Decl::Hint(name, width, _) => add_slot(&mut self.hints, name, width, 0)?,
             _ => {}
         }
+        Ok(())
     }
-    Ok(slots)
 }
 
-fn pipes(alloc: Global, decls: &[Decl]) -> Result<Vec<Slot>, NoMemory>
-    ensures { IfOk result (λ slots. slots.items ≡ pipes_of decls.now) }
+// Adds a slot at the end.
+fn add_slot(slots: &mut Vec<Slot>, named: &Named, width: &Num, address: u64) -> Result<(), NoMemory>
+    ensures { IfOk result (λ u. slots.new.items ≡ slots.old.items ++ slot named.now width.now address ∷ []) }
 {
-    let mut slots = Vec::new(alloc);
-    for decl in decls {
-        if let Decl::Pipe(name, width) = decl {
-            slots.push(Slot::new(name, width, 0)?)?;
-        }
-    }
-    Ok(slots)
-}
-
-fn samples(alloc: Global, decls: &[Decl]) -> Result<Vec<Slot>, NoMemory>
-    ensures { IfOk result (λ slots. slots.items ≡ samples_of decls.now) }
-{
-    let mut slots = Vec::new(alloc);
-    for decl in decls {
-        if let Decl::Sample(name, width, _) = decl {
-            slots.push(Slot::new(name, width, 0)?)?;
-        }
-    }
-    Ok(slots)
-}
-
-fn hints(alloc: Global, decls: &[Decl]) -> Result<Vec<Slot>, NoMemory>
-    ensures { IfOk result (λ slots. slots.items ≡ hints_of decls.now) }
-{
-    let mut slots = Vec::new(alloc);
-    for decl in decls {
-        if let Decl::Hint(name, width, _) = decl {
-            slots.push(Slot::new(name, width, 0)?)?;
-        }
-    }
-    Ok(slots)
+    let name = named.name.clone()?;
+    slots.push(Slot {
+        name,
+        width: width.value,
+        address,
+    })?;
+    Ok(())
 }
 
 /// The number of the first slot with this name, or the number of slots if none has it.
