@@ -17,7 +17,7 @@ use Rattle.kp_seq_plan.specs.{Names.at_place, Names.place_of, Plans.Slots, Plans
 use Rattle.kp_seq_plan.specs.{Codes.value_of, Codes.value_level, Codes.space_level, Lowering.Holds, Lowering.Suits, Lowering.AllSuit, Lowering.Gives}
 use Rattle.kp_seq_plan.proofs.CodeLevels.{code-Word}
 use Rattle.kp_seq_plan.specs.declared.code.Code.TheVariants as leaf
-use Rattle.kp_seq.specs.inner.Resolved.{Raw, AllDo, DoesAll, DoesStage, Does, DoesRead, IsShown, IsCode, IsOptionCode, IsReading, unnamed, address_at, value_at, note_step, note_steps, put_place, with_place, with_target, with_width, after_step, after_steps, steps_space, step_space}
+use Rattle.kp_seq.specs.inner.Resolved.{Raw, AllDo, DoesAll, DoesStage, Does, DoesRead, IsShown, IsCode, IsOptionCode, IsReading, value_or, unnamed, holds_at, value_at, note_step, note_steps, put_place, with_place, with_target, with_width, after_step, after_steps, steps_space, step_space}
 use Rattle.kp_seq.specs.{declared.program.Reading.Reading, declared.program.Step.Step, declared.program.Made.Made, inner.Names.set_place, inner.Fits.FitSlots}
 use Rattle.kp_seq.specs.inner.Tables.{Laid}
 use Rattle.kp_seq.specs.inner.Steps.{Under, zero_bit, fitted, word_in, holds, address_in, address_read, value_read, with_name, with_result, after_stmt, after_stmts}
@@ -108,15 +108,23 @@ module _ (t : Laid) where
             space = omega (arith, code-Word ℕ space_level 0);
           })
 
-    pub none_is : IsOptionCode t ws None None
-    none_is = record { holds = λ u r suit. refl; address = λ u r suit. refl; space = omega arith }
+    pub none_is : (n : ℕ) → IsOptionCode t ws n None (leaf.Word n)
+    none_is n = record { value = λ u r suit. ap (λ (f : List ℕ → ℕ). f r.names) (code-Word (List ℕ → ℕ) value_level n); space = omega (arith, code-Word ℕ space_level n) }
 
-    pub some_is : (e : Expr) (c : Typed) → IsCode t ws e c → IsOptionCode t ws (Some e) (Some c.code)
-    some_is e c m = record {
-      holds = λ u r suit. ap (λ n. n == 1) (number (word_in t u e) c.width (value_of c.code r.names) (m.value u r.names suit));
-      address = λ u r suit. number (word_in t u e) c.width (value_of c.code r.names) (m.value u r.names suit);
-      space = m.space;
-    }
+    pub some_is : (n : ℕ) (e : Expr) (c : Typed) → IsCode t ws e c → IsOptionCode t ws n (Some e) c.code
+    some_is n e c m = record { value = λ u r suit. number (word_in t u e) c.width (value_of c.code r.names) (m.value u r.names suit); space = m.space }
+
+    -- a condition that is omitted holds, and an address that is omitted is 0
+    holds_or : (u : Under) (e : Option Expr) → (value_or t u 1 e == 1) ≡ holds t u e
+    holds_or u None = refl
+    holds_or u (Some e) = refl
+
+    address_or : (u : Under) (e : Option Expr) → value_or t u 0 e ≡ address_in t u e
+    address_or u None = refl
+    address_or u (Some e) = refl
+
+    condition_is : (e : Option Expr) (c : Code) (u : Under) (r : Raw) → IsOptionCode t ws 1 e c → AllSuit ws u.names r.names → holds_at r c ≡ holds t u e
+    condition_is e c u r h suit = ap (λ n. n == 1) (h.value u r suit) ∙ holds_or u e
 
     -- a read
     addressed : (u : Under) (r : ReadStmt) (guess : Option Expr) (a : ℕ) → a ≡ address_in t u r.address → cond (is_some guess) 0 a ≡ address_read t u r guess
@@ -124,17 +132,20 @@ module _ (t : Laid) where
     addressed u r (Some g) a e = refl
 
     pub reading_is : (r : ReadStmt) (s : Reading) → s.place ≡ position (is_same_name r.name.name) t.names → s.target ≡ number_of t.targets r.target.name
-        → s.is_guessed ≡ is_some r.guess → IsOptionCode t ws r.address s.address → IsOptionCode t ws r.when s.when → IsReading t ws r s
-    reading_is r s place target guessed address when = record {
-      place = place;
-      asked = λ u x suit. ap (λ b. where_true b (address_at x s.address)) (when.holds u x suit) ∙ ap (where_true (holds t u r.when)) (address.address u x suit);
-      value = λ words u x suit.
-          ap (λ b. cond b (state_in words s.target (cond s.is_guessed 0 (address_at x s.address))) 0) (when.holds u x suit)
-          ∙ ap (λ i. cond (holds t u r.when) (state_in words i (cond s.is_guessed 0 (address_at x s.address))) 0) target
-          ∙ ap (λ b. cond (holds t u r.when) (state_in words (number_of t.targets r.target.name) (cond b 0 (address_at x s.address))) 0) guessed
-          ∙ ap (λ a. cond (holds t u r.when) (state_in words (number_of t.targets r.target.name) a) 0) (addressed u r r.guess (address_at x s.address) (address.address u x suit));
-      space = let a = address.space in let b = when.space in omega (arith, a, b);
-    }
+        → s.is_guessed ≡ is_some r.guess → IsOptionCode t ws 0 r.address s.address → IsOptionCode t ws 1 r.when s.when → IsReading t ws r s
+    reading_is r s place target guessed address when =
+        let test : (u : Under) (x : Raw) → AllSuit ws u.names x.names → holds_at x s.when ≡ holds t u r.when = λ u x suit. condition_is r.when s.when u x when suit in
+        let at : (u : Under) (x : Raw) → AllSuit ws u.names x.names → value_of s.address x.names ≡ address_in t u r.address = λ u x suit. address.value u x suit ∙ address_or u r.address in
+        record {
+          place = place;
+          asked = λ u x suit. ap (λ b. where_true b (value_of s.address x.names)) (test u x suit) ∙ ap (where_true (holds t u r.when)) (at u x suit);
+          value = λ words u x suit.
+              ap (λ b. cond b (state_in words s.target (cond s.is_guessed 0 (value_of s.address x.names))) 0) (test u x suit)
+              ∙ ap (λ i. cond (holds t u r.when) (state_in words i (cond s.is_guessed 0 (value_of s.address x.names))) 0) target
+              ∙ ap (λ b. cond (holds t u r.when) (state_in words (number_of t.targets r.target.name) (cond b 0 (value_of s.address x.names))) 0) guessed
+              ∙ ap (λ a. cond (holds t u r.when) (state_in words (number_of t.targets r.target.name) a) 0) (addressed u r r.guess (value_of s.address x.names) (at u x suit));
+          space = let a = address.space in let b = when.space in omega (arith, a, b);
+        }
 
     -- a name that gets its value
     pub named : (u : Under) (r : Raw) (n : List ℕ) (o : Option ℕ) (x : Word) (w v : ℕ) → IsShown ws u r → o ≡ position (is_same_name n) t.names → Holds (Some x) w v
@@ -216,8 +227,8 @@ module _ (t : Laid) where
     either_shown true u v r s h k = k
     either_shown false u v r s h k = h
 
-    pub does_set : (k : StmtKind) (n : tree.Named) (e : Expr) (when : Option Expr) (m : Made) (i : Option ℕ) (c : Typed) (w : Option Code) → k ≡ stmts.Set n e when → m ≡ unnamed (moves.Set i c.code w)
-        → i ≡ option_map (λ x. number_of t.targets x.target.name) (result_named t.decls n.name) → IsCode t ws e c → IsOptionCode t ws when w → Does t ws k m
+    pub does_set : (k : StmtKind) (n : tree.Named) (e : Expr) (when : Option Expr) (m : Made) (i : Option ℕ) (c : Typed) (w : Code) → k ≡ stmts.Set n e when → m ≡ unnamed (moves.Set i c.code w)
+        → i ≡ option_map (λ x. number_of t.targets x.target.name) (result_named t.decls n.name) → IsCode t ws e c → IsOptionCode t ws 1 when w → Does t ws k m
     does_set k n e when m i c w is made place h g = subst (λ x. Does t ws x m) (sym is) (subst (λ x. Does t ws (stmts.Set n e when) x) (sym made) (record {
       after = λ words u r fit shown.
           let v : ℕ = value_of c.code r.names in
@@ -227,7 +238,7 @@ module _ (t : Laid) where
           subst (λ j. IsShown ws (with_result t u (result_named t.decls n.name) x) (with_target r j v)) (sym place)
           (subst (λ y. IsShown ws (with_result t u (result_named t.decls n.name) x) (with_target r (option_map (λ z. number_of t.targets z.target.name) (result_named t.decls n.name)) y)) (sym same)
           (target_shown u r (result_named t.decls n.name) x shown)) in
-          subst (λ b. IsShown ws (cond (holds t u when) (with_result t u (result_named t.decls n.name) x) u) (cond b (with_target r i v) r)) (sym (g.holds u r shown.names))
+          subst (λ b. IsShown ws (cond (holds t u when) (with_result t u (result_named t.decls n.name) x) u) (cond b (with_target r i v) r)) (sym (condition_is when w u r g shown.names))
           (either_shown (holds t u when) u (with_result t u (result_named t.decls n.name) x) r (with_target r i v) shown there);
       noted = λ u r n shown. refl;
       space = let a = h.space in let b = g.space in omega (arith, a, b);

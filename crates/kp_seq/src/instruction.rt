@@ -3,7 +3,7 @@ ghost use Rattle.std.specs.Prelude.{◌≡◌, ◌≤◌, ◌+◌, None, length,
 ghost use Rattle.kp_seq_plan.specs.Codes.{value_of, space_of};
 ghost use Rattle.kp_seq.specs.inner.Ready.{HasRoom};
 ghost use Rattle.kp_seq.specs.inner.Steps.{is_enabled, address_by, written_by, written_from};
-ghost use Rattle.kp_seq.specs.inner.Resolved.{outputs, holds_at, address_at, asked_at, value_asked, note_step, note_steps, note_stages, noted, with_place, put_pipe, set_first, with_target, begun_at, after_step, after_steps, with_row_at, with_carried, with_run, entered_at, after_stages, ran, option_space, step_space, steps_space};
+ghost use Rattle.kp_seq.specs.inner.Resolved.{outputs, holds_at, asked_at, value_asked, note_step, note_steps, note_stages, noted, with_place, put_pipe, set_first, with_target, begun_at, after_step, after_steps, with_row_at, with_carried, with_run, entered_at, after_stages, ran, step_space, steps_space};
 
 use crate::notes::Notes;
 use crate::places::Places;
@@ -284,9 +284,9 @@ fn set_result(
     room: &mut [u64],
     target: Option<usize>,
     code: &Code,
-    when: &Option<Code>,
+    when: &Code,
 )
-    requires { space_of code.now + option_space when.now ≤ length room.old }
+    requires { space_of code.now + space_of when.now ≤ length room.old }
     ensures under { under.new ≡ (if holds_at under.old when.now then with_target under.old target (value_of code.now under.old.names) else under.old) }
     ensures room { length room.new ≡ length room.old }
 {
@@ -301,12 +301,12 @@ fn set_result(
 
 // The address of a read, or None if its condition is false.
 fn asked(under: &Instruction, room: &mut [u64], reading: &Reading) -> Option<u64>
-    requires { option_space reading.now.address + option_space reading.now.when ≤ length room.old }
+    requires { space_of reading.now.address + space_of reading.now.when ≤ length room.old }
     ensures value { result ≡ asked_at under.now reading.now }
     ensures room { length room.new ≡ length room.old }
 {
     if holds(under, room, &reading.when) {
-        return Some(address(under, room, &reading.address));
+        return Some(value_of(under, room, &reading.address));
     }
     None
 }
@@ -324,26 +324,12 @@ fn value_read(reading: &Reading, asked: Option<u64>, words: &Words) -> u64
     }
 }
 
-fn holds(under: &Instruction, room: &mut [u64], when: &Option<Code>) -> bool
-    requires { option_space when.now ≤ length room.old }
+fn holds(under: &Instruction, room: &mut [u64], when: &Code) -> bool
+    requires { space_of when.now ≤ length room.old }
     ensures value { result ≡ holds_at under.now when.now }
     ensures room { length room.new ≡ length room.old }
 {
-    match when {
-        Some(code) => value_of(under, room, code) == 1,
-        None => true,
-    }
-}
-
-fn address(under: &Instruction, room: &mut [u64], code: &Option<Code>) -> u64
-    requires { option_space code.now ≤ length room.old }
-    ensures value { result ≡ address_at under.now code.now }
-    ensures room { length room.new ≡ length room.old }
-{
-    match code {
-        Some(code) => value_of(under, room, code),
-        None => 0,
-    }
+    value_of(under, room, when) == 1
 }
 
 fn value_of(under: &Instruction, room: &mut [u64], code: &Code) -> u64

@@ -18,6 +18,7 @@ use crate::tables::Tables;
 use crate::words::Words;
 use kp_base::NoMemory;
 use kp_bits::Bits;
+use kp_seq_plan::Keys;
 use kp_stage::{Design, Start};
 use std::alloc::Global;
 use std::marker::Model;
@@ -43,7 +44,8 @@ impl<'a> Resolved<'a> {
         ensures tables { IfOk result (λ r. AreTables d.now.job r.tables) }
         ensures program { IfOk result (λ r. Resolves r.tables d.now.job.blocks r.program) }
     {
-        let (tables, keys) = Tables::lay_out(alloc, d)?;
+        let keys = Keys::of(alloc, d.widths())?;
+        let tables = Tables::lay_out(alloc, d, &keys)?;
         let program = Program::of(alloc, &tables, &keys, d)?;
         Ok(Resolved { tables, program })
     }

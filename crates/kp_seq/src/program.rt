@@ -11,14 +11,28 @@ use kp_stage::Design;
 use std::alloc::Global;
 use std::marker::Model;
 
-/// A read: the index of its name, the target's number, and whether it has a guess.
-#[derive(Drop)]
+/// A read: the index of its name, the target's number, and whether it has a guess. Its address is 0 if it is omitted, and its
+/// condition 1.
 pub(crate) struct Reading {
     pub place: Option<usize>,
     pub target: usize,
-    pub address: Option<Code>,
-    pub when: Option<Code>,
+    pub address: Code,
+    pub when: Code,
     pub is_guessed: bool,
+}
+
+impl Drop for Reading {
+    fn drop(self) {
+        let Reading {
+            place: _,
+            target: _,
+            address,
+            when,
+            is_guessed: _,
+        } = self;
+        drop(address);
+        drop(when);
+    }
 }
 
 /// The effect of a statement.
@@ -29,8 +43,8 @@ pub(crate) enum Step {
     Let(Option<usize>, Code),
     /// The value of a pipe is set.
     Put(usize, Code),
-    /// The result of a target is set if a condition holds, provided that it is a result of a target.
-    Set(Option<usize>, Code, Option<Code>),
+    /// The result of a target is set if a condition is 1, provided that it is a result of a target.
+    Set(Option<usize>, Code, Code),
     /// An aim: a sequential machine has no hints.
     Nothing,
 }
@@ -221,7 +235,7 @@ fn step_of(
         }
         StmtKind::Set(named, e, when) => {
             let value = code_for(alloc, tables, keys, widths, e)?;
-            match option_code_for(alloc, tables, keys, widths, when) {
+            match option_code_for(alloc, tables, keys, widths, when, 1) {
                 Ok(when) => {
                     let target = target_of(tables, &named.name);
                     Ok(Made::unnamed(Step::Set(target, value.code, when)))
@@ -283,8 +297,8 @@ fn reading_of(
     requires { keys.now ≡ tables.now.names }
     ensures { IfOk result (λ reading. IsReading tables.now widths.now read.now reading) }
 {
-    let address = option_code_for(alloc, tables, keys, widths, &read.address)?;
-    match option_code_for(alloc, tables, keys, widths, &read.when) {
+    let address = option_code_for(alloc, tables, keys, widths, &read.address, 0)?;
+    match option_code_for(alloc, tables, keys, widths, &read.when, 1) {
         Ok(when) => Ok(Reading {
             place: keys.place(&read.name.name),
             target: number_of(tables.targets.as_slice(), &read.target.name),
@@ -299,22 +313,24 @@ fn reading_of(
     }
 }
 
+// The code of an optional expression; that of a word if it is omitted.
 fn option_code_for(
     alloc: Global,
     tables: &Tables,
     keys: &Keys,
     widths: &[Option<u64>],
     e: &Option<Expr>,
-) -> Result<Option<Code>, NoMemory>
+    omitted: u64,
+) -> Result<Code, NoMemory>
     requires { keys.now ≡ tables.now.names }
-    ensures { IfOk result (λ code. IsOptionCode tables.now widths.now e.now code) }
+    ensures { IfOk result (λ code. IsOptionCode tables.now widths.now omitted e.now code) }
 {
     match e {
         Some(e) => {
             let value = code_for(alloc, tables, keys, widths, e)?;
-            Ok(Some(value.code))
+            Ok(value.code)
         }
-        None => Ok(None),
+        None => Ok(Code::Word(omitted)),
     }
 }
 

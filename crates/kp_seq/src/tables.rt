@@ -1,7 +1,8 @@
 //! The tables that are looked up while instructions run. They are built once, when the machine is opened.
-ghost use Rattle.std.specs.Prelude.{◌≡◌, ◌<◌, length, IfOk, get_or};
+ghost use Rattle.std.specs.Prelude.{◌≡◌, ◌<◌, [], length, IfOk, get_or};
 ghost use Rattle.std.specs.Option.{option_map};
 ghost use Rattle.kp_machine.specs.Slots.{targets_of, pipes_of, samples_of, number_of, width_of, result_to, result_named};
+ghost use Rattle.kp_seq_plan.specs.Names.{keys_of};
 ghost use Rattle.kp_seq.specs.inner.Ready.{AreTables};
 ghost use Rattle.kp_machine.specs.Words.{no_slot};
 ghost use Rattle.kp_seq.specs.inner.Tables.{port_of, ports_of, pipe_number};
@@ -211,28 +212,27 @@ impl<'a> Tables<'a> {
         self.targets[target].width
     }
 
-    /// The tables of a design, and the indices of its names. Error: out of memory.
-    pub fn lay_out(alloc: Global, d: &'a Design) -> Result<(Tables<'a>, Keys), NoMemory>
-        ensures tables { IfOk result (λ t. AreTables d.now.job t.0) }
-        ensures keys { IfOk result (λ t. t.1 ≡ t.0.names) }
+    /// The tables of a design, whose names have these indices. Error: out of memory.
+    pub fn lay_out(alloc: Global, d: &'a Design, keys: &Keys) -> Result<Tables<'a>, NoMemory>
+        requires { keys.now ≡ keys_of [] d.now.entries }
+        ensures tables { IfOk result (λ t. AreTables d.now.job t) }
+        ensures keys { IfOk result (λ t. keys.now ≡ t.names) }
     {
         let decls = d.job().decls.as_slice();
         let targets = targets(alloc, decls)?;
         let pipes = pipes(alloc, decls)?;
         let samples = samples(alloc, decls)?;
         let ports = ports(alloc, decls, targets.as_slice(), pipes.as_slice())?;
-        let keys = Keys::of(alloc, d.widths())?;
         let names = keys.names(alloc)?;
         one_entry_for_each_name();
-        let tables = Tables {
+        Ok(Tables {
             decls,
             targets,
             pipes,
             samples,
             ports,
             names,
-        };
-        Ok((tables, keys))
+        })
     }
 }
 

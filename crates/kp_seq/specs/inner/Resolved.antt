@@ -1,5 +1,5 @@
 -- A resolved job, and the effect of its instructions, on plain numbers.
-use Rattle.std.specs.Prelude.{◌≡◌, ◌≤◌, ◌+◌, ℕ, List, [], ◌∷◌, ◌++◌, take, drop, Option, Some, None, Bool, true, ◌==◌, if◌then◌else◌, length, map, sum_by, replicate, set, get_or, slice_index}
+use Rattle.std.specs.Prelude.{◌≡◌, ◌≤◌, ◌+◌, ℕ, List, [], ◌∷◌, ◌++◌, take, drop, Option, Some, None, Bool, ◌==◌, if◌then◌else◌, length, map, sum_by, replicate, set, get_or, slice_index}
 use Rattle.std.specs.List.{position}
 use Rattle.kp_bits.specs.Word.{Word}
 use Rattle.kp_ast.specs.{Expressions.is_same_name, Size.size, declared.tree.Expr.Expr, declared.tree.ReadStmt.ReadStmt, declared.tree.Stmt.Stmt}
@@ -11,7 +11,7 @@ use Rattle.kp_machine.specs.{Slots.Slot, Words.state_in}
 use Rattle.kp_seq_plan.specs.{Codes.value_of, Codes.space_of, Lowering.Holds, Lowering.AllSuit, declared.code.Code.Code, declared.code.Typed.Typed}
 use Rattle.kp_seq.specs.declared.{program.Reading.Reading, program.Step.Step, program.Made.Made, tables.Port.Port}
 use Rattle.kp_seq.specs.inner.{Fits.FitSlots, Tables.Laid}
-use Rattle.kp_seq.specs.inner.Steps.{Under, word_in, holds, address_in, value_read, after_stmt, after_stmts, written_from}
+use Rattle.kp_seq.specs.inner.Steps.{Under, word_in, value_read, after_stmt, after_stmts, written_from}
 use Rattle.kp_seq.specs.Recorded.{where_true}
 use Rattle.kp_seq.specs.inner.Notes.{Noted, narrow_address, begun_notes, with_read, with_marks, with_results, asked_in, note_stmt, note_stmts}
 use Rattle.kp_seq.specs.declared.program.Step.TheVariants as moves
@@ -32,18 +32,13 @@ pub record Raw : Type 0 where
 abbrev pub outputs : Raw → Under
 outputs r = record { names = []; pipes = r.pipes; results = r.results }
 
--- a condition and an address
-abbrev pub holds_at : Raw → Option Code → Bool
-holds_at r None = true
-holds_at r (Some c) = value_of c r.names == 1
-
-abbrev pub address_at : Raw → Option Code → ℕ
-address_at r None = 0
-address_at r (Some c) = value_of c r.names
+-- a condition
+abbrev pub holds_at : Raw → Code → Bool
+holds_at r c = value_of c r.names == 1
 
 -- the value of a read: 0 if its condition is false; a guess is of a register
 abbrev pub value_at : List (List ℕ) → Raw → Reading → ℕ
-value_at words r s = if holds_at r s.when then state_in words s.target (if s.is_guessed then 0 else address_at r s.address) else 0
+value_at words r s = if holds_at r s.when then state_in words s.target (if s.is_guessed then 0 else value_of s.address r.names) else 0
 
 abbrev pub put_place : List ℕ → Option ℕ → ℕ → List ℕ
 put_place values None v = values
@@ -108,7 +103,7 @@ ran o ports row r words = written_from (outputs (after_stages o words row (begun
 
 -- THE RECORD. The address of a read, if its condition holds
 abbrev pub asked_at : Raw → Reading → Option ℕ
-asked_at r s = where_true (holds_at r s.when) (address_at r s.address)
+asked_at r s = where_true (holds_at r s.when) (value_of s.address r.names)
 
 -- the value of the read, given that address
 abbrev pub value_asked : List (List ℕ) → Reading → Option ℕ → ℕ
@@ -137,15 +132,11 @@ noted o words row r n =
     with_results (outputs (after_stages o words row (begun_at r) o.stages)) (note_stages o words row 0 (begun_at r) (begun_notes n) o.stages)
 
 -- the scratch space that a step needs
-abbrev pub option_space : Option Code → ℕ
-option_space None = 0
-option_space (Some c) = space_of c
-
 abbrev pub step_space : Step → ℕ
-step_space (moves.Read s) = option_space s.address + option_space s.when
+step_space (moves.Read s) = space_of s.address + space_of s.when
 step_space (moves.Let place c) = space_of c
 step_space (moves.Put pipe c) = space_of c
-step_space (moves.Set target c when) = space_of c + option_space when
+step_space (moves.Set target c when) = space_of c + space_of when
 step_space moves.Nothing = 0
 
 abbrev pub steps_space : List Step → ℕ
@@ -180,16 +171,20 @@ pub record IsCode (t : Laid) (ws : List (Option ℕ)) (e : Expr) (c : Typed) : T
   pub value : (u : Under) (values : List ℕ) → AllSuit ws u.names values → Holds (Some (word_in t u e)) c.width (value_of c.code values)
   pub space : space_of c.code ≤ size t.decls e
 
-pub record IsOptionCode (t : Laid) (ws : List (Option ℕ)) (e : Option Expr) (c : Option Code) : Type 0 where
-  pub holds : (u : Under) (r : Raw) → AllSuit ws u.names r.names → holds_at r c ≡ holds t u e
-  pub address : (u : Under) (r : Raw) → AllSuit ws u.names r.names → address_at r c ≡ address_in t u e
-  pub space : option_space c ≤ size_of_option t.decls e
+-- the value of an optional expression, and this number if it is omitted
+abbrev pub value_or : Laid → Under → ℕ → Option Expr → ℕ
+value_or t u omitted None = omitted
+value_or t u omitted (Some e) = (word_in t u e).value
+
+pub record IsOptionCode (t : Laid) (ws : List (Option ℕ)) (omitted : ℕ) (e : Option Expr) (c : Code) : Type 0 where
+  pub value : (u : Under) (r : Raw) → AllSuit ws u.names r.names → value_of c r.names ≡ value_or t u omitted e
+  pub space : space_of c ≤ size_of_option t.decls e
 
 pub record IsReading (t : Laid) (ws : List (Option ℕ)) (r : ReadStmt) (s : Reading) : Type 0 where
   pub place : s.place ≡ position (is_same_name r.name.name) t.names
   pub value : (words : List (List ℕ)) (u : Under) (x : Raw) → AllSuit ws u.names x.names → value_at words x s ≡ value_read t words u r
   pub asked : (u : Under) (x : Raw) → AllSuit ws u.names x.names → asked_at x s ≡ asked_in t u r
-  pub space : option_space s.address + option_space s.when ≤ size_of_option t.decls r.address + size_of_option t.decls r.when
+  pub space : space_of s.address + space_of s.when ≤ size_of_option t.decls r.address + size_of_option t.decls r.when
 
 -- a step does what a statement does, and binds a name with this width
 pub record Does (t : Laid) (ws : List (Option ℕ)) (k : StmtKind) (m : Made) : Type 0 where

@@ -14,6 +14,6 @@ returns-clause-tables c =
       pipes = c.in_ok-pipes.ensures ∙ ap pipes_of e;
       samples = c.in_ok-samples.ensures ∙ ap samples_of e;
       ports = c.in_ok-ports.ensures ∙ ap ports_of e;
-      names = c.in_ok-names.ensures ∙ c.in_ok-keys.ensures ∙ ap (keys_of []) (c.widths.ensures ∙ c.job.ensures.sound.widths);
+      names = c.in_ok-names.ensures ∙ c.requires ∙ ap (keys_of []) c.job.ensures.sound.widths;
       declared = c.one_entry_for_each_name.ensures c.args.d.now.job;
     }
