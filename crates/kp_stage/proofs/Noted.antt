@@ -1,35 +1,15 @@
 -- What is noted in tables are the facts of the job.
-use Rattle.std.proofs.Common.{◌≡◌, ◌∙◌, ℕ, zero, suc, ◌+◌, List, [], ◌∷◌, Option, Some, None, Bool, true, false, cond, nat_eq, map, refl, ap, sym, arith}
-use Rattle.std.specs.{Prelude.is_some, Prelude.slice_get, Cmp.Lexicographic.pointwise, Cmp.Lexicographic.bytes_decides, Cmp.Lexicographic.nat_list_eq_equiv}
+use Rattle.std.proofs.Common.{◌≡◌, ◌∙◌, ℕ, zero, suc, ◌+◌, List, [], ◌∷◌, ◌++◌, Option, Some, None, Bool, true, false, cond, nat_eq, map, append-nil, append_assoc, refl, ap, sym, arith}
+use Rattle.std.specs.{Prelude.is_some, Prelude.slice_get, Option.option_or, Cmp.Lexicographic.pointwise, Cmp.Lexicographic.bytes_decides, Cmp.Lexicographic.nat_list_eq_equiv}
+use Rattle.indexmap.specs.IndexMap.{insert_entry}
 use Rattle.kp_base.specs.First.{first}
-use Rattle.kp_ast.specs.declared.tree.{Decl.Decl, Stmt.Stmt, StmtKind.StmtKind, Block.Block, Job.Job}
+use Rattle.kp_ast.specs.{Expressions.is_same_name, declared.tree.Decl.Decl, declared.tree.Stmt.Stmt, declared.tree.StmtKind.StmtKind, declared.tree.Block.Block, declared.tree.Job.Job}
 use Rattle.kp_ast.specs.declared.tree.Decl.TheVariants as decls
 use Rattle.kp_ast.specs.declared.tree.StmtKind.TheVariants as stmts
-use Rattle.kp_stage.specs.Facts.{At, put_at, puts_in, puts_of, aim_at, aims_in, aims_of, set_at, sets_in, first_set, hint_at, hints_of, result_at, results_of, sample_at, stage_at, write_at, less, least, largest, facts_of}
-use Rattle.kp_stage.specs.inner.Tables.{Entries, look_up, with_entry, with_first, with_less, less_than, put_noted, puts_noted, all_puts_noted, aim_noted, aims_noted, all_aims_noted, set_noted, sets_noted, sets_of, table_in, write_noted, writes_noted, hint_noted, hints_noted, result_noted, results_noted, sample_noted, samples_noted, stage_noted, stages_noted, tables_of, facts_in}
-use Rattle.kp_stage.specs.Rules.{broken_by}
-use Rattle.kp_width.proofs.Calls.{by_test, by_option}
-
--- the first of two that is there
-abbrev or_else : {X : Type 0} → Option X → Option X → Option X
-or_else None b = b
-or_else (Some x) b = Some x
-
-or_none : {X : Type 0} (o : Option X) → or_else o None ≡ o
-or_none None = refl
-or_none (Some x) = refl
-
-or_assoc : {X : Type 0} (a b c : Option X) → or_else (or_else a b) c ≡ or_else a (or_else b c)
-or_assoc None b c = refl
-or_assoc (Some x) b c = refl
-
-first_cons : {X : Type 0} (o : Option X) (os : List (Option X)) → first (o ∷ os) ≡ or_else o (first os)
-first_cons None os = refl
-first_cons (Some x) os = refl
-
--- what was there, then an answer, then the first of others
-first_more : {X : Type 0} (seen before o : Option X) (os : List (Option X)) (now : Option X) → seen ≡ or_else now (first os) → now ≡ or_else before o → seen ≡ or_else before (first (o ∷ os))
-first_more seen before o os now e f = e ∙ ap (λ x. or_else x (first os)) f ∙ or_assoc before o (first os) ∙ ap (or_else before) (sym (first_cons o os))
+use Rattle.kp_stage.specs.declared.facts.Facts as stored
+use Rattle.kp_stage.specs.Facts.{At, where_same, put_at, puts_in, puts_of, aim_at, aims_in, aims_of, set_at, sets_in, first_set, hints_of, results_of, sample_at, stage_at, write_at, less, least, largest, facts_of}
+use Rattle.kp_stage.specs.inner.Tables.{Entries, look_up, Known, with_value, with_first, less_than, with_less, Named, named, none_named, decl_noted, decls_noted, Given, given, between, stmt_noted, stmts_noted, ended, blocks_noted, table_in, facts_in}
+use Rattle.kp_width.proofs.Calls.{by_test}
 
 swapped : {X : Type 0} (a b : Bool) (x y r : X) → (a ≡ true → b ≡ false) → cond b y (cond a x r) ≡ cond a x (cond b y r)
 swapped true true x y r h = cc (h refl)
@@ -44,41 +24,38 @@ twice false true x y r h = cc
 
 module _ {V : Type 0} (n : List ℕ) (v : V) (q : List ℕ) where
   -- an entry that is added or changed, seen by a look-up
-  pub look_up-with_entry : (es : Entries V) → look_up (with_entry es n v) q ≡ cond (pointwise nat_eq q n) (Some v) (look_up es q)
+  pub look_up-with_entry : (es : Entries V) → look_up (insert_entry (pointwise nat_eq) es n v) q ≡ cond (pointwise nat_eq q n) (Some v) (look_up es q)
   look_up-with_entry [] = refl
   look_up-with_entry (e ∷ es) = by_test (pointwise nat_eq n e.0)
       (λ y.
-      ap (λ b. look_up (cond b ((e.0, v) ∷ es) (e ∷ with_entry es n v)) q) y
+      ap (λ b. look_up (cond b ((e.0, v) ∷ es) (e ∷ insert_entry (pointwise nat_eq) es n v)) q) y
       ∙ twice (pointwise nat_eq q n) (pointwise nat_eq q e.0) (Some v) (Some e.1) (look_up es q)
       (nat_list_eq_equiv.symm q n ∙ nat_list_eq_equiv.congr n e.0 q y ∙ nat_list_eq_equiv.symm e.0 q))
       (λ m.
-      ap (λ b. look_up (cond b ((e.0, v) ∷ es) (e ∷ with_entry es n v)) q) m
+      ap (λ b. look_up (cond b ((e.0, v) ∷ es) (e ∷ insert_entry (pointwise nat_eq) es n v)) q) m
       ∙ ap (cond (pointwise nat_eq q e.0) (Some e.1)) (look_up-with_entry es)
       ∙ swapped (pointwise nat_eq q n) (pointwise nat_eq q e.0) (Some v) (Some e.1) (look_up es q)
       (λ y. nat_list_eq_equiv.congr q n e.0 y ∙ m))
 
-module _ {V : Type 0} (q n : List ℕ) (v : V) where
-  -- stored only if nothing was stored yet
-  pub look_up-with_first : (es : Entries V) → look_up (with_first es n v) q ≡ or_else (look_up es q) (cond (pointwise nat_eq q n) (Some v) None)
-  look_up-with_first es = by_option (look_up es n)
-      (λ none.
-      ap (λ o. look_up (cond (is_some o) es (with_entry es n v)) q) none
-      ∙ look_up-with_entry n v q es
-      ∙ by_test (pointwise nat_eq q n)
-      (λ y.
-      ap (λ b. cond b (Some v) (look_up es q)) y
-      ∙ sym (ap (λ o. or_else o (Some v)) (ap (look_up es) ((bytes_decides q n).0 y) ∙ none))
-      ∙ ap (λ b. or_else (look_up es q) (cond b (Some v) None)) (sym y))
-      (λ m. ap (λ b. cond b (Some v) (look_up es q)) m ∙ sym (or_none (look_up es q)) ∙ ap (λ b. or_else (look_up es q) (cond b (Some v) None)) (sym m)))
-      (λ w there.
-      ap (λ o. look_up (cond (is_some o) es (with_entry es n v)) q) there
-      ∙ by_test (pointwise nat_eq q n)
-      (λ y.
-      let same : look_up es q ≡ Some w = ap (look_up es) ((bytes_decides q n).0 y) ∙ there in
-      same ∙ sym (ap (λ o. or_else o (cond (pointwise nat_eq q n) (Some v) None)) same))
-      (λ m. sym (or_none (look_up es q)) ∙ ap (λ b. or_else (look_up es q) (cond b (Some v) None)) (sym m)))
+or_none : {X : Type 0} (o : Option X) → option_or o None ≡ o
+or_none None = refl
+or_none (Some x) = refl
 
-less_some : (o : Option ℕ) (w : ℕ) → Some (less_than w o) ≡ less o (Some w)
+or_some : {X : Type 0} (o p : Option X) → is_some o ≡ true → o ≡ option_or o p
+or_some None p e = cc
+or_some (Some x) p e = refl
+
+or_is : {X : Type 0} (o : Option X) (x : X) → is_some o ≡ false → option_or o (Some x) ≡ Some x
+or_is None x e = refl
+or_is (Some y) x e = cc
+
+-- what was there, then an answer, then the first of others
+next : {X : Type 0} (a o : Option X) (os : List (Option X)) → option_or (option_or a o) (first os) ≡ option_or a (first (o ∷ os))
+next None None os = refl
+next None (Some x) os = refl
+next (Some y) o os = refl
+
+less_some : (o : Option ℕ) (w : ℕ) → less o (Some w) ≡ Some (less_than w o)
 less_some None w = refl
 less_some (Some v) w = refl
 
@@ -92,119 +69,126 @@ less_assoc (Some a) None c = refl
 less_assoc (Some a) (Some b) None = refl
 less_assoc (Some a) (Some b) (Some c) = ap Some (omega arith)
 
--- the less of two is noted
-look_up-with_less : (q n : List ℕ) (w : ℕ) (es : Entries ℕ) → look_up (with_less es n w) q ≡ less (look_up es q) (cond (pointwise nat_eq q n) (Some w) None)
-look_up-with_less q n w es =
-    look_up-with_entry n (less_than w (look_up es n)) q es
-    ∙ by_test (pointwise nat_eq q n)
-    (λ y.
-    ap (λ b. cond b (Some (less_than w (look_up es n))) (look_up es q)) y
-    ∙ less_some (look_up es n) w
-    ∙ ap (λ o. less o (Some w)) (sym (ap (look_up es) ((bytes_decides q n).0 y)))
-    ∙ ap (λ b. less (look_up es q) (cond b (Some w) None)) (sym y))
-    (λ m.
-    ap (λ b. cond b (Some (less_than w (look_up es n))) (look_up es q)) m
-    ∙ sym (less_none (look_up es q))
-    ∙ ap (λ b. less (look_up es q) (cond b (Some w) None)) (sym m))
+module _ {V : Type 0} (f : Known V) (n : List ℕ) where
+  -- a value that is stored for one name, which combines the earlier one and a new one
+  joined : (v w : V) (g : Option V → Option V → Option V) → ((o : Option V) → g o None ≡ o) → g (f n) (Some w) ≡ Some v → with_value f n v ≡ (λ q. g (f q) (where_same q n w))
+  joined v w g none here = λ i q. at q i
+    where
+      at : (q : List ℕ) → with_value f n v q ≡ g (f q) (where_same q n w)
+      at q = by_test (is_same_name q n)
+          (λ y.
+          ap (λ b. cond b (Some v) (f q)) (nat_list_eq_equiv.symm n q ∙ y)
+          ∙ sym here
+          ∙ ap (λ x. g (f x) (Some w)) (sym ((bytes_decides q n).0 y))
+          ∙ ap (λ b. g (f q) (cond b (Some w) None)) (sym y))
+          (λ m. ap (λ b. cond b (Some v) (f q)) (nat_list_eq_equiv.symm n q ∙ m) ∙ sym (none (f q)) ∙ ap (λ b. g (f q) (cond b (Some w) None)) (sym m))
 
-module _ (q : List ℕ) where
-  put_seen : (es : Entries At) (k j : ℕ) (s : StmtKind) → look_up (put_noted es k j s) q ≡ or_else (look_up es q) (put_at q k j s)
-  put_seen es k j (stmts.Put n e) = look_up-with_first q n.name (record { stage = k; index = j }) es
-  put_seen es k j x = sym (or_none (look_up es q))
+  pub first_is : (v : V) → is_some (f n) ≡ false → with_value f n v ≡ with_first f n v
+  first_is v e = joined v v option_or or_none (or_is (f n) v e)
 
-  puts_seen : (es : Entries At) (k j : ℕ) (ss : List Stmt) → look_up (puts_noted es k j ss) q ≡ or_else (look_up es q) (first (puts_in q k j ss))
-  puts_seen es k j [] = sym (or_none (look_up es q))
-  puts_seen es k j (s ∷ ss) = first_more _ (look_up es q) (put_at q k j s.kind) _ _ (puts_seen (put_noted es k j s.kind) k (j + 1) ss) (put_seen es k j s.kind)
+  pub first_stays : (v : V) → is_some (f n) ≡ true → f ≡ with_first f n v
+  first_stays v e = λ i q. at q i
+    where
+      at : (q : List ℕ) → f q ≡ option_or (f q) (where_same q n v)
+      at q = by_test (is_same_name q n)
+          (λ y. or_some (f q) (where_same q n v) (ap (λ x. is_some (f x)) ((bytes_decides q n).0 y) ∙ e))
+          (λ m. sym (or_none (f q)) ∙ ap (λ b. option_or (f q) (cond b (Some v) None)) (sym m))
 
-  all_puts_seen : (es : Entries At) (k : ℕ) (bs : List Block) → look_up (all_puts_noted es k bs) q ≡ or_else (look_up es q) (first (puts_of q k bs))
-  all_puts_seen es k [] = sym (or_none (look_up es q))
-  all_puts_seen es k (b ∷ bs) = first_more _ (look_up es q) (first (puts_in q k 0 b.stmts)) _ _ (all_puts_seen (puts_noted es k 0 b.stmts) (k + 1) bs) (puts_seen es k 0 b.stmts)
+pub less_is : (f : Known ℕ) (n : List ℕ) (w : ℕ) → with_value f n (less_than w (f n)) ≡ with_less f n w
+less_is f n w = joined f n (less_than w (f n)) w less less_none (less_some (f n) w)
 
-  aim_seen : (es : Entries At) (k j : ℕ) (s : StmtKind) → look_up (aim_noted es k j s) q ≡ or_else (look_up es q) (aim_at q k j s)
-  aim_seen es k j (stmts.Aim n e) = look_up-with_first q n.name (record { stage = k; index = j }) es
-  aim_seen es k j x = sym (or_none (look_up es q))
-
-  aims_seen : (es : Entries At) (k j : ℕ) (ss : List Stmt) → look_up (aims_noted es k j ss) q ≡ or_else (look_up es q) (first (aims_in q k j ss))
-  aims_seen es k j [] = sym (or_none (look_up es q))
-  aims_seen es k j (s ∷ ss) = first_more _ (look_up es q) (aim_at q k j s.kind) _ _ (aims_seen (aim_noted es k j s.kind) k (j + 1) ss) (aim_seen es k j s.kind)
-
-  all_aims_seen : (es : Entries At) (k : ℕ) (bs : List Block) → look_up (all_aims_noted es k bs) q ≡ or_else (look_up es q) (first (aims_of q k bs))
-  all_aims_seen es k [] = sym (or_none (look_up es q))
-  all_aims_seen es k (b ∷ bs) = first_more _ (look_up es q) (first (aims_in q k 0 b.stmts)) _ _ (all_aims_seen (aims_noted es k 0 b.stmts) (k + 1) bs) (aims_seen es k 0 b.stmts)
-
-  write_seen : (es : Entries ℕ) (d : Decl) → look_up (write_noted es d) q ≡ less (look_up es q) (write_at q d)
-  write_seen es (decls.Target r) = look_up-with_less q r.target.name r.stage.value es
-  write_seen es x = sym (less_none (look_up es q))
-
-  writes_seen : (es : Entries ℕ) (ds : List Decl) → look_up (writes_noted es ds) q ≡ less (look_up es q) (least (map (write_at q) ds))
-  writes_seen es [] = sym (less_none (look_up es q))
-  writes_seen es (d ∷ ds) =
-      writes_seen (write_noted es d) ds
-      ∙ ap (λ o. less o (least (map (write_at q) ds))) (write_seen es d)
-      ∙ less_assoc (look_up es q) (write_at q d) _
-
-  result_seen : (es : Entries ℕ) (i : ℕ) (d : Decl) → look_up (result_noted es i d) q ≡ or_else (look_up es q) (result_at q i d)
-  result_seen es i (decls.Target r) = look_up-with_first q r.target.name i es
-  result_seen es i x = sym (or_none (look_up es q))
-
-  results_seen : (es : Entries ℕ) (i : ℕ) (ds : List Decl) → look_up (results_noted es i ds) q ≡ or_else (look_up es q) (first (results_of q i ds))
-  results_seen es i [] = sym (or_none (look_up es q))
-  results_seen es i (d ∷ ds) = first_more _ (look_up es q) (result_at q i d) _ _ (results_seen (result_noted es i d) (i + 1) ds) (result_seen es i d)
-
-  hint_seen : (es : Entries ℕ) (i : ℕ) (d : Decl) → look_up (hint_noted es i d) q ≡ or_else (look_up es q) (hint_at q i d)
-  hint_seen es i (decls.Hint n w l) = look_up-with_first q n.name i es
-  hint_seen es i x = sym (or_none (look_up es q))
-
-  hints_seen : (es : Entries ℕ) (i : ℕ) (ds : List Decl) → look_up (hints_noted es i ds) q ≡ or_else (look_up es q) (first (hints_of q i ds))
-  hints_seen es i [] = sym (or_none (look_up es q))
-  hints_seen es i (d ∷ ds) = first_more _ (look_up es q) (hint_at q i d) _ _ (hints_seen (hint_noted es i d) (i + 1) ds) (hint_seen es i d)
-
-  stage_seen : (es : Entries ℕ) (d : Decl) → look_up (stage_noted es d) q ≡ or_else (look_up es q) (stage_at q d)
-  stage_seen es (decls.Target r) = look_up-with_first q r.name.name r.stage.value es
-  stage_seen es x = sym (or_none (look_up es q))
-
-  stages_seen : (es : Entries ℕ) (ds : List Decl) → look_up (stages_noted es ds) q ≡ or_else (look_up es q) (first (map (stage_at q) ds))
-  stages_seen es [] = sym (or_none (look_up es q))
-  stages_seen es (d ∷ ds) = first_more _ (look_up es q) (stage_at q d) _ _ (stages_seen (stage_noted es d) ds) (stage_seen es d)
-
-  sample_seen : (es : Entries ℕ) (d : Decl) → look_up (sample_noted es d) q ≡ or_else (look_up es q) (sample_at q d)
-  sample_seen es (decls.Sample n w k) = look_up-with_first q n.name k.value es
-  sample_seen es x = sym (or_none (look_up es q))
-
-  samples_seen : (es : Entries ℕ) (ds : List Decl) → look_up (samples_noted es ds) q ≡ or_else (look_up es q) (first (map (sample_at q) ds))
-  samples_seen es [] = sym (or_none (look_up es q))
-  samples_seen es (d ∷ ds) = first_more _ (look_up es q) (sample_at q d) _ _ (samples_seen (sample_noted es d) ds) (sample_seen es d)
-
-module _ (q : List ℕ) where
-  set_seen : (es : Entries ℕ) (j : ℕ) (s : StmtKind) → look_up (set_noted es j s) q ≡ or_else (look_up es q) (set_at q j s)
-  set_seen es j (stmts.Set n e when) = look_up-with_first q n.name j es
-  set_seen es j x = sym (or_none (look_up es q))
-
-  sets_seen : (es : Entries ℕ) (j : ℕ) (ss : List Stmt) → look_up (sets_noted es j ss) q ≡ or_else (look_up es q) (first (sets_in q j ss))
-  sets_seen es j [] = sym (or_none (look_up es q))
-  sets_seen es j (s ∷ ss) = first_more _ (look_up es q) (set_at q j s.kind) _ _ (sets_seen (set_noted es j s.kind) (j + 1) ss) (set_seen es j s.kind)
-
-  all_sets_seen : (bs : List Block) (k : ℕ) → look_up (table_in (slice_get (map sets_of bs) k)) q ≡ first_set bs k q
-  all_sets_seen [] k = refl
-  all_sets_seen (b ∷ bs) zero = sets_seen [] 0 b.stmts
-  all_sets_seen (b ∷ bs) (suc k) = all_sets_seen bs k
-
--- the tables hold the facts
-pub tables_fit : (job : Job) → facts_in (tables_of job) ≡ facts_of job
-unfolding tables_of
-tables_fit job = λ i. record {
-  stages = job.stages.value;
-  put = λ q. all_puts_seen q [] 0 job.blocks i;
-  aim = λ q. all_aims_seen q [] 0 job.blocks i;
-  set_in = λ k q. all_sets_seen q job.blocks k i;
-  hint = λ q. hints_seen q [] 0 job.decls i;
-  result = λ q. results_seen q [] 0 job.decls i;
-  sample = λ q. samples_seen q [] job.decls i;
-  stage = λ q. stages_seen q [] job.decls i;
-  written = λ q. writes_seen q [] job.decls i;
-  top = largest (λ q. writes_seen q [] job.decls i) 0 job.blocks;
+-- DECLARATIONS: what was known, and the facts of these declarations
+abbrev after_decls : Named → ℕ → List Decl → Named
+after_decls n i ds = record {
+  hint = λ q. option_or (n.hint q) (first (hints_of q i ds));
+  result = λ q. option_or (n.result q) (first (results_of q i ds));
+  sample = λ q. option_or (n.sample q) (first (map (sample_at q) ds));
+  stage = λ q. option_or (n.stage q) (first (map (stage_at q) ds));
+  written = λ q. less (n.written q) (least (map (write_at q) ds));
 }
 
--- so the tables find the violated rule
-pub broken_same : (job : Job) → broken_by (facts_in (tables_of job)) job ≡ broken_by (facts_of job) job
-broken_same job = ap (λ facts. broken_by facts job) (tables_fit job)
+next_decl : (n : Named) (i : ℕ) (d : Decl) (ds : List Decl) → after_decls (decl_noted n i d) (i + 1) ds ≡ after_decls n i (d ∷ ds)
+next_decl n i (decls.Hint h w s) ds = λ t. record (after_decls n (i + 1) ds) { hint = λ q. next (n.hint q) (where_same q h.name i) (hints_of q (i + 1) ds) t }
+next_decl n i (decls.Sample s w k) ds = λ t. record (after_decls n (i + 1) ds) { sample = λ q. next (n.sample q) (where_same q s.name k.value) (map (sample_at q) ds) t }
+next_decl n i (decls.Target r) ds = λ t. record (after_decls n (i + 1) ds) {
+  result = λ q. next (n.result q) (where_same q r.target.name i) (results_of q (i + 1) ds) t;
+  stage = λ q. next (n.stage q) (where_same q r.name.name r.stage.value) (map (stage_at q) ds) t;
+  written = λ q. less_assoc (n.written q) (where_same q r.target.name r.stage.value) (least (map (write_at q) ds)) t;
+}
+next_decl n i x ds = refl
+
+decls_are : (n : Named) (i : ℕ) (ds : List Decl) → decls_noted n i ds ≡ after_decls n i ds
+decls_are n i [] = λ t. record {
+  hint = λ q. sym (or_none (n.hint q)) t;
+  result = λ q. sym (or_none (n.result q)) t;
+  sample = λ q. sym (or_none (n.sample q)) t;
+  stage = λ q. sym (or_none (n.stage q)) t;
+  written = λ q. sym (less_none (n.written q)) t;
+}
+decls_are n i (d ∷ ds) = decls_are (decl_noted n i d) (i + 1) ds ∙ next_decl n i d ds
+
+-- STATEMENTS
+abbrev after_stmts : Given → ℕ → ℕ → List Stmt → Given
+after_stmts g k j ss = record {
+  put = λ q. option_or (g.put q) (first (puts_in q k j ss));
+  aim = λ q. option_or (g.aim q) (first (aims_in q k j ss));
+  set = λ q. option_or (g.set q) (first (sets_in q j ss));
+  sets = g.sets;
+}
+
+next_stmt : (g : Given) (k j : ℕ) (s : Stmt) (x : StmtKind) (ss : List Stmt) → after_stmts (stmt_noted g k j x) k (j + 1) ss ≡ after_stmts g k j (record s { kind = x } ∷ ss)
+next_stmt g k j s (stmts.Put n e) ss = λ t. record (after_stmts g k (j + 1) ss) { put = λ q. next (g.put q) (put_at q k j (stmts.Put n e)) (puts_in q k (j + 1) ss) t }
+next_stmt g k j s (stmts.Aim n e) ss = λ t. record (after_stmts g k (j + 1) ss) { aim = λ q. next (g.aim q) (aim_at q k j (stmts.Aim n e)) (aims_in q k (j + 1) ss) t }
+next_stmt g k j s (stmts.Set n e when) ss = λ t. record (after_stmts g k (j + 1) ss) { set = λ q. next (g.set q) (set_at q j (stmts.Set n e when)) (sets_in q (j + 1) ss) t }
+next_stmt g k j s x ss = refl
+
+stmts_are : (g : Given) (k j : ℕ) (ss : List Stmt) → stmts_noted g k j ss ≡ after_stmts g k j ss
+stmts_are g k j [] = λ t. record { put = λ q. sym (or_none (g.put q)) t; aim = λ q. sym (or_none (g.aim q)) t; set = λ q. sym (or_none (g.set q)) t; sets = g.sets }
+stmts_are g k j (s ∷ ss) = stmts_are (stmt_noted g k j s.kind) k (j + 1) ss ∙ next_stmt g k j s s.kind ss
+
+abbrev set_of : Block → Known ℕ
+set_of b q = first (sets_in q 0 b.stmts)
+
+blocks_are : (put aim : Known At) (sets : List (Known ℕ)) (k : ℕ) (bs : List Block) → blocks_noted (between put aim sets) k bs
+    ≡ between (λ q. option_or (put q) (first (puts_of q k bs))) (λ q. option_or (aim q) (first (aims_of q k bs))) (sets ++ map set_of bs)
+blocks_are put aim sets k [] = λ t. between (λ q. sym (or_none (put q)) t) (λ q. sym (or_none (aim q)) t) (sym (append-nil sets) t)
+blocks_are put aim sets k (b ∷ bs) =
+    ap (λ g. blocks_noted (ended g) (k + 1) bs) (stmts_are (between put aim sets) k 0 b.stmts)
+    ∙ blocks_are (λ q. option_or (put q) (first (puts_in q k 0 b.stmts))) (λ q. option_or (aim q) (first (aims_in q k 0 b.stmts))) (sets ++ set_of b ∷ []) (k + 1) bs
+    ∙ (λ t. between (λ q. next (put q) (first (puts_in q k 0 b.stmts)) (puts_of q (k + 1) bs) t) (λ q. next (aim q) (first (aims_in q k 0 b.stmts)) (aims_of q (k + 1) bs) t)
+    (append_assoc sets (set_of b ∷ []) (map set_of bs) t))
+
+-- the sets of a stage
+abbrev known_in : Option (Known ℕ) → Known ℕ
+known_in None = λ q. None
+known_in (Some f) = f
+
+stored_at : (ts : List (Entries ℕ)) (k : ℕ) → look_up (table_in (slice_get ts k)) ≡ known_in (slice_get (map look_up ts) k)
+stored_at [] k = refl
+stored_at (t ∷ ts) zero = refl
+stored_at (t ∷ ts) (suc k) = stored_at ts k
+
+set_at_stage : (bs : List Block) (k : ℕ) → known_in (slice_get (map set_of bs) k) ≡ first_set bs k
+set_at_stage [] k = refl
+set_at_stage (b ∷ bs) zero = refl
+set_at_stage (b ∷ bs) (suc k) = set_at_stage bs k
+
+-- the tables hold the facts
+pub facts_fit : (job : Job) (f : stored.Facts) → f.stages ≡ job.stages.value → named f.named ≡ decls_noted none_named 0 job.decls
+    → given f.given [] ≡ blocks_noted (between (λ q. None) (λ q. None) []) 0 job.blocks → f.top ≡ largest (look_up f.named.writes) 0 job.blocks → facts_in f ≡ facts_of job
+facts_fit job f stages n g top =
+    let of_decls : named f.named ≡ after_decls none_named 0 job.decls = n ∙ decls_are none_named 0 job.decls in
+    let of_stmts = g ∙ blocks_are (λ q. None) (λ q. None) [] 0 job.blocks in
+    let sets : map look_up f.given.sets.items ≡ map set_of job.blocks = ap (λ (x : Given). x.sets) of_stmts in
+    λ i. record {
+      stages = stages i;
+      put = (of_stmts i).put;
+      aim = (of_stmts i).aim;
+      set_in = λ k. (stored_at f.given.sets.items k ∙ ap (λ fs. known_in (slice_get fs k)) sets ∙ set_at_stage job.blocks k) i;
+      hint = (of_decls i).hint;
+      result = (of_decls i).result;
+      sample = (of_decls i).sample;
+      stage = (of_decls i).stage;
+      written = (of_decls i).written;
+      top = (top ∙ ap (λ (x : Named). largest x.written 0 job.blocks) of_decls) i;
+    }

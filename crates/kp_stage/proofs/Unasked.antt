@@ -7,7 +7,8 @@ use Rattle.kp_ast.specs.declared.tree.{Expr.Expr, Block.Block, Stmt.Stmt, StmtKi
 use Rattle.kp_ast.specs.declared.tree.StmtKind.TheVariants as stmts
 use Rattle.kp_stage.specs.Rules.{ask_name, ask_expr, ask_option, ask_values, ask_guesses, ask_stmt, ask_stmts, ask_block, ask_in_block, ask_blocks, broken_unless, holds_of}
 use Rattle.kp_stage.specs.{declared.rules.Rule.Rule, Facts.At, Facts.Facts}
-use Rattle.kp_stage.specs.inner.{Tables.Entries, Tables.Tables, Tables.look_up, Tables.facts_in, Asked.asks_blocks}
+use Rattle.kp_stage.specs.inner.{Tables.Entries, Tables.look_up, Tables.facts_in, Asked.asks_blocks}
+use Rattle.kp_stage.specs.declared.facts.Facts as stored
 use Rattle.kp_width.proofs.Found.{none_asked}
 
 -- a rule that no name violates
@@ -55,16 +56,16 @@ none_found (x ∷ es) q e =
     let empty : length (x ∷ es) ≡ 0 = (Decides-eqb (length (x ∷ es)) 0).0 (not-false (length (x ∷ es) == 0) e) in
     absurd (omega arith)
 
-no_pipe : (t : Tables) → asks_blocks t Rule.E17 ≡ false → (k : ℕ) (q : List ℕ) (at : Place) → ask_name (facts_in t) Rule.E17 k q at ≡ None
-no_pipe t e k q at = ap (λ (o : Option At). broken_unless (not (holds_of (λ p. nat_le k p.stage) o)) Rule.E17 at) (none_found t.puts q e)
+no_pipe : (t : stored.Facts) → asks_blocks t Rule.E17 ≡ false → (k : ℕ) (q : List ℕ) (at : Place) → ask_name (facts_in t) Rule.E17 k q at ≡ None
+no_pipe t e k q at = ap (λ (o : Option At). broken_unless (not (holds_of (λ p. nat_le k p.stage) o)) Rule.E17 at) (none_found t.given.puts q e)
 
-no_hint : (t : Tables) → asks_blocks t Rule.E25 ≡ false → (k : ℕ) (q : List ℕ) (at : Place) → ask_name (facts_in t) Rule.E25 k q at ≡ None
-no_hint t e k q at = ap (λ (o : Option ℕ). broken_unless (not (is_some o)) Rule.E25 at) (none_found t.hints q e)
+no_hint : (t : stored.Facts) → asks_blocks t Rule.E25 ≡ false → (k : ℕ) (q : List ℕ) (at : Place) → ask_name (facts_in t) Rule.E25 k q at ≡ None
+no_hint t e k q at = ap (λ (o : Option ℕ). broken_unless (not (is_some o)) Rule.E25 at) (none_found t.named.hints q e)
 
-no_sample : (t : Tables) → asks_blocks t Rule.E34 ≡ false → (k : ℕ) (q : List ℕ) (at : Place) → ask_name (facts_in t) Rule.E34 k q at ≡ None
-no_sample t e k q at = ap (λ (o : Option ℕ). broken_unless (not (holds_of (λ w. not (w == k)) o)) Rule.E34 at) (none_found t.samples q e)
+no_sample : (t : stored.Facts) → asks_blocks t Rule.E34 ≡ false → (k : ℕ) (q : List ℕ) (at : Place) → ask_name (facts_in t) Rule.E34 k q at ≡ None
+no_sample t e k q at = ap (λ (o : Option ℕ). broken_unless (not (holds_of (λ w. not (w == k)) o)) Rule.E34 at) (none_found t.named.samples q e)
 
-pub no_answer : (t : Tables) (rule : Rule) → asks_blocks t rule ≡ false → (bs : List Block) → first (ask_blocks (facts_in t) rule 0 bs) ≡ None
+pub no_answer : (t : stored.Facts) (rule : Rule) → asks_blocks t rule ≡ false → (bs : List Block) → first (ask_blocks (facts_in t) rule 0 bs) ≡ None
 no_answer t Rule.E17 e = in_blocks (facts_in t) Rule.E17 (λ k b. refl) (λ k j s. in_both (facts_in t) Rule.E17 k (no_pipe t e k) s) 0
 no_answer t Rule.E22 e = in_blocks (facts_in t) Rule.E22 (λ k b. refl) (λ k j s. refl) 0
 no_answer t Rule.E24 e = in_blocks (facts_in t) Rule.E24 (λ k b. refl) (λ k j s. refl) 0

@@ -105,7 +105,6 @@ fn examine(alloc: Global, job: &Job) -> Result<Summary, Refused>
 }
 
 // The first of the rules E15 to E25, E34 and E35 that is violated.
-#[tactic(auto, using(crate::proofs::Noted::broken_same))]
 fn broken_rule(alloc: Global, job: &Job) -> Result<Option<Refusal>, NoMemory>
     ensures { IfOk result (λ broken. broken ≡ broken_by (facts_of job.now) job.now) }
 {

@@ -1,12 +1,12 @@
 // The facts that the rules look up, in tables with lookup in about constant time.
-ghost use Rattle.std.specs.Prelude.{◌≡◌, ◌==◌, [], length, OnOk, IfOk, map};
-ghost use Rattle.kp_stage.specs.Facts.{largest, largest_in, guessed};
-ghost use Rattle.kp_stage.specs.inner.Tables.{look_up, with_entry, with_first, with_less, puts_noted, all_puts_noted, aims_noted, all_aims_noted, sets_noted, sets_of, hints_noted, results_noted, samples_noted, stages_noted, writes_noted, tables_of};
+ghost use Rattle.std.specs.Prelude.{◌≡◌, ◌==◌, [], None, length, OnOk, IfOk};
+ghost use Rattle.kp_stage.specs.Facts.{facts_of, largest, largest_in, guessed};
+ghost use Rattle.kp_stage.specs.inner.Tables.{look_up, with_value, with_first, less_than, with_less, named, none_named, decl_noted, decls_noted, given, between, stmt_noted, stmts_noted, ended, blocks_noted, facts_in};
 
-use indexmap::IndexMap;
 use kp_ast::{Block, Decl, Job, Name, Stmt, StmtKind};
 use kp_base::NoMemory;
 use std::alloc::Global;
+use std::collections::HashMap;
 use std::marker::Model;
 
 // A statement: its stage, and its number in the block.
@@ -28,7 +28,7 @@ impl Model for Spot {
 
 // A map from names to values.
 pub(crate) struct Table<V> {
-    values: IndexMap<Name, V>,
+    values: HashMap<Name, V>,
 }
 
 impl<V: Drop> Drop for Table<V> {
@@ -51,7 +51,7 @@ impl<V: Copy> Table<V> {
         ensures { result ≡ [] }
     {
         Table {
-            values: IndexMap::new(alloc),
+            values: HashMap::new(alloc),
         }
     }
 
@@ -59,7 +59,7 @@ impl<V: Copy> Table<V> {
     pub fn is_empty(&self) -> bool
         ensures { result ≡ (length self.now == 0) }
     {
-        self.values.is_empty()
+        self.values.len() == 0
     }
 
     /// The value of a name, if it has one.
@@ -70,15 +70,16 @@ impl<V: Copy> Table<V> {
     }
 
     fn set(&mut self, name: &Name, value: V) -> Result<(), NoMemory>
-        ensures { OnOk result (self.new ≡ with_entry self.old name.now value) }
+        ensures { OnOk result (look_up self.new ≡ with_value (look_up self.old) name.now value) }
     {
         self.values.insert(name.clone()?, value)?;
         Ok(())
     }
 
     // Stores a value unless one is stored already.
+    #[tactic(auto, using(crate::proofs::Noted::first_stays))]
     fn set_first(&mut self, name: &Name, value: V) -> Result<(), NoMemory>
-        ensures { OnOk result (self.new ≡ with_first self.old name.now value) }
+        ensures { OnOk result (look_up self.new ≡ with_first (look_up self.old) name.now value) }
     {
         if self.get(name).is_some() {
             return Ok(());
@@ -90,12 +91,19 @@ impl<V: Copy> Table<V> {
 impl Table<u64> {
     // Stores the minimum of the stored value, if any, and this one.
     fn set_less(&mut self, name: &Name, value: u64) -> Result<(), NoMemory>
-        ensures { OnOk result (self.new ≡ with_less self.old name.now value) }
+        ensures { OnOk result (look_up self.new ≡ with_less (look_up self.old) name.now value) }
     {
-        match self.get(name) {
-            Some(old) => self.set(name, old.min(value)),
-            None => self.set(name, value),
-        }
+        let kept = least(self.get(name), value);
+        self.set(name, kept)
+    }
+}
+
+fn least(old: Option<u64>, value: u64) -> u64
+    ensures { result ≡ less_than value old }
+{
+    match old {
+        Some(old) => old.min(value),
+        None => value,
     }
 }
 
@@ -131,46 +139,36 @@ impl Drop for OfDecls {
 }
 
 impl OfDecls {
-    fn new(alloc: Global, decls: &[Decl]) -> Result<OfDecls, NoMemory>
-        ensures hints { IfOk result (λ t. t.hints ≡ hints_noted [] 0 decls.now) }
-        ensures results { IfOk result (λ t. t.results ≡ results_noted [] 0 decls.now) }
-        ensures samples { IfOk result (λ t. t.samples ≡ samples_noted [] decls.now) }
-        ensures stages { IfOk result (λ t. t.write_stages ≡ stages_noted [] decls.now) }
-        ensures writes { IfOk result (λ t. t.writes ≡ writes_noted [] decls.now) }
+    fn of(alloc: Global, decls: &[Decl]) -> Result<OfDecls, NoMemory>
+        ensures { IfOk result (λ t. named t ≡ decls_noted none_named 0 decls.now) }
     {
-        let mut named = OfDecls::empty(alloc);
-        named.note(decls)?;
-        Ok(named)
-    }
-
-    fn empty(alloc: Global) -> OfDecls
-        ensures hints { result.hints ≡ [] }
-        ensures results { result.results ≡ [] }
-        ensures samples { result.samples ≡ [] }
-        ensures stages { result.write_stages ≡ [] }
-        ensures writes { result.writes ≡ [] }
-    {
-        OfDecls {
+        let mut named = OfDecls {
             hints: Table::new(alloc),
             results: Table::new(alloc),
             samples: Table::new(alloc),
             write_stages: Table::new(alloc),
             writes: Table::new(alloc),
+        };
+        for (i, decl) in decls.iter().enumerate() {
+            named.note(i, decl)?;
         }
+        Ok(named)
     }
 
-    fn note(&mut self, decls: &[Decl]) -> Result<(), NoMemory>
-        ensures hints { OnOk result (self.new.hints ≡ hints_noted self.old.hints 0 decls.now) }
-        ensures results { OnOk result (self.new.results ≡ results_noted self.old.results 0 decls.now) }
-        ensures samples { OnOk result (self.new.samples ≡ samples_noted self.old.samples decls.now) }
-        ensures stages { OnOk result (self.new.write_stages ≡ stages_noted self.old.write_stages decls.now) }
-        ensures writes { OnOk result (self.new.writes ≡ writes_noted self.old.writes decls.now) }
+    fn note(&mut self, i: usize, decl: &Decl) -> Result<(), NoMemory>
+        ensures { OnOk result (named self.new ≡ decl_noted (named self.old) i decl.now) }
     {
-        note_hints(&mut self.hints, decls)?;
-        note_results(&mut self.results, decls)?;
-        note_samples(&mut self.samples, decls)?;
-        note_stages(&mut self.write_stages, decls)?;
-        note_writes(&mut self.writes, decls)
+        match decl {
+            Decl::Hint(named, _, _) => self.hints.set_first(&named.name, i),
+            Decl::Sample(named, _, stage) => self.samples.set_first(&named.name, stage.value),
+            Decl::Target(result) => {
+                let stage = result.stage.value;
+                self.results.set_first(&result.target.name, i)?;
+                self.write_stages.set_first(&result.name.name, stage)?;
+                self.writes.set_less(&result.target.name, stage)
+            }
+            _ => Ok(()),
+        }
     }
 }
 
@@ -194,15 +192,53 @@ impl Drop for OfStmts {
 }
 
 impl OfStmts {
-    fn new(alloc: Global, blocks: &[Block]) -> Result<OfStmts, NoMemory>
-        ensures puts { IfOk result (λ t. t.puts ≡ all_puts_noted [] 0 blocks.now) }
-        ensures aims { IfOk result (λ t. t.aims ≡ all_aims_noted [] 0 blocks.now) }
-        ensures sets { IfOk result (λ t. t.sets.items ≡ map sets_of blocks.now) }
+    fn of(alloc: Global, blocks: &[Block]) -> Result<OfStmts, NoMemory>
+        ensures { IfOk result (λ t. given t [] ≡ blocks_noted (between (λ q. None) (λ q. None) []) 0 blocks.now) }
     {
-        let puts = puts_of(alloc, blocks)?;
-        let aims = aims_of(alloc, blocks)?;
-        let sets = note_all_sets(alloc, blocks)?;
-        Ok(OfStmts { puts, aims, sets })
+        let mut given = OfStmts {
+            puts: Table::new(alloc),
+            aims: Table::new(alloc),
+            sets: Vec::new(alloc),
+        };
+        for (k, block) in blocks.iter().enumerate() {
+            given.note_block(alloc, k, block.stmts.as_slice())?;
+        }
+        Ok(given)
+    }
+
+    fn note_block(&mut self, alloc: Global, k: usize, stmts: &[Stmt]) -> Result<(), NoMemory>
+        ensures { OnOk result (given self.new [] ≡ ended (stmts_noted (given self.old []) k 0 stmts.now)) }
+    {
+        let mut sets = Table::new(alloc);
+        for (j, stmt) in stmts.iter().enumerate() {
+            self.note(&mut sets, k, j, &stmt.kind)?;
+        }
+        self.sets.push(sets)?;
+        Ok(())
+    }
+
+    // Notes a statement; `sets` are the sets of its stage.
+    fn note(
+        &mut self,
+        sets: &mut Table<usize>,
+        k: usize,
+        j: usize,
+        stmt: &StmtKind,
+    ) -> Result<(), NoMemory>
+        ensures { OnOk result (given self.new sets.new ≡ stmt_noted (given self.old sets.old) k j stmt.now) }
+    {
+        match stmt {
+            StmtKind::Put(named, _) => {
+                self.puts
+                    .set_first(&named.name, Spot { stage: k, index: j })
+            }
+            StmtKind::Aim(named, _) => {
+                self.aims
+                    .set_first(&named.name, Spot { stage: k, index: j })
+            }
+            StmtKind::Set(named, _, _) => sets.set_first(&named.name, j),
+            _ => Ok(()),
+        }
     }
 }
 
@@ -228,22 +264,15 @@ impl Drop for Facts {
     }
 }
 
-impl Model for Facts {
-    ghost use Rattle.kp_stage.specs.inner.Tables.{Tables};
-
-    ghost Value = { Tables };
-
-    ghost view = { λ f. record { stages = f.stages; puts = f.given.puts; aims = f.given.aims; sets = f.given.sets.items; hints = f.named.hints; results = f.named.results; samples = f.named.samples; write_stages = f.named.write_stages; writes = f.named.writes; top = f.top } };
-}
-
 impl Facts {
-    #[tactic(auto, unfolding(crate::specs::inner::Tables::tables_of))]
     pub fn of(alloc: Global, job: &Job) -> Result<Facts, NoMemory>
-        ensures { IfOk result (λ f. f ≡ tables_of job.now) }
+        ensures { IfOk result (λ f. facts_in f ≡ facts_of job.now) }
     {
-        let named = OfDecls::new(alloc, job.decls.as_slice())?;
-        let given = OfStmts::new(alloc, job.blocks.as_slice())?;
-        let top = top_of(&named.writes, job.blocks.as_slice());
+        let decls = job.decls.as_slice();
+        let blocks = job.blocks.as_slice();
+        let named = OfDecls::of(alloc, decls)?;
+        let given = OfStmts::of(alloc, blocks)?;
+        let top = top_of(&named.writes, blocks);
         Ok(Facts {
             stages: job.stages.value,
             named,
@@ -251,147 +280,6 @@ impl Facts {
             top,
         })
     }
-}
-
-fn note_hints(hints: &mut Table<usize>, decls: &[Decl]) -> Result<(), NoMemory>
-    ensures { OnOk result (hints.new ≡ hints_noted hints.old 0 decls.now) }
-{
-    for (i, decl) in decls.iter().enumerate() {
-        if let Decl::Hint(named, _, _) = decl {
-            hints.set_first(&named.name, i)?;
-        }
-    }
-    Ok(())
-}
-
-fn note_results(results: &mut Table<usize>, decls: &[Decl]) -> Result<(), NoMemory>
-    ensures { OnOk result (results.new ≡ results_noted results.old 0 decls.now) }
-{
-    for (i, decl) in decls.iter().enumerate() {
-        if let Decl::Target(result) = decl {
-            results.set_first(&result.target.name, i)?;
-        }
-    }
-    Ok(())
-}
-
-fn note_samples(samples: &mut Table<u64>, decls: &[Decl]) -> Result<(), NoMemory>
-    ensures { OnOk result (samples.new ≡ samples_noted samples.old decls.now) }
-{
-    for decl in decls {
-        if let Decl::Sample(named, _, stage) = decl {
-            samples.set_first(&named.name, stage.value)?;
-        }
-    }
-    Ok(())
-}
-
-fn note_stages(stages: &mut Table<u64>, decls: &[Decl]) -> Result<(), NoMemory>
-    ensures { OnOk result (stages.new ≡ stages_noted stages.old decls.now) }
-{
-    for decl in decls {
-        if let Decl::Target(result) = decl {
-            stages.set_first(&result.name.name, result.stage.value)?;
-        }
-    }
-    Ok(())
-}
-
-fn note_writes(writes: &mut Table<u64>, decls: &[Decl]) -> Result<(), NoMemory>
-    ensures { OnOk result (writes.new ≡ writes_noted writes.old decls.now) }
-{
-    for decl in decls {
-        if let Decl::Target(result) = decl {
-            writes.set_less(&result.target.name, result.stage.value)?;
-        }
-    }
-    Ok(())
-}
-
-fn puts_of(alloc: Global, blocks: &[Block]) -> Result<Table<Spot>, NoMemory>
-    ensures { IfOk result (λ puts. puts ≡ all_puts_noted [] 0 blocks.now) }
-{
-    let mut puts = Table::new(alloc);
-    note_all_puts(&mut puts, blocks)?;
-    Ok(puts)
-}
-
-fn note_all_puts(puts: &mut Table<Spot>, blocks: &[Block]) -> Result<(), NoMemory>
-    ensures { OnOk result (puts.new ≡ all_puts_noted puts.old 0 blocks.now) }
-{
-    for (k, block) in blocks.iter().enumerate() {
-        note_puts(puts, k, block.stmts.as_slice())?;
-    }
-    Ok(())
-}
-
-fn note_puts(puts: &mut Table<Spot>, k: usize, stmts: &[Stmt]) -> Result<(), NoMemory>
-    ensures { OnOk result (puts.new ≡ puts_noted puts.old k 0 stmts.now) }
-{
-    for (j, stmt) in stmts.iter().enumerate() {
-        if let StmtKind::Put(named, _) = &stmt.kind {
-            puts.set_first(&named.name, Spot { stage: k, index: j })?;
-        }
-    }
-    Ok(())
-}
-
-fn aims_of(alloc: Global, blocks: &[Block]) -> Result<Table<Spot>, NoMemory>
-    ensures { IfOk result (λ aims. aims ≡ all_aims_noted [] 0 blocks.now) }
-{
-    let mut aims = Table::new(alloc);
-    note_all_aims(&mut aims, blocks)?;
-    Ok(aims)
-}
-
-fn note_all_aims(aims: &mut Table<Spot>, blocks: &[Block]) -> Result<(), NoMemory>
-    ensures { OnOk result (aims.new ≡ all_aims_noted aims.old 0 blocks.now) }
-{
-    for (k, block) in blocks.iter().enumerate() {
-        note_aims(aims, k, block.stmts.as_slice())?;
-    }
-    Ok(())
-}
-
-fn note_aims(aims: &mut Table<Spot>, k: usize, stmts: &[Stmt]) -> Result<(), NoMemory>
-    ensures { OnOk result (aims.new ≡ aims_noted aims.old k 0 stmts.now) }
-{
-    for (j, stmt) in stmts.iter().enumerate() {
-        if let StmtKind::Aim(named, _) = &stmt.kind {
-            aims.set_first(&named.name, Spot { stage: k, index: j })?;
-        }
-    }
-    Ok(())
-}
-
-fn note_all_sets(alloc: Global, blocks: &[Block]) -> Result<Vec<Table<usize>>, NoMemory>
-    ensures { IfOk result (λ v. v.items ≡ map sets_of blocks.now) }
-{
-    let mut all = Vec::new(alloc);
-    for block in blocks {
-        let sets = sets_of(alloc, block)?;
-        all.push(sets)?;
-    }
-    Ok(all)
-}
-
-fn sets_of(alloc: Global, block: &Block) -> Result<Table<usize>, NoMemory>
-    ensures { IfOk result (λ sets. sets ≡ sets_of block.now) }
-{
-    let mut sets = Table::new(alloc);
-    note_sets(&mut sets, block.stmts.as_slice())?;
-    Ok(sets)
-}
-
-fn note_sets(sets: &mut Table<usize>, stmts: &[Stmt]) -> Result<(), NoMemory>
-    ensures { OnOk result (sets.new ≡ sets_noted sets.old 0 stmts.now) }
-{
-    for (j, stmt) in stmts.iter().enumerate() {
-        if let StmtKind::Set(named, _, _) = &stmt.kind {
-            sets.set_first(&named.name, j)?;
-        }
-    }
-    Ok(())
 }
 
 fn top_of(writes: &Table<u64>, blocks: &[Block]) -> u64
