@@ -1,26 +1,26 @@
 -- An expression that violates no rule has a value that an executable function computes: each operation in it has
 -- operands of the required widths. A check of the names may be added: if no name in the expression fails it, only the
 -- names that pass need to be known.
-use Rattle.std.proofs.Common.{◌≡◌, ◌≤◌, ◌<◌, ◌+◌, ℕ, List, [], ◌∷◌, map, min, fold, Option, Some, None, Ok, Err, Bool, true, false, cond, ◌==◌, ◌&&◌, ◌||◌, refl, ap, sym, subst, ◌∙◌, arith}
-use Rattle.std.proofs.lemmas.{Bool.cond_both, Bool.eq-eqb, Bool.le-leb, Bool.lt-ltb, Bool.and_from, List.length-map}
+use Rattle.std.proofs.Common.{◌≡◌, ◌≤◌, ◌<◌, ◌+◌, ℕ, List, [], ◌∷◌, map, min, fold, Option, Some, None, Ok, Err, Bool, true, false, cond, length, drop, is_some, not, ◌==◌, ◌||◌, refl, ap, sym, subst, ◌∙◌, arith}
+use Rattle.std.proofs.lemmas.{Bool.cond_both, Bool.eq-eqb, Bool.le-leb, Bool.lt-ltb, Bool.eqb-true, Bool.leb-true, Bool.ltb-true, Bool.and_from, Bool.and_parts, List.length-map}
 use Rattle.std.specs.{Option.option_map, Option.option_and_then, Result.result_ok}
-use Rattle.kp_base.specs.{First.first, Check.Check, Check.Answer, declared.place.Place.Place}
+use Rattle.kp_base.specs.{First.first, Check.Check, Check.Answer, Check.ok, Check.◌>>=◌, Check.wants, Refusal.e_rule, declared.place.Place.Place}
 use Rattle.kp_bits.specs.Word.{Word, IsWord, not_of, concat_of}
 use Rattle.kp_bits.specs.{declared.literal.LiteralFault.TheVariants.TooBig, declared.literal.LiteralFault.TheVariants.BadWidth, Operators.is_shift}
-use Rattle.kp_bits.specs.Checked.{where_so, checked_join, checked_joined, checked_binary, checked_mux, checked_slice, checked_zext, checked_sext}
+use Rattle.kp_bits.specs.Checked.{where_so, checked_join, checked_joined, checked_binary, checked_mux, checked_slice, is_extension, checked_zext, checked_sext}
 use Rattle.kp_bits.proofs.Words.{not_word, concat_word, slice_word, zext_word, sext_word}
-use Rattle.kp_ast.specs.declared.tree.{Decl.Decl, Expr.Expr, ExprKind.TheOpen.ExprKind-F, ExprKind.TheOpen.Expr-F, ExprKind.TheFolds.fold-Expr}
+use Rattle.kp_ast.specs.declared.tree.{Num.Num, Decl.Decl, Expr.Expr, ExprKind.TheOpen.ExprKind-F, ExprKind.TheOpen.Expr-F, ExprKind.TheFolds.fold-Expr}
 use Rattle.kp_ast.specs.{Expressions.Env, Expressions.eval, Checked.Known, Checked.checked, Checked.checked_kind, Checked.checked_level, Checked.all_there}
 use Rattle.kp_ast.specs.declared.tree.Param.{Param}
 use Rattle.kp_ast.proofs.Levels.{fold-Lit, fold-Name, fold-Not, fold-Binary, fold-Mux, fold-Concat, fold-Slice, fold-Zext, fold-Sext, fold-Call}
 use Rattle.kp_ast.proofs.Induction.{Every, induction}
 use Rattle.kp_ast.specs.declared.tree.ExprKind.TheOpen as level
 use Rattle.kp_bits.specs.Operators as operators
-use Rattle.kp_width.proofs.Parts.{lit_parts, name_parts, not_parts, binary_parts, mux_parts, concat_parts, sum_parts, sum_grows, slice_parts, zext_parts, sext_parts, argument_parts, call_parts}
-use Rattle.kp_width.specs.Names.{Sense, is_value_in, is_callee, Scoped, find}
-use Rattle.kp_width.specs.Expressions.{Part, is_test, params_of, part_of, width_of, sum_of, arguments_of}
+use Rattle.kp_width.specs.Names.{Sense, is_value_in, is_callee, Scoped, find, used, used_as}
+use Rattle.kp_width.specs.Expressions.{Part, is_test, is_width, extension_of, params_of, part_of, width_of, sum_of, arguments_of, is_declared, callee_of, called_of, width_at, value_of}
 use Rattle.kp_width.specs.Soundness.{HasWidth, FitFrom, Suits, AreArguments}
-use Rattle.kp_width.proofs.{Unbroken.Unbroken, Unbroken.width-Lit, Unbroken.width-Not, Sound.binary_width}
+use Rattle.kp_width.proofs.{Parts.given_parts, Sound.binary_width}
+use Rattle.kp_width.proofs.Unbroken.{Unbroken, first_split, bind_unbroken, answer_unbroken, width-Lit, width-Name, width-Not, width-Binary, width-Mux, width-Concat, width-Slice, width-Zext, width-Sext, width-Call}
 
 -- the first violation of a check of each name that is used as a value, from left to right
 abbrev pub name_kind : (List ℕ → Place → Answer) → ExprKind-F (Place → Answer) Answer → Place → Answer
@@ -51,8 +51,32 @@ pub record Meets (ds : List Decl) (s : Scoped) (known : Known) (env : Env) (ask 
   pub names : (q : List ℕ) (m : Sense) (at : Place) → find s q ≡ Some m → is_value_in s.here m.kind ≡ true → ask q at ≡ None → Found m.width (known.names q) (env.names q)
   pub calls : (q : List ℕ) (m : Sense) → find s q ≡ Some m → is_callee m.kind ≡ true → (vs : List Word) → AreArguments (params_of ds m.from) vs → Found m.width (known.calls q vs) (env.calls q vs)
 
-by_all : (u v : ℕ) (o p : Option Word) (x y : Word) → u ≡ v → o ≡ p → x ≡ y → Found v p y → Found u o x
-by_all u v o p x y e f g h = record { there = f ∙ h.there ∙ ap Some (sym g); has = record { word = rw g h.has.word; width = rw (g, e) h.has.width } }
+-- an expression that computes by one level, in each of three folds
+by_level : (c d : Check ℕ) (o p : Option Word) (x y : Word) → c ≡ d → o ≡ p → x ≡ y → (Unbroken d → Found d.value p y) → Unbroken c → Found c.value o x
+by_level c d o p x y e f g found u =
+    let h = found (subst (λ x. Unbroken x) e u) in
+    let w : c.value ≡ d.value = ap (λ c. c.value) e in
+    record { there = f ∙ h.there ∙ ap Some (sym g); has = record { word = rw g h.has.word; width = rw (g, w) h.has.width } }
+
+width_bounds : (w : ℕ) → is_width w ≡ true → (1 ≤ w) × (w ≤ 64)
+width_bounds w e = let b = and_parts _ _ e in (leb-true 1 w b.0, leb-true w 64 b.1)
+
+-- a name in scope, of a kind that its position accepts
+used_parts : (takes : _ → Bool) (p : Place) (o : Option Sense) → Unbroken (used_as takes p o) → (o ≡ Some (used_as takes p o).value) × (takes (used_as takes p o).value.kind ≡ true)
+used_parts takes p None h = cc
+used_parts takes p (Some m) h = (refl, (answer_unbroken _ _ _ h).0)
+
+or_left : (a b : Bool) → (a || b) ≡ true → a ≡ false → b ≡ true
+or_left true b h e = cc
+or_left false b h e = h
+
+-- an extension of a value of this width
+wider : (w : ℕ) (o : Option Word) (v : Word) (n : Num) (p : Place) → Found w o v → Unbroken (extension_of n p w) → (is_extension n.value v ≡ true) × (v.width ≤ n.value) × (n.value ≤ 64)
+wider w o v n p f u =
+    let t = answer_unbroken _ _ _ u in
+    let most = (width_bounds _ t.0).1 in
+    let wide : v.width ≤ n.value = rw f.has.width (leb-true _ _ (answer_unbroken _ _ _ t.1).0) in
+    (and_from _ _ (le-leb _ _ wide) (le-leb _ _ most), wide, most)
 
 pub none_of_two : (a b : Answer) → first (a ∷ b ∷ []) ≡ None → (a ≡ None) × (b ≡ None)
 none_of_two None None e = (refl, refl)
@@ -130,20 +154,24 @@ module _ (ds : List Decl) (done : ℕ) (s : Scoped) (known : Known) (env : Env) 
   abbrev Holds : Expr → Type 0
   Holds e = asked e ≡ None → Unbroken (width e) → Found (width e).value (there e) (value e)
 
+  sum_grows : (sum : ℕ) (es : List Expr) → sum ≤ 65 → sum ≤ (sum_of sum (map part es)).value
+  sum_grows sum [] l = omega arith
+  sum_grows sum (e ∷ es) l = let g = sum_grows (min (sum + (width e).value) 65) es (omega arith) in omega arith
+
   -- the parts of a concatenation, after bits that there are already
   joined : (acc : Word) (es : List Expr) → IsWord acc → Every Holds es → first (map asked es) ≡ None → Unbroken (sum_of acc.width (map part es)) → (sum_of acc.width (map part es)).value ≤ 64
       → Found (sum_of acc.width (map part es)).value (checked_join acc (map value es)) (fold concat_of acc (map value es))
   joined acc [] h hs a u l = record { there = refl; has = record { word = h; width = refl } }
   joined acc (e ∷ es) h hs a u l =
       let n = none_of_more (asked e) (map asked es) a in
-      let p = sum_parts ds done s acc.width e es u in
-      let v = (hs.0 n.0 p.head).has in
+      let p = first_split (width e).asked _ u in
+      let v = (hs.0 n.0 p.0).has in
       let vw : (value e).width ≡ (width e).value = v.width in
-      let g = sum_grows ds done s (min (acc.width + (width e).value) 65) es (omega arith) in
+      let g = sum_grows (min (acc.width + (width e).value) 65) es (omega arith) in
       let same : min (acc.width + (width e).value) 65 ≡ acc.width + (value e).width = omega arith in
       let fits : acc.width + (value e).width ≤ 64 = omega arith in
       let c = concat_word acc (value e) h v.word fits in
-      let more = joined (concat_of acc (value e)) es c hs.1 n.1 (subst (λ n. Unbroken (sum_of n (map part es))) same p.rest) (subst (λ n. (sum_of n (map part es)).value ≤ 64) same l) in
+      let more = joined (concat_of acc (value e)) es c hs.1 n.1 (subst (λ n. Unbroken (sum_of n (map part es))) same p.1) (subst (λ n. (sum_of n (map part es)).value ≤ 64) same l) in
       record {
         there = join_on acc (value e) (map value es) fits ∙ more.there;
         has = subst (λ n. HasWidth (sum_of n (map part es)).value (fold concat_of (concat_of acc (value e)) (map value es))) (sym same) more.has;
@@ -154,12 +182,12 @@ module _ (ds : List Decl) (done : ℕ) (s : Scoped) (known : Known) (env : Env) 
   concat_found [] hs a u l k = absurd (omega arith)
   concat_found (e ∷ es) hs a u l k =
       let n = none_of_more (asked e) (map asked es) a in
-      let p = sum_parts ds done s 0 e es u in
-      let v = (hs.0 n.0 p.head).has in
+      let p = first_split (width e).asked _ u in
+      let v = (hs.0 n.0 p.0).has in
       let vw : (value e).width ≡ (width e).value = v.width in
       let b : (value e).width ≤ 64 = v.word.at_most in
       let same : min (0 + (width e).value) 65 ≡ (value e).width = omega arith in
-      let more = joined (value e) es v.word hs.1 n.1 (subst (λ n. Unbroken (sum_of n (map part es))) same p.rest) (subst (λ n. (sum_of n (map part es)).value ≤ 64) same k) in
+      let more = joined (value e) es v.word hs.1 n.1 (subst (λ n. Unbroken (sum_of n (map part es))) same p.1) (subst (λ n. (sum_of n (map part es)).value ≤ 64) same k) in
       record { there = more.there; has = subst (λ n. HasWidth (sum_of n (map part es)).value (fold concat_of (value e) (map value es))) (sym same) more.has }
 
   -- each part of a concatenation is found
@@ -167,8 +195,8 @@ module _ (ds : List Decl) (done : ℕ) (s : Scoped) (known : Known) (env : Env) 
   all_found n [] hs a u = refl
   all_found n (e ∷ es) hs a u =
       let b = none_of_more (asked e) (map asked es) a in
-      let p = sum_parts ds done s n e es u in
-      cons_there (there e) (value e) (map there es) (map value es) (hs.0 b.0 p.head).there (all_found (min (n + (width e).value) 65) es hs.1 b.1 p.rest)
+      let p = first_split (width e).asked _ u in
+      cons_there (there e) (value e) (map there es) (map value es) (hs.0 b.0 p.0).there (all_found (min (n + (width e).value) 65) es hs.1 b.1 p.1)
 
   -- and each argument of a call, which fits its parameter
   arguments_found : (ps : List Param) (i : ℕ) (es : List Expr) → Every Holds es → first (map asked es) ≡ None → Unbroken (arguments_of ps i (map part es))
@@ -176,92 +204,89 @@ module _ (ds : List Decl) (done : ℕ) (s : Scoped) (known : Known) (env : Env) 
   arguments_found ps i [] hs a u = (tt, refl)
   arguments_found ps i (e ∷ es) hs a u =
       let b = none_of_more (asked e) (map asked es) a in
-      let p = argument_parts ds done s ps i e es u in
-      let f = hs.0 b.0 p.head in
-      let more = arguments_found ps (i + 1) es hs.1 b.1 p.rest in
-      ((subst (λ w. HasWidth w (value e)) p.same f.has, more.0), cons_there (there e) (value e) (map there es) (map value es) f.there more.1)
+      let p = first_split (value_of (part e) (width_at ps i)).asked _ u in
+      let g = given_parts ds done s e (width_at ps i) p.0 in
+      let f = hs.0 b.0 g.0 in
+      let more = arguments_found ps (i + 1) es hs.1 b.1 p.1 in
+      ((subst (λ w. HasWidth w (value e)) g.1 f.has, more.0), cons_there (there e) (value e) (map there es) (map value es) f.there more.1)
 
   pub found : (e : Expr) → Holds e
   found = induction Holds (record {
-    literal = λ p l a u. let b = lit_parts ds done s p l u in
-        by_all _ _ _ _ _ _ (ap (λ c. c.value) (width-Lit ds done s p l)) (fold-Lit _ _ (checked_kind known) checked_level p l) (fold-Lit _ _ _ _ p l)
-        (record {
-          there = fits_there _ _ _ (and_from _ _ (le-leb _ _ b.positive) (le-leb _ _ b.at_most)) (lt-ltb _ _ b.fits);
-          has = record { word = record { positive = b.positive; at_most = b.at_most; fits = b.fits }; width = refl };
-        });
-    name = λ p q a u. let b = name_parts ds done s p q u in
-        by_all _ _ _ _ _ _ b.value (fold-Name _ _ (checked_kind known) checked_level p q) (fold-Name _ _ _ _ p q)
-        (meets.names q b.sense p b.found b.kind_fits (sym (fold-Name _ _ (name_kind ask) name_level p q) ∙ a));
-    not_ = λ p x h a u.
-        let f = h (sym (fold-Not _ _ (name_kind ask) name_level p x) ∙ a) (not_parts ds done s p x u) in
-        by_all _ _ _ _ _ _ (ap (λ c. c.value) (width-Not ds done s p x)) (fold-Not _ _ (checked_kind known) checked_level p x) (fold-Not _ _ _ _ p x)
-        (record { there = ap (option_map not_of) f.there; has = record { word = not_word (value x) f.has.word; width = f.has.width } });
-    binary = λ p op x y h k a u.
-        let c = binary_parts ds done s p op x y u in
+    literal = λ p l a. by_level _ _ _ _ _ _ (width-Lit ds done s p l) (fold-Lit _ _ (checked_kind known) checked_level p l) (fold-Lit _ _ _ _ p l) (λ u.
+        let x = answer_unbroken _ _ _ u in
+        let y = answer_unbroken _ _ _ x.1 in
+        let b = width_bounds l.width x.0 in
+        record { there = fits_there _ _ _ x.0 y.0; has = record { word = record { positive = b.0; at_most = b.1; fits = ltb-true _ _ y.0 }; width = refl } });
+    name = λ p q a. by_level _ _ _ _ _ _ (width-Name ds done s p q) (fold-Name _ _ (checked_kind known) checked_level p q) (fold-Name _ _ _ _ p q) (λ u.
+        let n = used_parts (is_value_in s.here) p (find s q) (first_split (used s (is_value_in s.here) q p).asked _ u).0 in
+        meets.names q (used s (is_value_in s.here) q p).value p n.0 n.1 (sym (fold-Name _ _ (name_kind ask) name_level p q) ∙ a));
+    not_ = λ p x h a. by_level _ _ _ _ _ _ (width-Not ds done s p x) (fold-Not _ _ (checked_kind known) checked_level p x) (fold-Not _ _ _ _ p x) (λ u.
+        let f = h (sym (fold-Not _ _ (name_kind ask) name_level p x) ∙ a) u in
+        record { there = ap (option_map not_of) f.there; has = record { word = not_word (value x) f.has.word; width = f.has.width } });
+    binary = λ p op x y h k a. by_level _ _ _ _ _ _ (width-Binary ds done s p op x y) (fold-Binary _ _ (checked_kind known) checked_level p op x y) (fold-Binary _ _ _ _ p op x y) (λ u.
         let b = none_of_two (asked x) (asked y) (sym (fold-Binary _ _ (name_kind ask) name_level p op x y) ∙ a) in
-        let f = h b.0 c.left in
-        let g = k b.1 c.right in
-        let same : is_shift op ≡ false → (value x).width ≡ (value y).width = λ e. f.has.width ∙ c.same e ∙ sym g.has.width in
-        by_all _ _ _ _ _ _ (c.value ∙ ap (λ w. cond (is_test op) 1 w) (sym f.has.width)) (fold-Binary _ _ (checked_kind known) checked_level p op x y) (fold-Binary _ _ _ _ p op x y)
-        (record {
+        let l = first_split (width x).asked _ u in
+        let r = first_split (width y).asked _ l.1 in
+        let f = h b.0 l.0 in
+        let g = k b.1 r.0 in
+        let same : is_shift op ≡ false → (value x).width ≡ (value y).width = λ e. f.has.width ∙ eqb-true _ _ (or_left (is_shift op) _ (answer_unbroken _ _ _ r.1).0 e) ∙ sym g.has.width in
+        record {
           there = two (checked_binary op) (there x) (there y) (value x) (value y) f.there g.there
               ∙ so_there _ _ (one_passes (is_shift op) ((value x).width == (value y).width) (λ e. eq-eqb _ _ (same e)));
-          has = binary_width op (value x) (value y) f.has.word g.has.word same;
+          has = subst (λ w. HasWidth (cond (is_test op) 1 w) (operators.binary_of op (value x) (value y))) f.has.width (binary_width op (value x) (value y) f.has.word g.has.word same);
         });
-    mux = λ p t x y g h k a u.
-        let c = mux_parts ds done s p t x y u in
+    mux = λ p t x y g h k a. by_level _ _ _ _ _ _ (width-Mux ds done s p t x y) (fold-Mux _ _ (checked_kind known) checked_level p t x y) (fold-Mux _ _ _ _ p t x y) (λ u.
         let b = none_of_three (asked t) (asked x) (asked y) (sym (fold-Mux _ _ (name_kind ask) name_level p t x y) ∙ a) in
-        let ft = g b.0 c.chooses in
-        let fx = h b.1 c.left in
-        let fy = k b.2 c.right in
-        by_all _ _ _ _ _ _ c.value (fold-Mux _ _ (checked_kind known) checked_level p t x y) (fold-Mux _ _ _ _ p t x y)
-        (record {
+        let ut = first_split (width t).asked _ u in
+        let ux = first_split (width x).asked _ ut.1 in
+        let uy = first_split (width y).asked _ ux.1 in
+        let one = answer_unbroken _ _ _ uy.1 in
+        let same : (width x).value ≡ (width y).value = eqb-true _ _ (answer_unbroken _ _ _ one.1).0 in
+        let ft = g b.0 ut.0 in
+        let fx = h b.1 ux.0 in
+        let fy = k b.2 uy.0 in
+        record {
           there = ap (λ o. option_and_then (λ v. option_and_then (λ w. option_and_then (checked_mux v w) (there y)) (there x)) o) ft.there
               ∙ two (checked_mux (value t)) (there x) (there y) (value x) (value y) fx.there fy.there
-              ∙ so_there _ _ (and_from _ _ (eq-eqb _ _ (ft.has.width ∙ c.one_bit)) (eq-eqb _ _ (fx.has.width ∙ c.same ∙ sym fy.has.width)));
-          has = cond_both ((value t).value == 1) (value x) (value y) (HasWidth (width x).value) (λ _. fx.has) (λ _. subst (λ w. HasWidth w (value y)) (sym c.same) fy.has);
+              ∙ so_there _ _ (and_from _ _ (eq-eqb _ _ (ft.has.width ∙ eqb-true _ _ one.0)) (eq-eqb _ _ (fx.has.width ∙ same ∙ sym fy.has.width)));
+          has = cond_both ((value t).value == 1) (value x) (value y) (HasWidth (width x).value) (λ _. fx.has) (λ _. subst (λ w. HasWidth w (value y)) (sym same) fy.has);
         });
-    concat = λ p es hs a u.
-        let c = concat_parts ds done s p es u in
+    concat = λ p es hs a. by_level _ _ _ _ _ _ (width-Concat ds done s p es) (fold-Concat _ _ (checked_kind known) checked_level p es) (fold-Concat _ _ _ _ p es) (λ u.
         let b : first (map asked es) ≡ None = sym (fold-Concat _ _ (name_kind ask) name_level p es) ∙ a in
-        let f = concat_found es hs b c.parts c.positive c.at_most in
-        by_all _ _ _ _ _ _ c.value (fold-Concat _ _ (checked_kind known) checked_level p es) (fold-Concat _ _ _ _ p es)
-        (record { there = ap (option_and_then checked_joined) (all_found 0 es hs b c.parts) ∙ f.there; has = f.has });
-    slice = λ p x hi lo h a u.
-        let c = slice_parts ds done s p x hi lo u in
-        let f = h (sym (fold-Slice _ _ (name_kind ask) name_level p x hi lo) ∙ a) c.part in
-        let o = c.ordered in
-        let i : hi < (value x).width = rw f.has.width c.inside in
-        by_all _ _ _ _ _ _ c.value (fold-Slice _ _ (checked_kind known) checked_level p x hi lo) (fold-Slice _ _ _ _ p x hi lo)
-        (record {
-          there = ap (option_and_then (checked_slice hi lo)) f.there ∙ so_there _ _ (and_from _ _ (le-leb _ _ o) (lt-ltb _ _ i));
+        let parts = first_split (sum_of 0 (map part es)).asked _ u in
+        let w = width_bounds _ (answer_unbroken _ _ _ parts.1).0 in
+        let f = concat_found es hs b parts.0 w.0 w.1 in
+        record { there = ap (option_and_then checked_joined) (all_found 0 es hs b parts.0) ∙ f.there; has = f.has });
+    slice = λ p x hi lo h a. by_level _ _ _ _ _ _ (width-Slice ds done s p x hi lo) (fold-Slice _ _ (checked_kind known) checked_level p x hi lo) (fold-Slice _ _ _ _ p x hi lo) (λ u.
+        let part = first_split (width x).asked _ u in
+        let t = and_parts _ _ (answer_unbroken _ _ _ part.1).0 in
+        let f = h (sym (fold-Slice _ _ (name_kind ask) name_level p x hi lo) ∙ a) part.0 in
+        let o : lo ≤ hi = leb-true _ _ t.0 in
+        let i : hi < (value x).width = rw f.has.width (ltb-true _ _ t.1) in
+        record {
+          there = ap (option_and_then (checked_slice hi lo)) f.there ∙ so_there _ _ (and_from _ _ t.0 (lt-ltb _ _ i));
           has = record { word = slice_word (value x) hi lo f.has.word o i; width = omega arith };
         });
-    zext = λ p x n h a u.
-        let c = zext_parts ds done s p x n u in
-        let f = h (sym (fold-Zext _ _ (name_kind ask) name_level p x n) ∙ a) c.part in
-        let w : (value x).width ≤ n.value = rw f.has.width c.wider in
-        by_all _ _ _ _ _ _ c.value (fold-Zext _ _ (checked_kind known) checked_level p x n) (fold-Zext _ _ _ _ p x n)
-        (record {
-          there = ap (option_and_then (checked_zext n.value)) f.there ∙ so_there _ _ (and_from _ _ (le-leb _ _ w) (le-leb _ _ c.at_most));
-          has = record { word = zext_word (value x) n.value f.has.word w c.at_most; width = refl };
-        });
-    sext = λ p x n h a u.
-        let c = sext_parts ds done s p x n u in
-        let f = h (sym (fold-Sext _ _ (name_kind ask) name_level p x n) ∙ a) c.part in
-        let w : (value x).width ≤ n.value = rw f.has.width c.wider in
-        by_all _ _ _ _ _ _ c.value (fold-Sext _ _ (checked_kind known) checked_level p x n) (fold-Sext _ _ _ _ p x n)
-        (record {
-          there = ap (option_and_then (checked_sext n.value)) f.there ∙ so_there _ _ (and_from _ _ (le-leb _ _ w) (le-leb _ _ c.at_most));
-          has = record { word = sext_word (value x) n.value f.has.word w c.at_most; width = refl };
-        });
-    call = λ p q es hs a u.
-        let c = call_parts ds done s p q es u in
+    zext = λ p x n h a. by_level _ _ _ _ _ _ (width-Zext ds done s p x n) (fold-Zext _ _ (checked_kind known) checked_level p x n) (fold-Zext _ _ _ _ p x n) (λ u.
+        let part = first_split (width x).asked _ u in
+        let f = h (sym (fold-Zext _ _ (name_kind ask) name_level p x n) ∙ a) part.0 in
+        let w = wider _ _ _ n p f part.1 in
+        record { there = ap (option_and_then (checked_zext n.value)) f.there ∙ so_there _ _ w.0; has = record { word = zext_word (value x) n.value f.has.word w.1 w.2; width = refl } });
+    sext = λ p x n h a. by_level _ _ _ _ _ _ (width-Sext ds done s p x n) (fold-Sext _ _ (checked_kind known) checked_level p x n) (fold-Sext _ _ _ _ p x n) (λ u.
+        let part = first_split (width x).asked _ u in
+        let f = h (sym (fold-Sext _ _ (name_kind ask) name_level p x n) ∙ a) part.0 in
+        let w = wider _ _ _ n p f part.1 in
+        record { there = ap (option_and_then (checked_sext n.value)) f.there ∙ so_there _ _ w.0; has = record { word = sext_word (value x) n.value f.has.word w.1 w.2; width = refl } });
+    call = λ p q es hs a. by_level _ _ _ _ _ _ (width-Call ds done s p q es) (fold-Call _ _ (checked_kind known) checked_level p q es) (fold-Call _ _ _ _ p q es) (λ u.
         let b : first (map asked es) ≡ None = sym (fold-Call _ _ (name_kind ask) name_level p q es) ∙ a in
-        let args = arguments_found (params_of ds c.sense.from) 0 es hs b c.arguments in
-        let f = meets.calls q c.sense c.found c.kind_fits (map value es) (record { count = length-map es value ∙ c.count; fit = args.0 }) in
-        by_all _ _ _ _ _ _ c.value (fold-Call _ _ (checked_kind known) checked_level p q es) (fold-Call _ _ _ _ p q es)
-        (record { there = ap (option_and_then (known.calls q)) args.1 ∙ f.there; has = f.has });
+        let m = (used s is_callee q p).value in
+        let head = bind_unbroken (called_of ds done s q (length (map part es)) p) (λ m. arguments_of (params_of ds m.from) 0 (map part es) >>= (λ x. ok m.width)) u in
+        let name = bind_unbroken (callee_of ds done s q p) (λ m. wants (length (map part es) == length (params_of ds m.from)) (e_rule 7 p) (ok m)) head.0 in
+        let n = used_parts is_callee p (find s q) (answer_unbroken (is_some (find s q) || not (is_declared (drop done ds) q)) (e_rule 26 p) (used s is_callee q p).asked name.0).1 in
+        let count : length (map part es) ≡ length (params_of ds m.from) = eqb-true _ _ (answer_unbroken _ _ _ name.1).0 in
+        let args = arguments_found (params_of ds m.from) 0 es hs b (first_split (arguments_of (params_of ds m.from) 0 (map part es)).asked _ head.1).0 in
+        let f = meets.calls q m n.0 n.1 (map value es) (record { count = length-map es value ∙ sym (length-map es part) ∙ count; fit = args.0 }) in
+        record { there = ap (option_and_then (known.calls q)) args.1 ∙ f.there; has = f.has });
   })
 
 -- if each name and each call has a word of its width, so has an expression that violates no rule

@@ -13,7 +13,7 @@ use Rattle.kp_width.specs.Names.{is_value_in, Scoped, used}
 abbrev pub Unbroken : {X : Type 0} → Check X → Type 0
 Unbroken c = first c.asked ≡ None
 
-first_split : {X : Type 0} (xs ys : List (Option X)) → first (xs ++ ys) ≡ None → (first xs ≡ None) × (first ys ≡ None)
+pub first_split : {X : Type 0} (xs ys : List (Option X)) → first (xs ++ ys) ≡ None → (first xs ≡ None) × (first ys ≡ None)
 first_split [] ys e = (refl, e)
 first_split (None ∷ xs) ys e = first_split xs ys e
 first_split (Some x ∷ xs) ys e = cc

@@ -5,7 +5,7 @@ ghost use Rattle.kp_base.specs.Check.{Gives};
 ghost use Rattle.kp_width.specs.Names.{find, fresh, passed, look_up, sense, declared_text};
 ghost use Rattle.kp_width.specs.Declarations.{declared, started_of, start_of, addresses_of, storage_of, address_width, pipe_of, target_of, result_of, width_or_zero, function_opened, parameters_of, function_of, name_of, after_name, declaration_of, functions_in, declarations_of};
 
-use crate::expressions::{is_in_range, literal_width, value};
+use crate::expressions::{expect, is_in_range, literal_width};
 use crate::names::{Meaning, Names, Position};
 use kp_ast::{Decl, FuncDecl, Lit, NameKind, Named, Num, Param, ResultDecl, Scope};
 use kp_base::{NoMemory, Refusal, Refused};
@@ -224,7 +224,7 @@ fn add_func(
     open_func(names, functions, func)?;
     add_params(names, i, func.params.as_slice())?;
     let width = declared_width(func.width)?;
-    value(decls, i, names, &func.body, u64::from(width))?;
+    expect(decls, i, names, &func.body, u64::from(width), 10)?;
     let meaning = Meaning {
         kind: NameKind::Func,
         width,

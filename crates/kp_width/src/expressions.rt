@@ -1,6 +1,7 @@
 // The widths of expressions, and their checks.
 ghost use Rattle.std.specs.Prelude.{◌≡◌, ◌<◌, ◌+◌, ◌-◌, ◌≤◌, Ok, map, drop, length, slice_get, min};
-ghost use Rattle.kp_width.specs.Expressions.{literal_of, is_test, is_width, binary_of, choice_of, slice_of, extension_of, sum_of, concatenation_of, is_declared, params_of, width_at, arguments_of, callee_of, called_of, part_of, width_of, value_of, condition_of};
+ghost use Rattle.kp_width.specs.Expressions.{literal_of, is_test, is_width, binary_of, choice_of, slice_of, extension_of, sum_of, concatenation_of, is_declared, params_of, width_at, arguments_of, called_of, part_of, width_of};
+ghost use Rattle.kp_width.specs.inner.Positions.{expected};
 
 use crate::names::{Meaning, Names, Position};
 use kp_ast::{Decl, Expr, ExprKind, Name, Num, Param};
@@ -96,32 +97,21 @@ fn check_args(
     Ok(())
 }
 
-// Checks an expression of this required width.
-pub(crate) fn value(
+// Checks that an expression has this width; another one violates the rule with this number.
+pub(crate) fn expect(
     decls: &[Decl],
     done: usize,
     names: &Names,
     e: &Expr,
     w: u64,
+    rule: u8,
 ) -> Result<(), Refusal>
     requires { done ≤ length decls.now }
-    ensures { result ≡ (value_of (part_of decls.now done names.now e.now) w).found }
+    ensures { result ≡ (expected (part_of decls.now done names.now e.now) w rule).found }
 {
     let x = width(decls, done, names, e)?;
     if u64::from(x) != w {
-        return Err(Refusal::e(10, e.place));
-    }
-    Ok(())
-}
-
-// Checks an expression that must be one bit wide.
-pub(crate) fn condition(decls: &[Decl], done: usize, names: &Names, e: &Expr) -> Result<(), Refusal>
-    requires { done ≤ length decls.now }
-    ensures { result ≡ (condition_of (part_of decls.now done names.now e.now)).found }
-{
-    let x = width(decls, done, names, e)?;
-    if x != 1 {
-        return Err(Refusal::e(11, e.place));
+        return Err(Refusal::e(rule, e.place));
     }
     Ok(())
 }
@@ -199,23 +189,7 @@ pub(crate) fn is_in_range(w: u64) -> bool
     1 <= w && w <= 64
 }
 
-fn callee(
-    decls: &[Decl],
-    done: usize,
-    names: &Names,
-    name: &Name,
-    at: Place,
-) -> Result<Meaning, Refusal>
-    requires { done ≤ length decls.now }
-    ensures { result ≡ (callee_of decls.now done names.now name.now at).found }
-{
-    if names.find(name).is_none() && is_declared(&decls[done..], name) {
-        return Err(Refusal::e(26, at));
-    }
-    names.used(Position::Callee, name, at)
-}
-
-// The function that is called, if it has this many parameters.
+// The function that is called, if it is declared before the call and has this many parameters.
 fn called(
     decls: &[Decl],
     done: usize,
@@ -227,7 +201,10 @@ fn called(
     requires { done ≤ length decls.now }
     ensures { result ≡ (called_of decls.now done names.now name.now count at).found }
 {
-    let meaning = callee(decls, done, names, name, at)?;
+    if names.find(name).is_none() && is_declared(&decls[done..], name) {
+        return Err(Refusal::e(26, at));
+    }
+    let meaning = names.used(Position::Callee, name, at)?;
     if count != params(decls, meaning.from).len() {
         return Err(Refusal::e(7, at));
     }

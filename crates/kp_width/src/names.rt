@@ -1,6 +1,6 @@
 // The names in scope, in tables with lookup in about constant time.
 ghost use Rattle.std.specs.Prelude.{◌≡◌, ◌++◌, ◌∷◌, [], None, OnOk, MatchOption, ⊤};
-ghost use Rattle.kp_width.specs.Names.{look_up, find, nothing, opened, with_entry, with_text, with_local, declared_text, declared_local, used};
+ghost use Rattle.kp_width.specs.Names.{look_up, find, is_value_in, nothing, opened, with_entry, with_text, with_local, declared_text, declared_local, used};
 ghost use Rattle.kp_width.specs.inner.Positions.{takes};
 
 use indexmap::IndexMap;
@@ -220,20 +220,26 @@ impl Names {
 fn fits(here: Scope, position: Position, kind: NameKind) -> bool
     ensures { result ≡ takes position here kind }
 {
-    match (position, kind) {
-        (Position::Value, _) => match here {
-            Scope::Function(_) => matches!(kind, NameKind::Param),
-            Scope::Text | Scope::Stage(_) => matches!(
-                kind,
-                NameKind::Pipe | NameKind::Hint | NameKind::Sample | NameKind::Read | NameKind::Let
-            ),
-        },
-        (Position::Register, NameKind::Reg)
-        | (Position::File, NameKind::File(_))
-        | (Position::Pipe, NameKind::Pipe)
-        | (Position::Result, NameKind::Target)
-        | (Position::Hint, NameKind::Hint)
-        | (Position::Callee, NameKind::Func) => true,
-        _ => false,
+    match position {
+        Position::Value => is_value_in(here, kind),
+        Position::Register => matches!(kind, NameKind::Reg),
+        Position::File => matches!(kind, NameKind::File(_)),
+        Position::Pipe => matches!(kind, NameKind::Pipe),
+        Position::Result => matches!(kind, NameKind::Target),
+        Position::Hint => matches!(kind, NameKind::Hint),
+        Position::Callee => matches!(kind, NameKind::Func),
+    }
+}
+
+// Whether an expression in this scope may use the value of a name.
+fn is_value_in(here: Scope, kind: NameKind) -> bool
+    ensures { result ≡ is_value_in here kind }
+{
+    match here {
+        Scope::Function(_) => matches!(kind, NameKind::Param),
+        Scope::Text | Scope::Stage(_) => matches!(
+            kind,
+            NameKind::Pipe | NameKind::Hint | NameKind::Sample | NameKind::Read | NameKind::Let
+        ),
     }
 }

@@ -4,11 +4,10 @@ ghost use Rattle.kp_base.specs.declared.refusal.Refused.TheVariants as refused;
 ghost use Rattle.kp_base.specs.Check.{Gives};
 ghost use Rattle.kp_width.specs.Names.{find, sense, declared_local};
 ghost use Rattle.kp_width.specs.inner.Positions.{takes};
-ghost use Rattle.kp_width.specs.Expressions.{part_of};
-ghost use Rattle.kp_width.specs.Statements.{when_of, address_of, read_of, given, statement_of, statements_of, blocks_of};
+ghost use Rattle.kp_width.specs.Statements.{when_of, read_of, given, statement_of, statements_of, blocks_of};
 
 use crate::declarations::{address_width, check_fresh, storage};
-use crate::expressions::{condition, value, width};
+use crate::expressions::{expect, width};
 use crate::names::{Meaning, Names, Position};
 use kp_ast::{Block, Decl, Expr, NameKind, Named, ReadStmt, Scope, Stmt, StmtKind};
 use kp_base::{Refusal, Refused};
@@ -88,25 +87,16 @@ fn check_given(
     ensures { result ≡ (given decls.now names.now (takes position names.now.here) named.now e.now).found }
 {
     let meaning = names.used(position, &named.name, named.at)?;
-    value(decls, decls.len(), names, e, u64::from(meaning.width))
+    expect(decls, decls.len(), names, e, u64::from(meaning.width), 10)
 }
 
 fn check_condition(names: &Names, decls: &[Decl], when: &Option<Expr>) -> Result<(), Refusal>
     ensures { result ≡ (when_of decls.now names.now when.now).found }
 {
     match when {
-        Some(e) => condition(decls, decls.len(), names, e),
+        Some(e) => expect(decls, decls.len(), names, e, 1, 11),
         None => Ok(()),
     }
-}
-
-fn check_address(names: &Names, decls: &[Decl], e: &Expr, w: u8) -> Result<(), Refusal>
-    ensures { result ≡ (address_of (part_of decls.now (length decls.now) names.now e.now) w).found }
-{
-    if width(decls, decls.len(), names, e)? != w {
-        return Err(Refusal::e(14, e.place));
-    }
-    Ok(())
 }
 
 // The width of the name that a read binds.
@@ -115,11 +105,12 @@ fn read_width(names: &Names, decls: &[Decl], read: &ReadStmt) -> Result<u8, Refu
 {
     let target = storage(names, &read.target, read.address.is_some())?;
     if let Some(e) = &read.address {
-        check_address(names, decls, e, address_width(target.kind))?;
+        let width = u64::from(address_width(target.kind));
+        expect(decls, decls.len(), names, e, width, 14)?;
     }
     check_condition(names, decls, &read.when)?;
     if let Some(e) = &read.guess {
-        value(decls, decls.len(), names, e, u64::from(target.width))?;
+        expect(decls, decls.len(), names, e, u64::from(target.width), 10)?;
     }
     Ok(target.width)
 }
