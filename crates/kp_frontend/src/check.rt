@@ -1,14 +1,14 @@
 // Rules of the sections.
-ghost use Rattle.std.specs.Prelude.{◌≡◌, MatchResult, Some, None};
+ghost use Rattle.std.specs.Prelude.{◌≡◌, [], MatchResult, Some, None, unwrap_or};
 ghost use Rattle.std.specs.List.{All};
 ghost use Rattle.kp_base.specs.First.{first};
 ghost use Rattle.kp_width.specs.Declarations.{start_of};
 ghost use Rattle.kp_frontend.specs.inner.Fits.{HasFewWords};
-ghost use Rattle.kp_stage.specs.Start.{first_address, image_of, stalls_of, inputs_of};
-ghost use Rattle.kp_frontend.specs.Sections.{storage_in, storage_named, storage_of, suits, target_of, address_of, values_of, given_of, entry_of, entries_of, step_of, stall_of, stalls_checked, sample_of, input_of, inputs_checked, sections_of};
+ghost use Rattle.kp_stage.specs.Start.{first_address};
+ghost use Rattle.kp_frontend.specs.Sections.{storage_in, storage_named, storage_of, suits, target_of, address_of, values_of, entry_of, entries_of, step_of, stall_of, stalls_checked, sample_of, input_of, inputs_checked, sections_of};
 
 use kp_ast::{Decl, Image, Inputs, Job, Lit, Name, Num, Stalls};
-use kp_base::Refusal;
+use kp_base::{List, Refusal};
 use kp_bits::LiteralFault;
 use std::marker::Model;
 
@@ -45,36 +45,16 @@ fn by_steps(job: &Job) -> Result<(), Refusal>
     requires { All HasFewWords job.now.decls }
     ensures { result ≡ (sections_of job.now).found }
 {
-    check_entries(job.decls.as_slice(), image(job))?;
-    check_stalls(job.stages.value, stalls(job))?;
-    check_inputs(job.decls.as_slice(), inputs(job))
+    check_entries(job.decls.as_slice(), entries(&job.image))?;
+    check_stalls(job.stages.value, entries(&job.stalls))?;
+    check_inputs(job.decls.as_slice(), entries(&job.inputs))
 }
 
-// The entries of the image section.
-pub(crate) fn image(job: &Job) -> &[Image]
-    ensures { result.now ≡ image_of job.now }
+// The entries of a section: none if the job doesn't have it.
+pub(crate) fn entries<T>(section: &Option<List<T>>) -> &[T]
+    ensures { result.now ≡ unwrap_or section.now [] }
 {
-    match &job.image {
-        Some(entries) => entries.as_slice(),
-        None => &[],
-    }
-}
-
-// The entries of the stalls section.
-pub(crate) fn stalls(job: &Job) -> &[Stalls]
-    ensures { result.now ≡ stalls_of job.now }
-{
-    match &job.stalls {
-        Some(entries) => entries.as_slice(),
-        None => &[],
-    }
-}
-
-// The entries of the inputs section.
-pub(crate) fn inputs(job: &Job) -> &[Inputs]
-    ensures { result.now ≡ inputs_of job.now }
-{
-    match &job.inputs {
+    match section {
         Some(entries) => entries.as_slice(),
         None => &[],
     }
@@ -106,7 +86,13 @@ fn check_entry(decls: &[Decl], e: &Image) -> Result<(), Refusal>
     ensures { result ≡ (entry_of decls.now e.now).found }
 {
     let storage = target(e, find_storage(decls, &e.name.name))?;
-    check_given(e, storage)
+    check_address(storage.words, e.address)?;
+    check_values(
+        storage.width,
+        storage.words,
+        first_address(e),
+        e.values.as_slice(),
+    )
 }
 
 // The register, file or sample with this name.
@@ -158,18 +144,6 @@ fn target(e: &Image, storage: Option<Storage>) -> Result<Storage, Refusal>
         ),
         _ => Err(Refusal::e(30, e.name.at)),
     }
-}
-
-fn check_given(e: &Image, storage: Storage) -> Result<(), Refusal>
-    ensures { result ≡ (given_of e.now storage).found }
-{
-    check_address(storage.words, e.address)?;
-    check_values(
-        storage.width,
-        storage.words,
-        first_address(e),
-        e.values.as_slice(),
-    )
 }
 
 fn check_address(words: u64, address: Option<Num>) -> Result<(), Refusal>

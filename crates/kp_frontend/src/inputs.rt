@@ -129,22 +129,15 @@ fn feed_for(alloc: Global, entries: &[Inputs], name: &Name, width: u64) -> Resul
     ensures width { IfOk result (λ f. f.width ≡ width) }
     ensures givens { IfOk result (λ f. f.givens ≡ givens_of entries.now name.now) }
 {
-    let givens = givens(alloc, entries, name, width)?;
+    let givens = givens(alloc, entries, name)?;
     Ok(Feed {
         width: width as u8,
         givens,
     })
 }
 
-fn givens(
-    alloc: Global,
-    entries: &[Inputs],
-    name: &Name,
-    width: u64,
-) -> Result<Vec<Given>, NoMemory>
-    requires { All (FitsSample name.now width) entries.now }
-    ensures givens { IfOk result (λ all. all.items ≡ givens_of entries.now name.now) }
-    ensures fits { IfOk result (λ all. All (FitsFeed width) all.items) }
+fn givens(alloc: Global, entries: &[Inputs], name: &Name) -> Result<Vec<Given>, NoMemory>
+    ensures { IfOk result (λ all. all.items ≡ givens_of entries.now name.now) }
 {
     let mut all = Vec::new(alloc);
     for e in entries {

@@ -5,7 +5,7 @@ ghost use Rattle.kp_base.specs.First.{Answers, first};
 ghost use Rattle.kp_stage.specs.Start.{start_of, image_of, stalls_of, stall_word, inputs_of, input, IsStartOf, AreSamples};
 ghost use Rattle.kp_frontend.specs.{Sections.sections_of, Sections.stalls_checked, inner.Fits.StartFits, Spans.word_in, Feeds.row_in, inner.Kept.InputsFit};
 
-use crate::check::{check, inputs, stalls};
+use crate::check::{check, entries};
 use crate::inputs::InputPattern;
 use crate::stalls::StallPattern;
 use crate::state::start_state;
@@ -59,8 +59,8 @@ fn read_sections(alloc: Global, job: &Job) -> Result<Sections, NoMemory>
     ensures inputs { IfOk result (λ s. row_in s.inputs ≡ input job.now) }
 {
     let start = start_state(alloc, job)?;
-    let stalls = StallPattern::of(alloc, job.stages.value, stalls(job))?;
-    let inputs = InputPattern::of(alloc, inputs(job), job.decls.as_slice())?;
+    let stalls = StallPattern::of(alloc, job.stages.value, entries(&job.stalls))?;
+    let inputs = InputPattern::of(alloc, entries(&job.inputs), job.decls.as_slice())?;
     Ok(Sections {
         start,
         stalls,

@@ -86,8 +86,7 @@ impl StallPattern {
 fn spans(alloc: Global, stages: u64, entries: &[Stalls]) -> Result<Vec<Span>, NoMemory>
     requires few { stages ≤ 12 }
     requires right { first (stalls_checked stages entries.now).asked ≡ None }
-    ensures spans { IfOk result (λ spans. spans.items ≡ map span_of entries.now) }
-    ensures right { IfOk result (λ spans. All IsSpan spans.items) }
+    ensures { IfOk result (λ spans. spans.items ≡ map span_of entries.now) }
 {
     let mut spans = Vec::new(alloc);
     for e in entries {
@@ -99,8 +98,7 @@ fn spans(alloc: Global, stages: u64, entries: &[Stalls]) -> Result<Vec<Span>, No
 fn span_for(stages: u64, e: &Stalls) -> Span
     requires few { stages ≤ 12 }
     requires right { first (stall_of stages e.now).asked ≡ None }
-    ensures span { result ≡ span_of e.now }
-    ensures right { IsSpan result }
+    ensures { result ≡ span_of e.now }
 {
     Span {
         stage: e.stage.value as u8,

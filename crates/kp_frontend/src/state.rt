@@ -5,7 +5,7 @@ ghost use Rattle.kp_bits.specs.Word.{IsWord, word};
 ghost use Rattle.kp_stage.specs.Start.{given_by, laid_over, start_regs, words_from, start_files, start_of, image_of};
 ghost use Rattle.kp_frontend.specs.inner.{Fits.EndsWithin, Fits.StartFits, Laid.laid_from};
 
-use crate::check::{first_address, image};
+use crate::check::{entries, first_address};
 use kp_ast::{Decl, Image, Job, Lit, Name};
 use kp_base::{List, NoMemory};
 use kp_bits::Bits;
@@ -18,7 +18,7 @@ pub(crate) fn start_state(alloc: Global, job: &Job) -> Result<Start, NoMemory>
     requires { All (StartFits (image_of job.now)) job.now.decls }
     ensures { IfOk result (λ s. s ≡ start_of job.now) }
 {
-    let entries = image(job);
+    let entries = entries(&job.image);
     let decls = job.decls.as_slice();
     let regs = registers(alloc, entries, decls)?;
     let files = files(alloc, entries, decls)?;
@@ -67,10 +67,12 @@ fn register_value(entries: &[Image], name: &Name, start: u64) -> u64
 fn given_first(e: &Image, name: &Name) -> Option<u64>
     ensures { result ≡ given_by e.now name.now 0 }
 {
-    if e.name.name == *name && first_address(e) == 0 {
-        e.values.as_slice().first().map(|lit| lit.literal.value)
-    } else {
-        None
+    if e.name.name != *name || first_address(e) != 0 {
+        return None;
+    }
+    match e.values.as_slice().first() {
+        Some(lit) => Some(lit.literal.value),
+        None => None,
     }
 }
 

@@ -1,6 +1,6 @@
-use Rattle.std.{proofs.Common.◌≡◌, proofs.Common.◌++◌, proofs.Common.drop, specs.List.All}
-use Rattle.kp_frontend.specs.{Feeds.FitsFeed, inner.Kept.givens_of}
+use Rattle.std.proofs.Common.{◌≡◌, ◌++◌, drop}
+use Rattle.kp_frontend.specs.inner.Kept.{givens_of}
 use Rattle.kp_frontend.proofs.inputs.givens.Given as goal
 
 abbrev pub invariant-loop-e : goal.invariant-loop-e
-invariant-loop-e l = (l.all.items ++ givens_of (drop l.e-index l.entries) l.name ≡ givens_of l.entries l.name) × All (FitsFeed l.width) l.all.items
+invariant-loop-e l = l.all.items ++ givens_of (drop l.e-index l.entries) l.name ≡ givens_of l.entries l.name
