@@ -7,12 +7,13 @@ ghost use Rattle.kp_parse_grammar.specs.inner.Follow.{decl_words};
 ghost use Rattle.kp_parse_grammar.specs.Language.{decls, decl as decl_value, param as param_value, params as params_value, perhaps_named, number as number_value, literal as literal_value, expr as expr_value, DECLS, DECL, INDEX, ENABLE, PAR, PARS};
 ghost use Rattle.kp_parse_grammar.specs.Reading.{class_at, Turns, Ends};
 ghost use Rattle.kp_parse_grammar.specs.inner.Stretch.{TurnsAll, EndsAll};
-ghost use Rattle.kp_parse.specs.inner.Stretches.{bracket_symbols, signature_symbols, definition_symbols, start_symbols, stage_symbols};
+ghost use Rattle.kp_parse.specs.inner.Stretches.{signature_symbols, definition_symbols, start_symbols, setting_symbols};
 
-use crate::pair::with;
+use crate::pair::{expression_before, name_before, number_before, present};
 use kp_ast::{Decl, Expr, FuncDecl, Lit, Named, Num, Param, ResultDecl};
 use kp_base::List;
-use kp_parse_grammar::{Fault, Keyword, Mark, TokenKind, Tokens, whole_expression};
+use kp_parse_grammar::{Keyword, Mark, TokenKind};
+use kp_parse_grammar::{Fault, Tokens};
 use std::alloc::Global;
 
 /// All declarations from this token on, and the number of the next token. Each consumes at least one token.
@@ -89,19 +90,10 @@ fn file(alloc: Global, tokens: &Tokens<'_>, at: usize) -> Result<(Decl, usize), 
 {
     let (_file, next) = tokens.taken(at);
     let (typed, next) = parameter(alloc, tokens, next)?;
-    let (address, next) = bracketed(tokens, next)?;
+    let (_open, next) = tokens.mark(Mark::OpenBracket, next)?;
+    let (address, next) = number_before(tokens, Mark::CloseBracket, next)?;
     let (_end, next) = tokens.mark(Mark::Semicolon, next)?;
     Ok((Decl::File(typed.name, typed.width, address), next))
-}
-
-/// `[number]`, and the number of the next token.
-pub(crate) fn bracketed(tokens: &Tokens<'_>, at: usize) -> Result<(Num, usize), Fault>
-    ensures { MatchResult result (λ x. TurnsAll tokens.now bracket_symbols (number_value x.0 ∷ []) at x.1 1) (EndsAll tokens.now bracket_symbols at) }
-{
-    let (_open, next) = tokens.mark(Mark::OpenBracket, at)?;
-    let (number, next) = tokens.number(next)?;
-    let (_close, next) = tokens.mark(Mark::CloseBracket, next)?;
-    Ok((number, next))
 }
 
 // `pipe name : width;`
@@ -126,7 +118,7 @@ fn target(alloc: Global, tokens: &Tokens<'_>, at: usize) -> Result<(Decl, usize)
     let (target, next) = tokens.name(alloc, next)?;
     let (address, next) = index(alloc, tokens, next)?;
     let (enable, next) = enable(alloc, tokens, next)?;
-    let (stage, next) = stage(tokens, next)?;
+    let (stage, next) = setting(tokens, Keyword::At, next)?;
     let result = ResultDecl {
         name: typed.name,
         width: typed.width,
@@ -141,22 +133,19 @@ fn target(alloc: Global, tokens: &Tokens<'_>, at: usize) -> Result<(Decl, usize)
 fn index(alloc: Global, tokens: &Tokens<'_>, at: usize) -> Result<(Option<Named>, usize), Fault>
     ensures { MatchResult result (λ x. Turns tokens.now (Nonterminal INDEX) [] (perhaps_named x.0 ∷ []) at x.1 0) (Ends tokens.now (Nonterminal INDEX) [] at) }
 {
-    let Some((_open, next)) = tokens.next_mark(Mark::OpenBracket, at) else {
-        return Ok((None, at));
-    };
-    let (name, next) = tokens.name(alloc, next)?;
-    let (_close, next) = tokens.mark(Mark::CloseBracket, next)?;
-    Ok((Some(name), next))
+    match tokens.next_mark(Mark::OpenBracket, at) {
+        Some((_open, next)) => present(name_before(alloc, tokens, Mark::CloseBracket, next)),
+        None => Ok((None, at)),
+    }
 }
 
 fn enable(alloc: Global, tokens: &Tokens<'_>, at: usize) -> Result<(Option<Named>, usize), Fault>
     ensures { MatchResult result (λ x. Turns tokens.now (Nonterminal ENABLE) [] (perhaps_named x.0 ∷ []) at x.1 0) (Ends tokens.now (Nonterminal ENABLE) [] at) }
 {
-    let Some((_when, next)) = tokens.next_keyword(Keyword::When, at) else {
-        return Ok((None, at));
-    };
-    let (name, next) = tokens.name(alloc, next)?;
-    Ok((Some(name), next))
+    match tokens.next_keyword(Keyword::When, at) {
+        Some((_when, next)) => present(tokens.name(alloc, next)),
+        None => Ok((None, at)),
+    }
 }
 
 // `hint name : width = start;`
@@ -177,7 +166,7 @@ fn sample(alloc: Global, tokens: &Tokens<'_>, at: usize) -> Result<(Decl, usize)
 {
     let (_sample, next) = tokens.taken(at);
     let (typed, next) = parameter(alloc, tokens, next)?;
-    let (stage, next) = stage(tokens, next)?;
+    let (stage, next) = setting(tokens, Keyword::At, next)?;
     Ok((Decl::Sample(typed.name, typed.width, stage), next))
 }
 
@@ -191,14 +180,16 @@ fn start(tokens: &Tokens<'_>, at: usize) -> Result<(Lit, usize), Fault>
     Ok((start, next))
 }
 
-// `at stage;`
-fn stage(tokens: &Tokens<'_>, at: usize) -> Result<(Num, usize), Fault>
-    ensures { MatchResult result (λ x. TurnsAll tokens.now stage_symbols (number_value x.0 ∷ []) at x.1 1) (EndsAll tokens.now stage_symbols at) }
+/// `keyword number;`, and the number of the next token.
+pub(crate) fn setting(
+    tokens: &Tokens<'_>,
+    keyword: Keyword,
+    at: usize,
+) -> Result<(Num, usize), Fault>
+    ensures { MatchResult result (λ x. TurnsAll tokens.now (setting_symbols keyword) (number_value x.0 ∷ []) at x.1 1) (EndsAll tokens.now (setting_symbols keyword) at) }
 {
-    let (_at, next) = tokens.keyword(Keyword::At, at)?;
-    let (stage, next) = tokens.number(next)?;
-    let (_end, next) = tokens.mark(Mark::Semicolon, next)?;
-    Ok((stage, next))
+    let (_word, next) = tokens.keyword(keyword, at)?;
+    number_before(tokens, Mark::Semicolon, next)
 }
 
 // `fn name(params) : width = body;`
@@ -241,12 +232,9 @@ fn definition(alloc: Global, tokens: &Tokens<'_>, at: usize) -> Result<(Num, Exp
     ensures { MatchResult result (λ x. TurnsAll tokens.now definition_symbols (expr_value x.1 ∷ number_value x.0 ∷ []) at x.2 1) (EndsAll tokens.now definition_symbols at) }
 {
     let (_colon, next) = tokens.mark(Mark::Colon, at)?;
-    let (width, next) = tokens.number(next)?;
-    let (_equals, next) = tokens.mark(Mark::Equals, next)?;
-    let (body, next) = whole_expression(alloc, tokens, next)?;
-    let end = tokens.mark(Mark::Semicolon, next);
-    let (ended, _end, next) = with(body, end)?;
-    Ok((width, ended, next))
+    let (width, next) = number_before(tokens, Mark::Equals, next)?;
+    let (body, next) = expression_before(alloc, tokens, Mark::Semicolon, next)?;
+    Ok((width, body, next))
 }
 
 // The parameters, starting with this one.
@@ -273,8 +261,7 @@ fn parameters(
 fn parameter(alloc: Global, tokens: &Tokens<'_>, at: usize) -> Result<(Param, usize), Fault>
     ensures { MatchResult result (λ x. Turns tokens.now (Nonterminal PAR) [] (param_value x.0 ∷ []) at x.1 1) (Ends tokens.now (Nonterminal PAR) [] at) }
 {
-    let (name, next) = tokens.name(alloc, at)?;
-    let (_colon, next) = tokens.mark(Mark::Colon, next)?;
+    let (name, next) = name_before(alloc, tokens, Mark::Colon, at)?;
     let (width, next) = tokens.number(next)?;
     Ok((Param { name, width }, next))
 }

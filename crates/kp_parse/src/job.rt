@@ -4,15 +4,17 @@ ghost use Rattle.kp_base.specs.{Grammar.Nonterminal, GrammarMachine.Accepts};
 ghost use Rattle.kp_parse_grammar.specs.{Text.HasOutcome, Reading.JobGoes, Reading.FaultIs, Reading.Turns, Reading.Ends};
 ghost use Rattle.kp_base.specs.declared.refusal.Refused.TheVariants as refused;
 ghost use Rattle.kp_ast.specs.declared.tree.Job.{Job as JobTree};
-ghost use Rattle.kp_parse_grammar.specs.Language.{job as job_value, named as named_value, number as number_value, decls as decls_value, blocks as blocks_value, perhaps_images, perhaps_stalls, perhaps_inputs, at as state_at, JOB};
+ghost use Rattle.kp_parse_grammar.specs.Language.{job as job_value, named as named_value, decls as decls_value, blocks as blocks_value, perhaps_images, perhaps_stalls, perhaps_inputs, at as state_at, JOB};
+ghost use Rattle.kp_parse_grammar.specs.Reading.{JobGoes, FaultIs, Turns, Ends};
 ghost use Rattle.kp_parse_grammar.specs.inner.Stretch.{TurnsAll, EndsAll};
-ghost use Rattle.kp_parse.specs.inner.Stretches.{title_symbols, depth_symbols, part_symbols, section_symbols};
+ghost use Rattle.kp_parse.specs.inner.Stretches.{title_symbols, part_symbols, section_symbols};
 ghost use Rattle.kp_parse.specs.Sentence.{IsTree, AnswersTree, place_from};
 
-use crate::declaration::declarations;
+use crate::declaration::{declarations, setting};
+use crate::pair::name_before;
 use crate::sections::{image_section, input_section, stall_section};
 use crate::stage::{stage, stages};
-use kp_ast::{Block, Decl, Image, Inputs, Job, Named, Num, Stalls};
+use kp_ast::{Block, Decl, Image, Inputs, Job, Named, Stalls};
 use kp_base::{List, Place, Refusal, Refused, place_of};
 use kp_parse_grammar::{Fault, Keyword, Lexed, Mark, Token, Tokens};
 use std::alloc::Global;
@@ -44,7 +46,7 @@ fn machine(alloc: Global, tokens: &Tokens<'_>) -> Result<(Job, usize), Fault>
     ensures few { IfOk result (λ x. (length x.0.decls ≤ length tokens.now) × (length x.0.blocks ≤ length tokens.now)) }
 {
     let (name, next) = title(alloc, tokens)?;
-    let (stages, next) = depth(tokens, next)?;
+    let (stages, next) = setting(tokens, Keyword::Stages, next)?;
     let (decls, blocks, next) = parts(alloc, tokens, next)?;
     let (image, stalls, inputs, next) = sections(alloc, tokens, next)?;
     let job = Job {
@@ -64,19 +66,7 @@ fn title(alloc: Global, tokens: &Tokens<'_>) -> Result<(Named, usize), Fault>
     ensures { MatchResult result (λ x. TurnsAll tokens.now title_symbols (named_value x.0 ∷ []) 0 x.1 1) (EndsAll tokens.now title_symbols 0) }
 {
     let (_machine, next) = tokens.keyword(Keyword::Machine, 0)?;
-    let (name, next) = tokens.name(alloc, next)?;
-    let (_end, next) = tokens.mark(Mark::Semicolon, next)?;
-    Ok((name, next))
-}
-
-// `stages number;`
-fn depth(tokens: &Tokens<'_>, at: usize) -> Result<(Num, usize), Fault>
-    ensures { MatchResult result (λ x. TurnsAll tokens.now depth_symbols (number_value x.0 ∷ []) at x.1 1) (EndsAll tokens.now depth_symbols at) }
-{
-    let (_stages, next) = tokens.keyword(Keyword::Stages, at)?;
-    let (count, next) = tokens.number(next)?;
-    let (_end, next) = tokens.mark(Mark::Semicolon, next)?;
-    Ok((count, next))
+    name_before(alloc, tokens, Mark::Semicolon, next)
 }
 
 // The declarations and the stages. Each consumes at least one token.

@@ -6,7 +6,7 @@ ghost use Rattle.kp_parse_grammar.specs.Reading.{Turns, Ends};
 ghost use Rattle.kp_parse_grammar.specs.inner.Stretch.{TurnsAll, EndsAll};
 ghost use Rattle.kp_parse.specs.inner.Stretches.{value_symbols, cycle_symbols};
 
-use crate::declaration::bracketed;
+use crate::pair::{name_before, number_before, present};
 use kp_ast::{Image, Inputs, Lit, Num, Stalls};
 use kp_base::List;
 use kp_parse_grammar::{Fault, Keyword, Mark, Tokens};
@@ -60,11 +60,10 @@ fn image(alloc: Global, tokens: &Tokens<'_>, at: usize) -> Result<(Image, usize)
 fn numbered(tokens: &Tokens<'_>, at: usize) -> Result<(Option<Num>, usize), Fault>
     ensures { MatchResult result (λ x. Turns tokens.now (Nonterminal NUMBERED) [] (perhaps_number x.0 ∷ []) at x.1 0) (Ends tokens.now (Nonterminal NUMBERED) [] at) }
 {
-    if !tokens.is_mark(Mark::OpenBracket, at) {
-        return Ok((None, at));
+    match tokens.next_mark(Mark::OpenBracket, at) {
+        Some((_open, next)) => present(number_before(tokens, Mark::CloseBracket, next)),
+        None => Ok((None, at)),
     }
-    let (number, next) = bracketed(tokens, at)?;
-    Ok((Some(number), next))
 }
 
 // `= value, value;`
@@ -159,11 +158,10 @@ fn cycles(tokens: &Tokens<'_>, at: usize) -> Result<(Num, Num, Option<Num>, usiz
 fn step(tokens: &Tokens<'_>, at: usize) -> Result<(Option<Num>, usize), Fault>
     ensures { MatchResult result (λ x. Turns tokens.now (Nonterminal STEP) [] (perhaps_number x.0 ∷ []) at x.1 0) (Ends tokens.now (Nonterminal STEP) [] at) }
 {
-    let Some((_step, next)) = tokens.next_keyword(Keyword::Step, at) else {
-        return Ok((None, at));
-    };
-    let (number, next) = tokens.number(next)?;
-    Ok((Some(number), next))
+    match tokens.next_keyword(Keyword::Step, at) {
+        Some((_step, next)) => present(tokens.number(next)),
+        None => Ok((None, at)),
+    }
 }
 
 /// The inputs section, if it is present, and the number of the next token.
@@ -200,8 +198,7 @@ fn entries(alloc: Global, tokens: &Tokens<'_>, at: usize) -> Result<(Vec<Inputs>
 fn entry(alloc: Global, tokens: &Tokens<'_>, at: usize) -> Result<(Inputs, usize), Fault>
     ensures { MatchResult result (λ x. Turns tokens.now (Nonterminal ENTRY) [] (input_value x.0 ∷ []) at x.1 1) (Ends tokens.now (Nonterminal ENTRY) [] at) }
 {
-    let (name, next) = tokens.name(alloc, at)?;
-    let (_equals, next) = tokens.mark(Mark::Equals, next)?;
+    let (name, next) = name_before(alloc, tokens, Mark::Equals, at)?;
     let (value, next) = tokens.literal(next)?;
     let (from, to, step, next) = cycles(tokens, next)?;
     let entry = Inputs {

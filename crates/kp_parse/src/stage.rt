@@ -9,7 +9,7 @@ ghost use Rattle.kp_parse.specs.inner.Stretches.{source_symbols, bound_symbols};
 ghost use Rattle.kp_parse_grammar.specs.Language.{blocks, block as block_value, stmts, stmt as stmt_value, named as named_value, expr as expr_value, perhaps_expr, STAGE, STAGES, STMTS, STMT, BINDING, ADDRESS, HEDGE, WHEN};
 ghost use Rattle.kp_parse_grammar.specs.Reading.{class_at, Turns, Ends};
 
-use crate::pair::with;
+use crate::pair::{expression_before, name_before, number_before, present, with};
 use kp_ast::{Block, Expr, Named, ReadStmt, Stmt, StmtKind};
 use kp_base::List;
 use kp_parse_grammar::{Fault, Keyword, Mark, TokenKind, Tokens, whole_expression};
@@ -47,8 +47,7 @@ pub(crate) fn stage(alloc: Global, tokens: &Tokens<'_>, at: usize) -> Result<(Bl
     ensures { MatchResult result (λ x. Turns tokens.now (Nonterminal STAGE) [] (block_value x.0 ∷ []) at x.1 1) (Ends tokens.now (Nonterminal STAGE) [] at) }
 {
     let (_stage, next) = tokens.keyword(Keyword::Stage, at)?;
-    let (number, next) = tokens.number(next)?;
-    let (_open, next) = tokens.mark(Mark::OpenBrace, next)?;
+    let (number, next) = number_before(tokens, Mark::OpenBrace, next)?;
     let (all, next) = statements(alloc, tokens, next)?;
     let (_close, next) = tokens.mark(Mark::CloseBrace, next)?;
     let stmts = List::new(all);
@@ -99,8 +98,7 @@ fn read(alloc: Global, tokens: &Tokens<'_>, at: usize) -> Result<(Stmt, usize), 
     ensures { MatchResult result (λ x. Turns tokens.now (Nonterminal STMT) [] (stmt_value x.0 ∷ []) at x.1 1) (Ends tokens.now (Nonterminal STMT) [] at) }
 {
     let (place, next) = tokens.taken(at);
-    let (name, next) = tokens.name(alloc, next)?;
-    let (_equals, next) = tokens.mark(Mark::Equals, next)?;
+    let (name, next) = name_before(alloc, tokens, Mark::Equals, next)?;
     let (target, address, terms, next) = source(alloc, tokens, next)?;
     let read = ReadStmt {
         name,
@@ -133,13 +131,10 @@ fn source(
 fn address(alloc: Global, tokens: &Tokens<'_>, at: usize) -> Result<(Option<Expr>, usize), Fault>
     ensures { MatchResult result (λ x. Turns tokens.now (Nonterminal ADDRESS) [] (perhaps_expr x.0 ∷ []) at x.1 0) (Ends tokens.now (Nonterminal ADDRESS) [] at) }
 {
-    let Some((_open, next)) = tokens.next_mark(Mark::OpenBracket, at) else {
-        return Ok((None, at));
-    };
-    let (inner, next) = whole_expression(alloc, tokens, next)?;
-    let close = tokens.mark(Mark::CloseBracket, next);
-    let (closed, _close, next) = with(inner, close)?;
-    Ok((Some(closed), next))
+    match tokens.next_mark(Mark::OpenBracket, at) {
+        Some((_open, next)) => present(expression_before(alloc, tokens, Mark::CloseBracket, next)),
+        None => Ok((None, at)),
+    }
 }
 
 // The condition or the guess of a read, in this order.
@@ -187,19 +182,17 @@ fn guess(alloc: Global, tokens: &Tokens<'_>, at: usize) -> Result<(Terms, usize)
 fn when(alloc: Global, tokens: &Tokens<'_>, at: usize) -> Result<(Option<Expr>, usize), Fault>
     ensures { MatchResult result (λ x. Turns tokens.now (Nonterminal WHEN) [] (perhaps_expr x.0 ∷ []) at x.1 0) (Ends tokens.now (Nonterminal WHEN) [] at) }
 {
-    let Some((_when, next)) = tokens.next_keyword(Keyword::When, at) else {
-        return Ok((None, at));
-    };
-    let (condition, next) = whole_expression(alloc, tokens, next)?;
-    Ok((Some(condition), next))
+    match tokens.next_keyword(Keyword::When, at) {
+        Some((_when, next)) => present(whole_expression(alloc, tokens, next)),
+        None => Ok((None, at)),
+    }
 }
 
 // `name = value`
 fn binding(alloc: Global, tokens: &Tokens<'_>, at: usize) -> Result<(Named, Expr, usize), Fault>
     ensures { MatchResult result (λ x. Turns tokens.now (Nonterminal BINDING) [] (expr_value x.1 ∷ named_value x.0 ∷ []) at x.2 1) (Ends tokens.now (Nonterminal BINDING) [] at) }
 {
-    let (name, next) = tokens.name(alloc, at)?;
-    let (_equals, next) = tokens.mark(Mark::Equals, next)?;
+    let (name, next) = name_before(alloc, tokens, Mark::Equals, at)?;
     let (value, next) = whole_expression(alloc, tokens, next)?;
     Ok((name, value, next))
 }
@@ -208,10 +201,9 @@ fn binding(alloc: Global, tokens: &Tokens<'_>, at: usize) -> Result<(Named, Expr
 fn bound(alloc: Global, tokens: &Tokens<'_>, at: usize) -> Result<(Named, Expr, usize), Fault>
     ensures { MatchResult result (λ x. TurnsAll tokens.now bound_symbols (expr_value x.1 ∷ named_value x.0 ∷ []) at x.2 1) (EndsAll tokens.now bound_symbols at) }
 {
-    let (name, value, next) = binding(alloc, tokens, at)?;
-    let end = tokens.mark(Mark::Semicolon, next);
-    let (bound, _end, next) = with((name, value), end)?;
-    Ok((bound.0, bound.1, next))
+    let (name, next) = name_before(alloc, tokens, Mark::Equals, at)?;
+    let (value, next) = expression_before(alloc, tokens, Mark::Semicolon, next)?;
+    Ok((name, value, next))
 }
 
 // `let name = value;`

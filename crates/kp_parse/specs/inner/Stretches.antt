@@ -1,17 +1,28 @@
 -- The parts of alternatives that are read by functions of their own.
 use Rattle.std.specs.Prelude.{List, [], ◌∷◌}
 use Rattle.kp_base.specs.Grammar.{Nonterminal, Action}
+use Rattle.kp_parse_grammar.specs.{declared.token.Keyword.Keyword, declared.token.Mark.Mark}
 use Rattle.kp_parse_grammar.specs.declared.token.Keyword.TheVariants as keywords
 use Rattle.kp_parse_grammar.specs.declared.token.Mark.TheVariants as marks
 use Rattle.kp_parse_grammar.specs.Language.{Sym, word, mark, no_decls, no_blocks, one_block, no_params, one_param, no_literals, one_literal, NAME, NUM, LIT, DECLS, STAGE, STAGES, IMAGE, STALLS, INPUTS, PAR, PARS, WHOLE, BINDING, ADDRESS, HEDGE, LITS, STEP}
 
+-- a name, a number or an expression, and a punctuator
+abbrev pub named_symbols : Mark → List Sym
+named_symbols m = NAME ∷ mark m ∷ []
+
+abbrev pub numbered_symbols : Mark → List Sym
+numbered_symbols m = NUM ∷ mark m ∷ []
+
+abbrev pub whole_symbols : Mark → List Sym
+whole_symbols m = Nonterminal WHOLE ∷ mark m ∷ []
+
+-- `keyword number;`
+abbrev pub setting_symbols : Keyword → List Sym
+setting_symbols k = word k ∷ NUM ∷ mark marks.Semicolon ∷ []
+
 -- `machine name;`
 abbrev pub title_symbols : List Sym
 title_symbols = word keywords.Machine ∷ NAME ∷ mark marks.Semicolon ∷ []
-
--- `stages number;`
-abbrev pub depth_symbols : List Sym
-depth_symbols = word keywords.Stages ∷ NUM ∷ mark marks.Semicolon ∷ []
 
 -- the declarations and the stages
 abbrev pub part_symbols : List Sym
@@ -20,10 +31,6 @@ part_symbols = Action no_decls ∷ Nonterminal DECLS ∷ Action no_blocks ∷ No
 -- the sections, and `end`
 abbrev pub section_symbols : List Sym
 section_symbols = Nonterminal IMAGE ∷ Nonterminal STALLS ∷ Nonterminal INPUTS ∷ word keywords.End ∷ []
-
--- `[number]`
-abbrev pub bracket_symbols : List Sym
-bracket_symbols = mark marks.OpenBracket ∷ NUM ∷ mark marks.CloseBracket ∷ []
 
 -- `(name : width, ..)`
 abbrev pub signature_symbols : List Sym
@@ -36,10 +43,6 @@ definition_symbols = mark marks.Colon ∷ NUM ∷ mark marks.Equals ∷ Nontermi
 -- `= start;`
 abbrev pub start_symbols : List Sym
 start_symbols = mark marks.Equals ∷ LIT ∷ mark marks.Semicolon ∷ []
-
--- `at stage;`
-abbrev pub stage_symbols : List Sym
-stage_symbols = word keywords.At ∷ NUM ∷ mark marks.Semicolon ∷ []
 
 -- `target[address] when condition;`
 abbrev pub source_symbols : List Sym

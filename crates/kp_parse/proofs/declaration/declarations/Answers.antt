@@ -1,7 +1,5 @@
-use Rattle.std.proofs.{Common.sym, Common.◌∙◌, Common.arith, lemmas.List.length_push}
+use Rattle.kp_parse.proofs.Picks.{arith, sym, ◌∙◌, make, exits, length_push, decls_1, decls_else}
 use Rattle.kp_ast.specs.declared.tree.Decl.{Decl}
-use Rattle.kp_base.specs.GrammarMachine.{make}
-use Rattle.kp_parse_grammar.proofs.{Picks.decls_1, Picks.decls_else, Steps.exits}
 use Rattle.kp_parse.proofs.declaration.declarations.Goals as goal
 
 pub returns-in_err-one : goal.returns-in_err-one

@@ -1,7 +1,4 @@
-use Rattle.std.proofs.Common.{arith}
-use Rattle.kp_base.specs.GrammarMachine.{make}
-use Rattle.kp_parse_grammar.proofs.Steps.{by_dropped, one, exits}
-use Rattle.kp_parse.proofs.Picks.{decl_fn}
+use Rattle.kp_parse.proofs.Picks.{arith, make, by_dropped, one, exits, decl_fn}
 use Rattle.kp_parse.proofs.declaration.function.Goals as goal
 
 pub returns-in_err-_fn : goal.returns-in_err-_fn

@@ -1,7 +1,4 @@
-use Rattle.std.proofs.Common.{arith}
-use Rattle.kp_base.specs.GrammarMachine.{make}
-use Rattle.kp_parse_grammar.proofs.Steps.{by_dropped, one, exits}
-use Rattle.kp_parse.proofs.Picks.{pars_1, pars_else}
+use Rattle.kp_parse.proofs.Picks.{arith, make, by_dropped, one, exits, pars_1, pars_else}
 use Rattle.kp_parse.proofs.declaration.parameters.Goals as goal
 
 pub all-init : goal.all-init

@@ -1,7 +1,4 @@
-use Rattle.std.proofs.Common.{arith, refl}
-use Rattle.kp_base.specs.GrammarMachine.{make}
-use Rattle.kp_parse_grammar.proofs.Steps.{by_dropped, one, exits}
-use Rattle.kp_parse.proofs.Picks.{decl_reg, isnt_end}
+use Rattle.kp_parse.proofs.Picks.{arith, refl, make, by_dropped, one, exits, isnt_end, decl_reg}
 use Rattle.kp_parse.proofs.declaration.register.Goals as goal
 
 pub returns-in_err-typed : goal.returns-in_err-typed

@@ -1,8 +1,6 @@
-use Rattle.std.proofs.Common.{arith, length-drop}
-use Rattle.kp_base.specs.GrammarMachine.{make}
+use Rattle.kp_parse.proofs.Picks.{arith, make, exits, job_is}
+use Rattle.std.proofs.Common.{length-drop}
 use Rattle.kp_parse_grammar.specs.Tokens.{Lexeme}
-use Rattle.kp_parse_grammar.proofs.Steps.{exits}
-use Rattle.kp_parse.proofs.Picks.{job_is}
 use Rattle.kp_parse.proofs.job.machine.Goals as goal
 
 pub returns-in_err-name-clause-goes : goal.returns-in_err-name-clause-goes

@@ -1,6 +1,4 @@
-use Rattle.std.proofs.Common.{arith}
-use Rattle.kp_base.specs.GrammarMachine.{make}
-use Rattle.kp_parse_grammar.proofs.Steps.{exits}
+use Rattle.kp_parse.proofs.Picks.{arith, make, exits}
 use Rattle.kp_parse.proofs.job.parts.Goals as goal
 
 pub returns-in_err-decls : goal.returns-in_err-decls

@@ -1,5 +1,4 @@
-use Rattle.std.proofs.Common.{arith}
-use Rattle.kp_parse_grammar.proofs.Steps.{by_dropped, one, exits}
+use Rattle.kp_parse.proofs.Picks.{arith, by_dropped, one, exits}
 use Rattle.kp_parse.proofs.job.sections.Goals as goal
 
 pub returns-in_err-image : goal.returns-in_err-image

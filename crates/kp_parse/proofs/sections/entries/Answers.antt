@@ -1,7 +1,4 @@
-use Rattle.std.proofs.Common.{arith, sym, ◌∙◌}
-use Rattle.kp_base.specs.GrammarMachine.{make}
-use Rattle.kp_parse_grammar.proofs.Steps.{exits}
-use Rattle.kp_parse.proofs.Picks.{entries_1, entries_else}
+use Rattle.kp_parse.proofs.Picks.{arith, sym, ◌∙◌, make, exits, entries_1, entries_else}
 use Rattle.kp_parse.proofs.sections.entries.Goals as goal
 
 pub returns-in_err-one : goal.returns-in_err-one

@@ -1,7 +1,4 @@
-use Rattle.std.proofs.Common.{arith}
-use Rattle.kp_base.specs.GrammarMachine.{make}
-use Rattle.kp_parse_grammar.proofs.Steps.{exits}
-use Rattle.kp_parse.proofs.Picks.{word_is}
+use Rattle.kp_parse.proofs.Picks.{arith, make, exits, word_is}
 use Rattle.kp_parse.proofs.sections.image.Goals as goal
 
 pub returns-in_err-name : goal.returns-in_err-name

@@ -1,7 +1,4 @@
-use Rattle.std.proofs.Common.{arith}
-use Rattle.kp_base.specs.GrammarMachine.{make}
-use Rattle.kp_parse_grammar.proofs.Steps.{by_dropped, one, exits}
-use Rattle.kp_parse.proofs.Picks.{image_1, image_else}
+use Rattle.kp_parse.proofs.Picks.{arith, make, by_dropped, one, exits, image_1, image_else}
 use Rattle.kp_parse.proofs.sections.image_section.Goals as goal
 
 pub returns-in_default : goal.returns-in_default

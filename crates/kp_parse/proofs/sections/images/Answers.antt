@@ -1,7 +1,4 @@
-use Rattle.std.proofs.Common.{arith, sym, ◌∙◌}
-use Rattle.kp_base.specs.GrammarMachine.{make}
-use Rattle.kp_parse_grammar.proofs.Steps.{exits}
-use Rattle.kp_parse.proofs.Picks.{words_1, words_else}
+use Rattle.kp_parse.proofs.Picks.{arith, sym, ◌∙◌, make, exits, words_1, words_else}
 use Rattle.kp_parse.proofs.sections.images.Goals as goal
 
 pub returns-in_err-one : goal.returns-in_err-one

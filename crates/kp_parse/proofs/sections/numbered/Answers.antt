@@ -1,21 +1,14 @@
-use Rattle.std.proofs.Common.{arith, sym, ◌∙◌}
-use Rattle.kp_base.specs.GrammarMachine.{make}
-use Rattle.kp_parse_grammar.proofs.Steps.{exits}
-use Rattle.kp_parse.proofs.Picks.{numbered_1, numbered_else}
+use Rattle.kp_parse.proofs.Picks.{arith, refl, make, by_dropped, one, optional, numbered_1, numbered_else}
+use Rattle.kp_parse_grammar.specs.Language.{number, perhaps_number, some_number}
 use Rattle.kp_parse.proofs.sections.numbered.Goals as goal
 
-pub returns-then-not-is_mark : goal.returns-then-not-is_mark
-returns-then-not-is_mark c = record {
-  leads = λ s cs vs o h. numbered_else (sym c.if-not-is_mark.true ∙ c.is_mark.ensures) (make h);
+pub returns-in-None : goal.returns-in-None
+returns-in-None c = record {
+  leads = λ s cs vs o h. numbered_else c.in-None.ensures (make h);
   shrinks = omega arith;
 }
 
-pub returns-in_err-number : goal.returns-in_err-number
-returns-in_err-number c =
-    exits _ _ _ c.from_residual.ensures.1 c.in_err-number.ensures (λ o h s cs vs. numbered_1 (sym c.if-not-is_mark.false ∙ c.is_mark.ensures) (h _ _ _))
-
-pub returns : goal.returns
-returns c = record {
-  leads = λ s cs vs o h. numbered_1 (sym c.if-not-is_mark.false ∙ c.is_mark.ensures) (c.in_ok-number.ensures.leads _ _ _ _ (make h));
-  shrinks = omega (arith, c.in_ok-number.ensures.shrinks);
-}
+pub returns-in-Some : goal.returns-in-Some
+returns-in-Some c =
+    optional _ _ _ _ _ number some_number perhaps_number c.number_before.result c.present.result c.number_before.ensures c.present.ensures (λ t cs vs. refl)
+    (omega (arith, one c.in-Some.ensures)) (λ s cs vs o h. numbered_1 c.in-Some.ensures (by_dropped c.in-Some.ensures h))

@@ -1,7 +1,4 @@
-use Rattle.std.proofs.Common.{arith}
-use Rattle.kp_base.specs.GrammarMachine.{make}
-use Rattle.kp_parse_grammar.proofs.Steps.{exits}
-use Rattle.kp_parse.proofs.Picks.{span_is}
+use Rattle.kp_parse.proofs.Picks.{arith, make, exits, span_is}
 use Rattle.kp_parse.proofs.sections.span.Goals as goal
 
 pub returns-in_err-stage : goal.returns-in_err-stage

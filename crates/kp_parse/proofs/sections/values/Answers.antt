@@ -1,6 +1,4 @@
-use Rattle.std.proofs.Common.{arith}
-use Rattle.kp_base.specs.GrammarMachine.{make}
-use Rattle.kp_parse_grammar.proofs.Steps.{by_dropped, one, exits}
+use Rattle.kp_parse.proofs.Picks.{arith, make, by_dropped, one, exits}
 use Rattle.kp_parse.proofs.sections.values.Goals as goal
 
 pub returns-in_err-_equals : goal.returns-in_err-_equals

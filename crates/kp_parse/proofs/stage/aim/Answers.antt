@@ -1,7 +1,4 @@
-use Rattle.std.proofs.Common.{arith}
-use Rattle.kp_base.specs.GrammarMachine.{make}
-use Rattle.kp_parse_grammar.proofs.Steps.{by_placed, one, exits}
-use Rattle.kp_parse.proofs.Picks.{stmt_aim}
+use Rattle.kp_parse.proofs.Picks.{arith, make, by_placed, one, exits, stmt_aim}
 use Rattle.kp_parse.proofs.stage.aim.Goals as goal
 
 pub returns-in_err-place : goal.returns-in_err-place

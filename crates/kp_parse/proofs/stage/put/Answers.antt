@@ -1,7 +1,4 @@
-use Rattle.std.proofs.Common.{arith, refl}
-use Rattle.kp_base.specs.GrammarMachine.{make}
-use Rattle.kp_parse_grammar.proofs.Steps.{by_placed, one, exits}
-use Rattle.kp_parse.proofs.Picks.{stmt_put, isnt_end}
+use Rattle.kp_parse.proofs.Picks.{arith, refl, make, by_placed, one, exits, isnt_end, stmt_put}
 use Rattle.kp_parse.proofs.stage.put.Goals as goal
 
 pub returns-in_err-name : goal.returns-in_err-name

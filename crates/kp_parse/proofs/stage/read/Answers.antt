@@ -1,25 +1,18 @@
-use Rattle.std.proofs.Common.{arith, refl}
-use Rattle.kp_base.specs.GrammarMachine.{make}
-use Rattle.kp_parse_grammar.proofs.Steps.{by_dropped, by_placed, one, exits}
-use Rattle.kp_parse.proofs.Picks.{stmt_read, isnt_end}
+use Rattle.kp_parse.proofs.Picks.{arith, refl, make, by_placed, one, exits, isnt_end, stmt_read}
 use Rattle.kp_parse.proofs.stage.read.Goals as goal
 
 pub returns-in_err-name : goal.returns-in_err-name
 returns-in_err-name c =
     exits _ _ _ c.from_residual.ensures.1 c.in_err-name.ensures (λ o h s cs vs. stmt_read c.requires (by_placed (c.taken-next.ensures _ c.requires) (h _ _ _)))
 
-pub returns-in_err-_equals : goal.returns-in_err-_equals
-returns-in_err-_equals c =
-    exits _ _ _ c.from_residual-in_err-_equals.ensures.1 c.in_err-_equals.ensures (λ o h s cs vs. stmt_read c.requires (by_placed (c.taken-next.ensures _ c.requires) (c.in_ok-name.ensures.leads _ _ _ _ (h _ _ _))))
-
 pub returns-in_err-target : goal.returns-in_err-target
 returns-in_err-target c =
-    exits _ _ _ c.from_residual-in_err-target.ensures.1 c.in_err-target.ensures (λ o h s cs vs. stmt_read c.requires (by_placed (c.taken-next.ensures _ c.requires) (c.in_ok-name.ensures.leads _ _ _ _ (by_dropped c.in_ok-_equals.ensures (h _ _ _)))))
+    exits _ _ _ c.from_residual-in_err-target.ensures.1 c.in_err-target.ensures (λ o h s cs vs. stmt_read c.requires (by_placed (c.taken-next.ensures _ c.requires) (c.in_ok-name.ensures.leads _ _ _ _ (h _ _ _))))
 
 pub returns : goal.returns
 returns c = record {
-  leads = λ s cs vs o h. stmt_read c.requires (by_placed (c.taken-next.ensures _ c.requires) (c.in_ok-name.ensures.leads _ _ _ _ (by_dropped c.in_ok-_equals.ensures (c.in_ok-target.ensures.leads _ _ _ _ (make h)))));
-  shrinks = omega (arith, one (c.taken-next.ensures _ c.requires), c.in_ok-name.ensures.shrinks, one c.in_ok-_equals.ensures, c.in_ok-target.ensures.shrinks);
+  leads = λ s cs vs o h. stmt_read c.requires (by_placed (c.taken-next.ensures _ c.requires) (c.in_ok-name.ensures.leads _ _ _ _ (c.in_ok-target.ensures.leads _ _ _ _ (make h))));
+  shrinks = omega (arith, one (c.taken-next.ensures _ c.requires), c.in_ok-name.ensures.shrinks, c.in_ok-target.ensures.shrinks);
 }
 
 pub taken-next-requires : goal.taken-next-requires

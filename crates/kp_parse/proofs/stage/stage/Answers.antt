@@ -1,7 +1,4 @@
-use Rattle.std.proofs.Common.{arith}
-use Rattle.kp_base.specs.GrammarMachine.{make}
-use Rattle.kp_parse_grammar.proofs.Steps.{by_dropped, one, exits}
-use Rattle.kp_parse.proofs.Picks.{stage_is}
+use Rattle.kp_parse.proofs.Picks.{arith, make, by_dropped, one, exits, stage_is}
 use Rattle.kp_parse.proofs.stage.stage.Goals as goal
 
 pub returns-in_err-_stage : goal.returns-in_err-_stage
@@ -11,20 +8,16 @@ pub returns-in_err-number : goal.returns-in_err-number
 returns-in_err-number c =
     exits _ _ _ c.from_residual-in_err-number.ensures.1 c.in_err-number.ensures (λ o h s cs vs. stage_is (by_dropped c.in_ok-_stage.ensures (h _ _ _)))
 
-pub returns-in_err-_open : goal.returns-in_err-_open
-returns-in_err-_open c =
-    exits _ _ _ c.from_residual-in_err-_open.ensures.1 c.in_err-_open.ensures (λ o h s cs vs. stage_is (by_dropped c.in_ok-_stage.ensures (c.in_ok-number.ensures.leads _ _ _ _ (h _ _ _))))
-
 pub returns-in_err-all : goal.returns-in_err-all
 returns-in_err-all c =
-    exits _ _ _ c.from_residual-in_err-all.ensures.1 c.in_err-all.ensures (λ o h s cs vs. stage_is (by_dropped c.in_ok-_stage.ensures (c.in_ok-number.ensures.leads _ _ _ _ (by_dropped c.in_ok-_open.ensures (make (h _ _ _))))))
+    exits _ _ _ c.from_residual-in_err-all.ensures.1 c.in_err-all.ensures (λ o h s cs vs. stage_is (by_dropped c.in_ok-_stage.ensures (c.in_ok-number.ensures.leads _ _ _ _ (make (h _ _ _)))))
 
 pub returns-in_err-_close : goal.returns-in_err-_close
 returns-in_err-_close c =
-    exits _ _ _ c.from_residual-in_err-_close.ensures.1 c.in_err-_close.ensures (λ o h s cs vs. stage_is (by_dropped c.in_ok-_stage.ensures (c.in_ok-number.ensures.leads _ _ _ _ (by_dropped c.in_ok-_open.ensures (make (c.in_ok-all.ensures.leads _ _ _ _ (h _ _ _)))))))
+    exits _ _ _ c.from_residual-in_err-_close.ensures.1 c.in_err-_close.ensures (λ o h s cs vs. stage_is (by_dropped c.in_ok-_stage.ensures (c.in_ok-number.ensures.leads _ _ _ _ (make (c.in_ok-all.ensures.leads _ _ _ _ (h _ _ _))))))
 
 pub returns : goal.returns
 returns c = record {
-  leads = λ s cs vs o h. stage_is (by_dropped c.in_ok-_stage.ensures (c.in_ok-number.ensures.leads _ _ _ _ (by_dropped c.in_ok-_open.ensures (make (c.in_ok-all.ensures.leads _ _ _ _ (by_dropped c.in_ok-_close.ensures (make (rw c.new-stmts.ensures at h))))))));
-  shrinks = omega (arith, one c.in_ok-_stage.ensures, c.in_ok-number.ensures.shrinks, one c.in_ok-_open.ensures, c.in_ok-all.ensures.shrinks, one c.in_ok-_close.ensures);
+  leads = λ s cs vs o h. stage_is (by_dropped c.in_ok-_stage.ensures (c.in_ok-number.ensures.leads _ _ _ _ (make (c.in_ok-all.ensures.leads _ _ _ _ (by_dropped c.in_ok-_close.ensures (make (rw c.new-stmts.ensures at h)))))));
+  shrinks = omega (arith, one c.in_ok-_stage.ensures, c.in_ok-number.ensures.shrinks, c.in_ok-all.ensures.shrinks, one c.in_ok-_close.ensures);
 }

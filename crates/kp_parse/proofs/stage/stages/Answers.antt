@@ -1,8 +1,5 @@
-use Rattle.std.proofs.{Common.sym, Common.◌∙◌, Common.arith, lemmas.List.length_push}
+use Rattle.kp_parse.proofs.Picks.{arith, sym, ◌∙◌, make, exits, length_push, stages_1, stages_else}
 use Rattle.kp_ast.specs.declared.tree.Block.{Block}
-use Rattle.kp_base.specs.GrammarMachine.{make}
-use Rattle.kp_parse_grammar.proofs.Steps.{exits}
-use Rattle.kp_parse.proofs.Picks.{stages_1, stages_else}
 use Rattle.kp_parse.proofs.stage.stages.Goals as goal
 
 pub all-init : goal.all-init

@@ -1,6 +1,4 @@
-use Rattle.std.proofs.Common.{arith, sym, ◌∙◌}
-use Rattle.kp_base.specs.GrammarMachine.{make}
-use Rattle.kp_parse_grammar.proofs.{Picks.stmts_1, Picks.stmts_else, Steps.exits}
+use Rattle.kp_parse.proofs.Picks.{arith, sym, ◌∙◌, make, exits, stmts_1, stmts_else}
 use Rattle.kp_parse.proofs.stage.statements.Goals as goal
 
 pub returns-in_err-one : goal.returns-in_err-one

@@ -1,21 +1,14 @@
-use Rattle.std.proofs.Common.{arith}
-use Rattle.kp_base.specs.GrammarMachine.{make}
-use Rattle.kp_parse_grammar.proofs.Steps.{by_dropped, one, exits}
-use Rattle.kp_parse.proofs.Picks.{when_1, when_else}
+use Rattle.kp_parse.proofs.Picks.{arith, refl, make, by_dropped, one, optional, alone, when_1, when_else}
+use Rattle.kp_parse_grammar.specs.Language.{expr, perhaps_expr, some_expr}
 use Rattle.kp_parse.proofs.stage.when.Goals as goal
 
-pub returns-in_default : goal.returns-in_default
-returns-in_default c = record {
-  leads = λ s cs vs o h. when_else c.in_default.ensures (make h);
+pub returns-in-None : goal.returns-in-None
+returns-in-None c = record {
+  leads = λ s cs vs o h. when_else c.in-None.ensures (make h);
   shrinks = omega arith;
 }
 
-pub returns-in_err-condition : goal.returns-in_err-condition
-returns-in_err-condition c =
-    exits _ _ _ c.from_residual.ensures.1 c.in_err-condition.ensures (λ o h s cs vs. when_1 c.in-Some.ensures (by_dropped c.in-Some.ensures (h _ _ _)))
-
-pub returns : goal.returns
-returns c = record {
-  leads = λ s cs vs o h. when_1 c.in-Some.ensures (by_dropped c.in-Some.ensures (c.in_ok-condition.ensures.leads _ _ _ _ (make (h))));
-  shrinks = omega (arith, one c.in-Some.ensures, c.in_ok-condition.ensures.shrinks);
-}
+pub returns-in-Some : goal.returns-in-Some
+returns-in-Some c =
+    optional _ _ _ _ _ expr some_expr perhaps_expr c.whole_expression.result c.present.result (alone _ _ _ _ expr c.whole_expression.result c.whole_expression.ensures) c.present.ensures (λ t cs vs. refl)
+    (omega (arith, one c.in-Some.ensures)) (λ s cs vs o h. when_1 c.in-Some.ensures (by_dropped c.in-Some.ensures h))

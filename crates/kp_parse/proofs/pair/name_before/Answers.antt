@@ -1,0 +1,14 @@
+use Rattle.kp_parse.proofs.Picks.{arith, by_dropped, one, exits}
+use Rattle.kp_parse.proofs.pair.name_before.Goals as goal
+
+pub returns-in_err-name : goal.returns-in_err-name
+returns-in_err-name c = exits _ _ _ c.from_residual.ensures.1 c.in_err-name.ensures (λ o h s cs vs. h _ _ _)
+
+pub returns-in_err-_mark : goal.returns-in_err-_mark
+returns-in_err-_mark c = exits _ _ _ c.from_residual-in_err-_mark.ensures.1 c.in_err-_mark.ensures (λ o h s cs vs. c.in_ok-name.ensures.leads _ _ _ _ (h _ _ _))
+
+pub returns : goal.returns
+returns c = record {
+  leads = λ s cs vs o h. c.in_ok-name.ensures.leads _ _ _ _ (by_dropped c.in_ok-_mark.ensures h);
+  shrinks = omega (arith, c.in_ok-name.ensures.shrinks, one c.in_ok-_mark.ensures);
+}
