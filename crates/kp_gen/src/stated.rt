@@ -1,11 +1,11 @@
 // The stages of a generated job.
-ghost use Rattle.std.specs.Prelude.{◌≡◌, ◌++◌, ◌≤◌, ◌<◌, ◌-◌, IfOk, OnOk, length, map};
+ghost use Rattle.std.specs.Prelude.{◌≡◌, ◌++◌, ◌≤◌, ◌<◌, ◌-◌, [], IfOk, OnOk, length, map};
 ghost use Rattle.std.specs.List.{range_with_len};
 ghost use Rattle.kp_gen.specs.Generated.{read, put, set, for_each, first_stmts, file_read, address_put, value_put, sets_from, file_set, later_stmts, all_blocks};
 
 use crate::draws::Route;
 use crate::trees::{
-    binary, block, low_byte, named, number, numbered, read_from, spelled, stmt, value,
+    add, binary, block, low_byte, named, number, numbered, read_from, spelled, stmt, value,
 };
 use kp_ast::{Block, Stmt, StmtKind};
 use kp_base::NoMemory;
@@ -32,19 +32,29 @@ pub(crate) fn all_blocks(
     Ok(blocks)
 }
 
-#[tactic(auto, using(std::proofs::Common::append_assoc))]
 fn first_stmts(alloc: Global, routes: &[Route]) -> Result<Vec<Stmt>, NoMemory>
     requires some { 4 ≤ length routes.now }
     requires routes { length routes.now ≤ 35 }
     ensures { IfOk result (λ ss. ss.items ≡ first_stmts routes.now) }
 {
     let mut stmts = Vec::new(alloc);
-    add_reads(alloc, routes, &mut stmts)?;
-    stmts.push(file_read(alloc)?)?;
-    add_puts(alloc, routes, &mut stmts)?;
-    stmts.push(address_put(alloc)?)?;
-    stmts.push(value_put(alloc)?)?;
+    add_first(alloc, routes, &mut stmts)?;
     Ok(stmts)
+}
+
+// Adds the statements of the first stage to an empty list.
+fn add_first(alloc: Global, routes: &[Route], stmts: &mut Vec<Stmt>) -> Result<(), NoMemory>
+    requires none { stmts.old.items ≡ [] }
+    requires some { 4 ≤ length routes.now }
+    requires routes { length routes.now ≤ 35 }
+    ensures { OnOk result (stmts.new.items ≡ first_stmts routes.now) }
+{
+    add_reads(alloc, routes, stmts)?;
+    add(stmts, file_read(alloc))?;
+    add_puts(alloc, routes, stmts)?;
+    add(stmts, address_put(alloc))?;
+    add(stmts, value_put(alloc))?;
+    Ok(())
 }
 
 #[tactic(auto, using(crate::proofs::Rounds::each_all))]
@@ -53,7 +63,7 @@ fn add_reads(alloc: Global, routes: &[Route], stmts: &mut Vec<Stmt>) -> Result<(
     ensures { OnOk result (stmts.new.items ≡ stmts.old.items ++ for_each (λ i r. read i) 0 routes.now) }
 {
     for i in 0..routes.len() {
-        stmts.push(read(alloc, i as u64)?)?;
+        add(stmts, read(alloc, i as u64))?;
     }
     Ok(())
 }
@@ -65,7 +75,7 @@ fn add_puts(alloc: Global, routes: &[Route], stmts: &mut Vec<Stmt>) -> Result<()
 {
     let count = routes.len() as u64;
     for i in 0..routes.len() {
-        stmts.push(put(alloc, count, i as u64)?)?;
+        add(stmts, put(alloc, count, i as u64))?;
     }
     Ok(())
 }
@@ -84,9 +94,9 @@ fn put(alloc: Global, count: u64, i: u64) -> Result<Stmt, NoMemory>
     ensures { IfOk result (λ s. s ≡ put count i) }
 {
     let name = numbered(alloc, b'P', i)?;
-    let a = value(numbered(alloc, b'x', i)?);
-    let b = value(numbered(alloc, b'x', (i + 1) % count)?);
-    let sum = binary(alloc, BinOp::Add, a, b)?;
+    let a = numbered(alloc, b'x', i)?;
+    let b = numbered(alloc, b'x', (i + 1) % count)?;
+    let sum = binary(alloc, BinOp::Add, value(a), value(b))?;
     Ok(stmt(StmtKind::Put(named(name), sum)))
 }
 
@@ -95,7 +105,8 @@ fn file_read(alloc: Global) -> Result<Stmt, NoMemory>
 {
     let name = spelled(alloc, b"f")?;
     let file = spelled(alloc, b"F")?;
-    let address = low_byte(alloc, numbered(alloc, b'x', 1)?)?;
+    let register = numbered(alloc, b'x', 1)?;
+    let address = low_byte(alloc, register)?;
     Ok(read_from(name, file, Some(address)))
 }
 
@@ -145,19 +156,19 @@ fn set(alloc: Global, i: u64, route: Route) -> Result<Stmt, NoMemory>
     ensures { IfOk result (λ s. s ≡ set i route) }
 {
     let name = numbered(alloc, b'C', i)?;
-    let own = value(numbered(alloc, b'P', i)?);
-    let other = value(numbered(alloc, b'P', route.other)?);
-    let shifted = binary(alloc, BinOp::Shl, other, number(1, 1))?;
-    let mixed = binary(alloc, BinOp::Xor, own, shifted)?;
+    let own = numbered(alloc, b'P', i)?;
+    let other = numbered(alloc, b'P', route.other)?;
+    let shifted = binary(alloc, BinOp::Shl, value(other), number(1, 1))?;
+    let mixed = binary(alloc, BinOp::Xor, value(own), shifted)?;
     Ok(stmt(StmtKind::Set(named(name), mixed, None)))
 }
 
 fn file_set(alloc: Global) -> Result<Stmt, NoMemory>
     ensures { IfOk result (λ s. s ≡ file_set) }
 {
-    let own = value(numbered(alloc, b'P', 0)?);
-    let read = value(spelled(alloc, b"VF")?);
-    let sum = binary(alloc, BinOp::Add, own, read)?;
     let name = spelled(alloc, b"CF")?;
+    let own = numbered(alloc, b'P', 0)?;
+    let read = spelled(alloc, b"VF")?;
+    let sum = binary(alloc, BinOp::Add, value(own), value(read))?;
     Ok(stmt(StmtKind::Set(named(name), sum, None)))
 }

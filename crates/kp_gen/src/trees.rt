@@ -1,5 +1,5 @@
 // Syntax trees at the start of a text.
-ghost use Rattle.std.specs.Prelude.{◌≡◌, IfOk, IsTrue};
+ghost use Rattle.std.specs.Prelude.{◌≡◌, ◌++◌, ◌∷◌, [], IfOk, IsTrue, OnOk};
 ghost use Rattle.kp_base.specs.Characters.{is_word};
 ghost use Rattle.kp_gen.specs.Generated.{named, num, lit, numbered, name, number, binary, low_byte, stmt, target, read_from, block};
 ghost use Rattle.kp_gen.specs.inner.Spelling.{is_spelled};
@@ -82,12 +82,22 @@ pub(crate) fn number(width: u64, value: u64) -> Expr
 pub(crate) fn binary(alloc: Global, op: BinOp, a: Expr, b: Expr) -> Result<Expr, NoMemory>
     ensures { IfOk result (λ e. e ≡ binary op a b) }
 {
-    let a = Boxed::new(alloc, a)?;
-    let b = Boxed::new(alloc, b)?;
-    Ok(Expr {
-        place: Place::START,
-        kind: ExprKind::Binary(op, a, b),
-    })
+    match Boxed::new(alloc, a) {
+        Ok(a) => match Boxed::new(alloc, b) {
+            Ok(b) => Ok(Expr {
+                place: Place::START,
+                kind: ExprKind::Binary(op, a, b),
+            }),
+            Err(error) => {
+                drop(a);
+                Err(error)
+            }
+        },
+        Err(error) => {
+            drop(b);
+            Err(error)
+        }
+    }
 }
 
 pub(crate) fn low_byte(alloc: Global, n: Name) -> Result<Expr, NoMemory>
@@ -140,5 +150,18 @@ pub(crate) fn block(number: u64, stmts: Vec<Stmt>) -> Block
     Block {
         number: num(number),
         stmts: List::new(stmts),
+    }
+}
+
+// Adds an item that has been made, in one place for all lists.
+pub(crate) fn add<T: Drop>(all: &mut Vec<T>, item: Result<T, NoMemory>) -> Result<(), NoMemory>
+    ensures { (x : T) → IfOk item (λ y. y ≡ x) → OnOk result (all.new.items ≡ all.old.items ++ x ∷ []) }
+{
+    match item {
+        Ok(item) => {
+            all.push(item)?;
+            Ok(())
+        }
+        Err(error) => Err(error),
     }
 }
