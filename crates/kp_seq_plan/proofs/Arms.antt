@@ -1,76 +1,101 @@
 -- A plan of each form, by the codes of its parts.
-use Rattle.std.proofs.Common.{◌≡◌, ◌∙◌, ℕ, zero, suc, ◌+◌, ◌<◌, ◌≤◌, List, [], ◌∷◌, Option, Some, None, length, get_or, map, refl, ap, sym, subst, arith}
-use Rattle.std.{proofs.lemmas.List.get_or-map, proofs.lemmas.List.length-map, specs.Prelude.sum_by, specs.Option.option_map, specs.Option.option_and_then}
+use Rattle.std.proofs.Common.{◌≡◌, ◌∙◌, ℕ, ◌+◌, ◌≤◌, List, Option, Some, None, Result, refl, ap, sym, subst, arith}
+use Rattle.std.specs.{Prelude.sum_by, Option.option_map, Option.option_and_then, Option.option_zip}
 use Rattle.kp_bits.specs.{Word.Word, Word.not_of, Checked.checked_slice, Checked.checked_zext, Checked.checked_sext, declared.operator.BinOp.BinOp}
-use Rattle.kp_ast.specs.Checked.{all_there}
-use Rattle.kp_seq_plan.specs.{declared.plan.Plan.Plan, declared.code.Typed.Typed}
-use Rattle.kp_seq_plan.specs.{Plans.Slots, Plans.meaning, Plans.meaning_level, Plans.space, Plans.space_level, Lowering.Gives}
-use Rattle.kp_seq_plan.specs.inner.Parts.{GivesOne, GivesTwo, GivesMux, GivesAll, GivesWord, binary_found, mux_found, joined_found, call_found, call_space}
+use Rattle.kp_seq_plan.specs.{declared.plan.Plan.Plan, declared.code.Typed.Typed, declared.lowering.Missing.Missing}
+use Rattle.kp_seq_plan.specs.{Plans.Slots, Plans.meaning, Plans.meaning_level, Plans.space, Plans.space_level, Lowering.IsTyped}
+use Rattle.kp_seq_plan.specs.inner.Parts.{Lacks, Yields, GivesOne, GivesTwo, GivesMux, GivesWord, binary_found, mux_found, both_found, joined_found, call_found, call_space}
 use Rattle.kp_seq_plan.proofs.Levels.{fold-Word, fold-Not, fold-Binary, fold-Mux, fold-Slice, fold-Zext, fold-Sext}
 use Rattle.kp_seq_plan.proofs.{Meaning.V, Meaning.at, Meaning.meaning_parts, Meaning.meaning_call, Meaning.space_parts, Meaning.space_call, Typing.gives_same}
 use Rattle.kp_seq_plan.specs.declared.plan.Plan.TheVariants as ends
 use Rattle.kp_seq_plan.specs.declared.plan.Plan.TheViews as plans
 
-module _ (ws : List (Option ℕ)) (plan : Plan) (c : Option Typed) where
-  same : (f : Slots → Option Word) (n : ℕ) (p : Plan) → plan ≡ p → ((s : Slots) → meaning p s ≡ f s) → n ≤ space p → Gives ws f n c → Gives ws (meaning plan) (space plan) c
-  same f n p is e l h = subst (λ q. Gives ws (meaning q) (space q) c) (sym is) (gives_same ws f (meaning p) n (space p) c e l h)
+-- a plan whose value is computed from that of a part
+pub record HasPart (plan : Plan) (g : Option Word → Option Word) (p : Plan) : Type 0 where
+  pub value : (s : Slots) → meaning plan s ≡ g (meaning p s)
+  pub none : g None ≡ None
+  pub space : space p ≤ space plan
 
-  pub arm_word : (w : Option Word) → plan ≡ ends.Word w → GivesWord w c → Gives ws (meaning plan) (space plan) c
-  arm_word w is h = same (λ s. w) 0 (ends.Word w) is (λ s. at (fold-Word V meaning_level w) s) (omega arith) (h ws)
+module _ {plan p : Plan} where
+  pub as_not : plan ≡ plans.Not p → HasPart plan (option_map not_of) p
+  as_not is = subst (λ q. HasPart q (option_map not_of) p) (sym is) (record { value = λ s. at (fold-Not V meaning_level p) s; none = refl; space = omega (arith, fold-Not ℕ space_level p) })
 
-  module _ (p x : Plan) (a : Option Typed) (seen : x ≡ p) (m : Gives ws (meaning x) (space x) a) where
-    here : Gives ws (meaning p) (space p) a
-    here = subst (λ q. Gives ws (meaning q) (space q) a) seen m
+  pub as_slice : {hi lo : ℕ} → plan ≡ plans.Slice p hi lo → HasPart plan (option_and_then (checked_slice hi lo)) p
+  as_slice {hi} {lo} is = subst (λ q. HasPart q (option_and_then (checked_slice hi lo)) p) (sym is)
+      (record { value = λ s. at (fold-Slice V meaning_level p hi lo) s; none = refl; space = omega (arith, fold-Slice ℕ space_level p hi lo) })
 
-    pub arm_not : plan ≡ plans.Not p → GivesOne (option_map not_of) a c → Gives ws (meaning plan) (space plan) c
-    arm_not is h = same (λ s. option_map not_of (meaning p s)) (space p) (plans.Not p) is (λ s. at (fold-Not V meaning_level p) s) (omega (arith, fold-Not ℕ space_level p))
-        (h ws (meaning p) (space p) here)
+  pub as_zext : {n : ℕ} → plan ≡ plans.Zext p n → HasPart plan (option_and_then (checked_zext n)) p
+  as_zext {n} is = subst (λ q. HasPart q (option_and_then (checked_zext n)) p) (sym is)
+      (record { value = λ s. at (fold-Zext V meaning_level p n) s; none = refl; space = omega (arith, fold-Zext ℕ space_level p n) })
 
-    pub arm_slice : (hi lo : ℕ) → plan ≡ plans.Slice p hi lo → GivesOne (option_and_then (checked_slice hi lo)) a c → Gives ws (meaning plan) (space plan) c
-    arm_slice hi lo is h = same (λ s. option_and_then (checked_slice hi lo) (meaning p s)) (space p) (plans.Slice p hi lo) is (λ s. at (fold-Slice V meaning_level p hi lo) s)
-        (omega (arith, fold-Slice ℕ space_level p hi lo)) (h ws (meaning p) (space p) here)
+  pub as_sext : {n : ℕ} → plan ≡ plans.Sext p n → HasPart plan (option_and_then (checked_sext n)) p
+  as_sext {n} is = subst (λ q. HasPart q (option_and_then (checked_sext n)) p) (sym is)
+      (record { value = λ s. at (fold-Sext V meaning_level p n) s; none = refl; space = omega (arith, fold-Sext ℕ space_level p n) })
 
-    pub arm_zext : (n : ℕ) → plan ≡ plans.Zext p n → GivesOne (option_and_then (checked_zext n)) a c → Gives ws (meaning plan) (space plan) c
-    arm_zext n is h = same (λ s. option_and_then (checked_zext n) (meaning p s)) (space p) (plans.Zext p n) is (λ s. at (fold-Zext V meaning_level p n) s)
-        (omega (arith, fold-Zext ℕ space_level p n)) (h ws (meaning p) (space p) here)
+none_right : (op : BinOp) (o p : Option Word) → option_zip o p ≡ None → binary_found op o p ≡ None
+none_right op None p e = refl
+none_right op (Some x) None e = refl
+none_right op (Some x) (Some y) e = cc
 
-    pub arm_sext : (n : ℕ) → plan ≡ plans.Sext p n → GivesOne (option_and_then (checked_sext n)) a c → Gives ws (meaning plan) (space plan) c
-    arm_sext n is h = same (λ s. option_and_then (checked_sext n) (meaning p s)) (space p) (plans.Sext p n) is (λ s. at (fold-Sext V meaning_level p n) s)
-        (omega (arith, fold-Sext ℕ space_level p n)) (h ws (meaning p) (space p) here)
+none_test : (t o p : Option Word) → t ≡ None → mux_found t o p ≡ None
+none_test t o p e = ap (λ c. mux_found c o p) e
 
-    module _ (q y : Plan) (b : Option Typed) (seen_b : y ≡ q) (k : Gives ws (meaning y) (space y) b) where
-      there : Gives ws (meaning q) (space q) b
-      there = subst (λ z. Gives ws (meaning z) (space z) b) seen_b k
+none_either : (t o p : Option Word) → option_zip o p ≡ None → mux_found t o p ≡ None
+none_either None o p e = refl
+none_either (Some c) None p e = refl
+none_either (Some c) (Some x) None e = refl
+none_either (Some c) (Some x) (Some y) e = cc
 
-      pub arm_binary : (op : BinOp) → plan ≡ plans.Binary op p q → GivesTwo (binary_found op) a b c → Gives ws (meaning plan) (space plan) c
-      arm_binary op is h = same (λ s. binary_found op (meaning p s) (meaning q s)) (space p + space q) (plans.Binary op p q) is (λ s. at (fold-Binary V meaning_level op p q) s)
-          (omega (arith, fold-Binary ℕ space_level op p q)) (h ws (meaning p) (meaning q) (space p) (space q) here there)
+chosen : {plan : Plan} (t p q : Plan) → plan ≡ plans.Mux t p q → (s : Slots) → meaning plan s ≡ mux_found (meaning t s) (meaning p s) (meaning q s)
+chosen t p q is s = ap (λ u. meaning u s) is ∙ at (fold-Mux V meaning_level t p q) s
 
-      pub arm_mux : (r z : Plan) (d : Option Typed) → z ≡ r → Gives ws (meaning z) (space z) d → plan ≡ plans.Mux p q r → GivesMux a b d c → Gives ws (meaning plan) (space plan) c
-      arm_mux r z d seen_d l is h = same (λ s. mux_found (meaning p s) (meaning q s) (meaning r s)) (space p + (space q + space r)) (plans.Mux p q r) is
-          (λ s. at (fold-Mux V meaning_level p q r) s) (omega (arith, fold-Mux ℕ space_level p q r))
-          (h ws (meaning p) (meaning q) (meaning r) (space p) (space q) (space r) here there (subst (λ x. Gives ws (meaning x) (space x) d) seen_d l))
+zipped : (ws : List (Option ℕ)) {e : Missing} {p q x y : Plan} → x ≡ p → y ≡ q → Lacks ws (both_found x y) e → Lacks ws (both_found p q) e
+zipped ws {e} {p} {q} {x} {y} seen seen_b m = subst (λ z. Lacks ws (both_found z q) e) seen (subst (λ z. Lacks ws (both_found x z) e) seen_b m)
 
-  pub arm_concat : (ps xs : List Plan) → plan ≡ plans.Concat ps → xs ≡ ps → Gives ws (joined_found xs) (sum_by space xs) c → Gives ws (meaning plan) (space plan) c
-  arm_concat ps xs is seen h =
-      same (joined_found ps) (sum_by space ps) (plans.Concat ps) is (meaning_parts ps) (omega (arith, space_parts ps)) (subst (λ ys. Gives ws (joined_found ys) (sum_by space ys) c) seen h)
+module _ (ws : List (Option ℕ)) {plan : Plan} where
+  same : (r : Result Typed Missing) (f : Slots → Option Word) (n : ℕ) (p : Plan) → plan ≡ p → ((s : Slots) → meaning p s ≡ f s) → n ≤ space p → Yields ws f n r → Yields ws (meaning plan) (space plan) r
+  same r f n p is e l h = subst (λ q. Yields ws (meaning q) (space q) r) (sym is) (gives_same ws f (meaning p) n (space p) r e l h)
 
-  pub arm_call : (ps xs : List Plan) (p x : Plan) → plan ≡ plans.Call ps p → xs ≡ ps → x ≡ p → Gives ws (call_found xs (meaning x)) (call_space xs (space x)) c → Gives ws (meaning plan) (space plan) c
-  arm_call ps xs p x is seen seen_p h =
-      same (call_found ps (meaning p)) (call_space ps (space p)) (plans.Call ps p) is (meaning_call ps p) (omega (arith, space_call ps p))
-      (subst (λ ys. Gives ws (call_found ys (meaning p)) (call_space ys (space p)) c) seen (subst (λ y. Gives ws (call_found xs (meaning y)) (call_space xs (space y)) c) seen_p h))
+  pub arm_word : (r : Result Typed Missing) (w : Option Word) → plan ≡ ends.Word w → GivesWord w r → Yields ws (meaning plan) (space plan) r
+  arm_word r w is h = same r (λ s. w) 0 (ends.Word w) is (λ s. at (fold-Word V meaning_level w) s) (omega arith) (h ws)
 
--- one that has none
-there_none : (os : List (Option Word)) (i : ℕ) → i < length os → get_or os i None ≡ None → all_there os ≡ None
-there_none [] i l e = absurd (omega arith)
-there_none (None ∷ os) i l e = refl
-there_none (Some x ∷ os) zero l e = cc
-there_none (Some x ∷ os) (suc i) l e = ap (option_map (λ xs. x ∷ xs)) (there_none os i (omega arith) e)
+  pub lost_test : (p q : Plan) {t z : Plan} {e : Missing} → z ≡ t → plan ≡ plans.Mux t p q → Lacks ws (meaning z) e → Lacks ws (meaning plan) e
+  lost_test p q {t} seen is m = λ k s vs suit. chosen t p q is s ∙ none_test (meaning t s) (meaning p s) (meaning q s) (ap (λ u. meaning u s) (sym seen) ∙ m k s vs suit)
 
--- arguments of which one has no value
-pub fills_none : {X : Type 0} (f : X → Option Word) (es : List X) (i : ℕ) (e : X) → i < length es → e ≡ get_or es i e → f e ≡ None → all_there (map f es) ≡ None
-fills_none f es i e l is h =
-    there_none (map f es) i (omega (arith, length-map es f)) (get_or-map f es i e None l ∙ ap f (sym is) ∙ h)
+  module _ {g : Option Word → Option Word} {p x : Plan} (has : HasPart plan g p) (seen : x ≡ p) where
+    pub arm_one : {a : Typed} (r : Result Typed Missing) → IsTyped ws (meaning x) (space x) a → GivesOne g a r → Yields ws (meaning plan) (space plan) r
+    arm_one {a} r m h = gives_same ws (λ s. g (meaning p s)) (meaning plan) (space p) (space plan) r has.value has.space (h ws (meaning p) (space p) (subst (λ q. IsTyped ws (meaning q) (space q) a) seen m))
 
-pub args_none : (ws : List (Option ℕ)) (ps : List Plan) (i : ℕ) (p : Plan) → i < length ps → p ≡ get_or ps i p → Gives ws (meaning p) (space p) None → GivesAll ws ps None
-args_none ws ps i p l is h = λ s vs suit. fills_none (λ q. meaning q s) ps i p l is (h s vs suit)
+    pub lost_one : {e : Missing} → Lacks ws (meaning x) e → Lacks ws (meaning plan) e
+    lost_one m = λ q s vs suit. has.value s ∙ ap (λ y. g (meaning y s)) (sym seen) ∙ ap g (m q s vs suit) ∙ has.none
+
+  module _ {p q x y : Plan} (seen : x ≡ p) (seen_b : y ≡ q) where
+    pub arm_binary : {a b : Typed} (r : Result Typed Missing) (op : BinOp) → plan ≡ plans.Binary op p q → IsTyped ws (meaning x) (space x) a × IsTyped ws (meaning y) (space y) b
+        → GivesTwo (binary_found op) a b r → Yields ws (meaning plan) (space plan) r
+    arm_binary {a} {b} r op is m h = same r (λ s. binary_found op (meaning p s) (meaning q s)) (space p + space q) (plans.Binary op p q) is (λ s. at (fold-Binary V meaning_level op p q) s)
+        (omega (arith, fold-Binary ℕ space_level op p q))
+        (h ws (meaning p) (meaning q) (space p) (space q) (subst (λ z. IsTyped ws (meaning z) (space z) a) seen m.0) (subst (λ z. IsTyped ws (meaning z) (space z) b) seen_b m.1))
+
+    pub lost_binary : {e : Missing} (op : BinOp) → plan ≡ plans.Binary op p q → Lacks ws (both_found x y) e → Lacks ws (meaning plan) e
+    lost_binary op is m = λ k s vs suit. ap (λ z. meaning z s) is ∙ at (fold-Binary V meaning_level op p q) s ∙ none_right op (meaning p s) (meaning q s) (zipped ws seen seen_b m k s vs suit)
+
+    module _ {t z : Plan} (seen_t : z ≡ t) (is : plan ≡ plans.Mux t p q) where
+      pub arm_mux : {a b c : Typed} (r : Result Typed Missing) → IsTyped ws (meaning z) (space z) c → IsTyped ws (meaning x) (space x) a × IsTyped ws (meaning y) (space y) b
+          → GivesMux c a b r → Yields ws (meaning plan) (space plan) r
+      arm_mux {a} {b} {c} r l m h = same r (λ s. mux_found (meaning t s) (meaning p s) (meaning q s)) (space t + (space p + space q)) (plans.Mux t p q) is
+          (λ s. at (fold-Mux V meaning_level t p q) s) (omega (arith, fold-Mux ℕ space_level t p q))
+          (h ws (meaning t) (meaning p) (meaning q) (space t) (space p) (space q) (subst (λ u. IsTyped ws (meaning u) (space u) c) seen_t l)
+          (subst (λ u. IsTyped ws (meaning u) (space u) a) seen m.0) (subst (λ u. IsTyped ws (meaning u) (space u) b) seen_b m.1))
+
+      pub lost_either : {e : Missing} → Lacks ws (both_found x y) e → Lacks ws (meaning plan) e
+      lost_either m = λ k s vs suit. chosen t p q is s ∙ none_either (meaning t s) (meaning p s) (meaning q s) (zipped ws seen seen_b m k s vs suit)
+
+  pub arm_concat : {ps xs : List Plan} (r : Result Typed Missing) → plan ≡ plans.Concat ps → xs ≡ ps → Yields ws (joined_found xs) (sum_by space xs) r → Yields ws (meaning plan) (space plan) r
+  arm_concat {ps} r is seen h =
+      same r (joined_found ps) (sum_by space ps) (plans.Concat ps) is (meaning_parts ps) (omega (arith, space_parts ps)) (subst (λ ys. Yields ws (joined_found ys) (sum_by space ys) r) seen h)
+
+  pub arm_call : {ps xs : List Plan} {p x : Plan} (r : Result Typed Missing) → plan ≡ plans.Call ps p → xs ≡ ps → x ≡ p → Yields ws (call_found xs (meaning x)) (call_space xs (space x)) r
+      → Yields ws (meaning plan) (space plan) r
+  arm_call {ps} {xs} {p} r is seen seen_p h =
+      same r (call_found ps (meaning p)) (call_space ps (space p)) (plans.Call ps p) is (meaning_call ps p) (omega (arith, space_call ps p))
+      (subst (λ ys. Yields ws (call_found ys (meaning p)) (call_space ys (space p)) r) seen (subst (λ y. Yields ws (call_found xs (meaning y)) (call_space xs (space y)) r) seen_p h))

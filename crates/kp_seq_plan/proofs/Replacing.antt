@@ -1,12 +1,11 @@
 -- Codes in one step have the values of the codes that they replace.
-use Rattle.std.proofs.Common.{◌≡◌, ◌≢◌, ◌∙◌, ℕ, zero, suc, ◌+◌, ◌-◌, ◌*◌, ◌/◌, ◌%◌, ◌^◌, ◌<◌, ◌==◌, nat_lt, max, Option, Some, Bool, true, false, refl, ap, sym, subst, arith, ⊎_elim, bit_and, bit_or, slice_index}
+use Rattle.std.proofs.Common.{◌≡◌, ◌≢◌, ◌∙◌, ℕ, zero, suc, ◌+◌, ◌-◌, ◌*◌, ◌/◌, ◌%◌, ◌^◌, ◌<◌, ◌==◌, nat_lt, max, Bool, true, false, refl, ap, sym, subst, arith, ⊎_elim, bit_and, bit_or, slice_index}
 use Rattle.std.proofs.lemmas.{Bool.lt-ltb, Bool.Decides.eqb_tells, Nat.one_shl}
 use Rattle.std.proofs.lemmas.Nat.Bits.{bit_at_or, bit_at-pow_same, bit_at-pow_other, bit_at-lt, same_from_bits}
 use Rattle.std.specs.{Prelude.if◌then◌else◌, Int.bit_at}
-use Rattle.kp_bits.specs.{Word.Word, declared.operator.BinOp.BinOp}
-use Rattle.kp_seq_plan.specs.{declared.code.Code.Code, declared.code.Typed.Typed, Codes.value_of, Codes.value_level, Codes.space_level, Codes.member}
-use Rattle.kp_seq_plan.specs.{inner.Parts.GivesOne, inner.Parts.GivesTwo, inner.Parts.GivesMux, inner.Parts.Replaces, inner.Parts.mux_found}
-use Rattle.kp_seq_plan.proofs.{CodeCalls.N, CodeCalls.at, Typing.typed, Typing.held_as, Typing.mux_gives}
+use Rattle.kp_bits.specs.declared.operator.BinOp.{BinOp}
+use Rattle.kp_seq_plan.specs.{declared.code.Code.Code, Codes.value_of, Codes.value_level, Codes.space_level, Codes.member, inner.Parts.Replaces}
+use Rattle.kp_seq_plan.proofs.CodeCalls.{N, at}
 use Rattle.kp_seq_plan.proofs.CodeLevels.{code-Word, code-Name, code-Not, code-Binary, code-Mux, code-Slice, code-Same, code-Field, code-Flip, code-Among, code-Case}
 use Rattle.kp_seq_plan.specs.declared.code.Code.TheVariants as leaf
 use Rattle.kp_seq_plan.specs.declared.code.Code.TheViews as codes
@@ -156,36 +155,10 @@ or_chain x y b c w m width mask h = record {
       );
 }
 
-pub regrouped : (op inner : BinOp) (x y b c : Code) (w m width mask : ℕ) → op ≡ BinOp.Or → inner ≡ BinOp.Or → Replaces c (codes.Binary BinOp.Or y b width mask)
-    → Replaces (codes.Binary BinOp.Or x c width mask) (codes.Binary op (codes.Binary inner x y w m) b width mask)
-regrouped op inner x y b c w m width mask e f h =
-    subst (λ o. Replaces (codes.Binary BinOp.Or x c width mask) (codes.Binary o (codes.Binary inner x y w m) b width mask)) (sym e)
-    (subst (λ o. Replaces (codes.Binary BinOp.Or x c width mask) (codes.Binary BinOp.Or (codes.Binary o x y w m) b width mask)) (sym f) (or_chain x y b c w m width mask h))
-
-pub replaced_one : (g : Option Word → Option Word) (a : Option Typed) (c d : Code) (w : ℕ) → Replaces c d → GivesOne g a (Some (typed d w)) → GivesOne g a (Some (typed c w))
-replaced_one g a c d w r h = λ ws f n t. let is = h ws f n t in record {
-  positive = is.positive;
-  at_most = is.at_most;
-  value = λ s vs suit. held_as (g (f s)) w _ _ (r.values vs) (is.value s vs suit);
-  space = let x = r.space in let y = is.space in omega (arith, x, y);
-}
-
-pub replaced_two : (g : Option Word → Option Word → Option Word) (a b : Option Typed) (c d : Code) (w : ℕ) → Replaces c d → GivesTwo g a b (Some (typed d w)) → GivesTwo g a b (Some (typed c w))
-replaced_two g a b c d w r h = λ ws f k n m s t. let is = h ws f k n m s t in record {
-  positive = is.positive;
-  at_most = is.at_most;
-  value = λ slots vs suit. held_as (g (f slots) (k slots)) w _ _ (r.values vs) (is.value slots vs suit);
-  space = let x = r.space in let y = is.space in omega (arith, x, y);
-}
-
-replaced_mux : (t a b : Option Typed) (c d : Code) (w : ℕ) → Replaces c d → GivesMux t a b (Some (typed d w)) → GivesMux t a b (Some (typed c w))
-replaced_mux t a b c d w r h = λ ws f g k l n m u v x. let is = h ws f g k l n m u v x in record {
-  positive = is.positive;
-  at_most = is.at_most;
-  value = λ slots vs suit. held_as (mux_found (f slots) (g slots) (k slots)) w _ _ (r.values vs) (is.value slots vs suit);
-  space = let y = r.space in let z = is.space in omega (arith, y, z);
-}
-
-pub mux_replaced : (t a b : Option Typed) (z x y : Typed) (c : Code) → t ≡ Some z → a ≡ Some x → b ≡ Some y → z.width ≡ 1 → x.width ≡ y.width → Replaces c (codes.Mux z.code x.code y.code)
-    → GivesMux t a b (Some (typed c x.width))
-mux_replaced t a b z x y c d e f one same r = replaced_mux t a b c (codes.Mux z.code x.code y.code) x.width r (mux_gives t a b z x y d e f one same)
+pub regrouped : (op inner : BinOp) (a x y z b c : Code) (w m width mask : ℕ) → a ≡ codes.Binary inner x y w m → inner ≡ BinOp.Or → z ≡ y → op ≡ BinOp.Or
+    → Replaces c (codes.Binary op z b width mask) → Replaces (codes.Binary BinOp.Or x c width mask) (codes.Binary op a b width mask)
+regrouped op inner a x y z b c w m width mask is f seen e h =
+    let a_is : a ≡ codes.Binary BinOp.Or x y w m = is ∙ ap (λ o. codes.Binary o x y w m) f in
+    let set : Replaces c (codes.Binary BinOp.Or y b width mask) = subst (λ o. Replaces c (codes.Binary o y b width mask)) e (subst (λ k. Replaces c (codes.Binary op k b width mask)) seen h) in
+    subst (λ o. Replaces (codes.Binary BinOp.Or x c width mask) (codes.Binary o a b width mask)) (sym e)
+    (subst (λ k. Replaces (codes.Binary BinOp.Or x c width mask) (codes.Binary BinOp.Or k b width mask)) (sym a_is) (or_chain x y b c w m width mask set))

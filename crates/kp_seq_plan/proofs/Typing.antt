@@ -1,20 +1,22 @@
 -- A code of each form has the values of a plan of that form, if its parts do.
-use Rattle.std.proofs.Common.{◌≡◌, ◌≢◌, ◌∙◌, ℕ, zero, suc, ◌+◌, ◌-◌, ◌/◌, ◌%◌, ◌^◌, ◌<◌, ◌≤◌, ◌==◌, List, [], ◌∷◌, ◌++◌, Option, Some, None, Bool, true, false, cond, length, get_or, take, drop, map, refl, ap, sym, subst, arith, ◌*◌, bit_or, bit_and, ⊎_elim, ◌⊎◌, ◌||◌, inl, inr}
-use Rattle.std.proofs.lemmas.List.{take_more, drop_more, get_or_past, Sums.sum_by-cons}
+use Rattle.std.proofs.Common.{◌≡◌, ◌≢◌, ◌∙◌, ℕ, zero, suc, ◌+◌, ◌-◌, ◌/◌, ◌%◌, ◌^◌, ◌<◌, ◌≤◌, ◌==◌, List, [], ◌∷◌, ◌++◌, Option, Some, None, Bool, true, false, cond, length, get_or, take, drop, map, refl, ap, sym, subst, arith, ⊎_elim, ◌⊎◌, ◌||◌, Result, Ok, Err, IfOk, IsErrAnd, MatchResult}
+use Rattle.std.proofs.lemmas.{List.take_more, List.drop_more, List.drop_all, List.get_or_past, List.length-map, List.get_or-map, List.Sums.sum_by-cons, Result.err_from_is_err_and}
 use Rattle.std.specs.{Prelude.sum_by, Prelude.slice_index, Prelude.nat_le, Option.option_map, Option.option_and_then, Option.option_zip}
+use Rattle.kp_base.specs.declared.outside.NoMemory.{NoMemory}
 use Rattle.kp_bits.specs.{Word.Word, Word.word, Word.IsWord, Word.not_of, Word.concat_of, Operators.is_shift}
 use Rattle.kp_bits.specs.Checked.{checked_join, checked_joined, checked_slice, checked_zext, checked_sext}
 use Rattle.kp_bits.specs.declared.operator.BinOp.{BinOp}
 use Rattle.kp_ast.specs.Checked.{all_there}
-use Rattle.kp_seq_plan.specs.inner.Parts.{AreTyped, GivesOne, GivesTwo, GivesMux, GivesJoined, GivesCall, GivesWord, IsMask, binary_found, binary_width, mux_found, join_found, values_in, joined_found, joined_below, call_found}
+use Rattle.kp_seq_plan.specs.inner.Parts.{AreTyped, Absent, Lacks, Yields, IsCode, GivesOne, GivesTwo, GivesMux, GivesWord, JoinedYet, Replaces, IsMask, binary_found, binary_width, mux_found, join_found, both_found, values_in, joined_found, joined_below, call_found, call_space}
 use Rattle.kp_seq_plan.proofs.Numbers.{binary_held, binary_fails, mux_held, mux_narrow, mux_other, join_held, join_fails, slice_held, slice_fails, zext_held, zext_fails, sext_held, sext_fails, not_held, top_is, more_is}
-use Rattle.kp_seq_plan.specs.{declared.plan.Plan.Plan, declared.code.Code.Code, declared.code.Typed.Typed, Names.at_place}
+use Rattle.kp_seq_plan.specs.{declared.plan.Plan.Plan, declared.code.Code.Code, declared.code.Typed.Typed, declared.lowering.Missing.Missing, Names.at_place}
 use Rattle.kp_seq_plan.specs.{Plans.Slots, Plans.meaning, Plans.space, Codes.value_of, Codes.value_level, Codes.space_of, Codes.space_level}
-use Rattle.kp_seq_plan.specs.Lowering.{Holds, Suits, AllSuit, IsTyped, Gives}
+use Rattle.kp_seq_plan.specs.Lowering.{Holds, Suits, AllSuit, IsTyped}
 use Rattle.kp_seq_plan.proofs.CodeCalls.{N, at, space_called, value_called}
 use Rattle.kp_seq_plan.proofs.CodeLevels.{code-Word, code-Name, code-Not, code-Binary, code-Mux, code-Join, code-Slice, code-Sext}
 use Rattle.kp_seq_plan.specs.declared.code.Code.TheVariants as leaf
 use Rattle.kp_seq_plan.specs.declared.code.Code.TheViews as codes
+use Rattle.kp_seq_plan.specs.declared.lowering.Missing.TheVariants as missing
 
 abbrev pub typed : Code → ℕ → Typed
 typed c w = record { code = c; width = w }
@@ -23,122 +25,95 @@ typed c w = record { code = c; width = w }
 pub held_as : (o : Option Word) (w a b : ℕ) → a ≡ b → Holds o w b → Holds o w a
 held_as o w a b e h = subst (Holds o w) (sym e) h
 
--- one part
-one_none : (g : Option Word → Option Word) → g None ≡ None → GivesOne g None None
-one_none g e = λ ws f n h s vs suit. ap g (h s vs suit) ∙ e
+-- a code that replaces another, with its width
+pub made : (ws : List (Option ℕ)) (f : Slots → Option Word) (n : ℕ) (d : Code) (w : ℕ) (code : Result Code NoMemory) (r : Result Typed Missing)
+    → IfOk code (λ c. Replaces c d) → IsCode code w r → IsTyped ws f n (typed d w) → Yields ws f n r
+made ws f n d w code (Ok t) h k is =
+    let one : Replaces t.code d = subst (λ x. IfOk x (λ c. Replaces c d)) k.0 h in
+    subst (λ m. IsTyped ws f n (typed t.code m)) (sym k.1) (record {
+      positive = is.positive;
+      at_most = is.at_most;
+      value = λ s vs suit. held_as (f s) w _ _ (one.values vs) (is.value s vs suit);
+      space = let x = one.space in let y = is.space in omega (arith, x, y);
+    })
+made ws f n d w code (Err e) h k is = λ q. absurd (cc (k, q))
 
-one_fails : (g : Option Word → Option Word) (a : Typed) → ((o : Option Word) (x : ℕ) → Holds o a.width x → g o ≡ None) → GivesOne g (Some a) None
-one_fails g a h = λ ws f n t s vs suit. h (f s) (value_of a.code vs) (t.value s vs suit)
+-- one part
+one_fails : (g : Option Word → Option Word) (a : Typed) → ((o : Option Word) (x : ℕ) → Holds o a.width x → g o ≡ None) → GivesOne g a (Err missing.Value)
+one_fails g a h = λ ws f n t q s vs suit. h (f s) (value_of a.code vs) (t.value s vs suit)
+
+-- what has the values of an operation on a part
+abbrev MakesOne : (Option Word → Option Word) → Typed → Typed → Type 0
+MakesOne g a c = (ws : List (Option ℕ)) (f : Slots → Option Word) (n : ℕ) → IsTyped ws f n a → IsTyped ws (λ s. g (f s)) n c
 
 one_held : (g : Option Word → Option Word) (a c : Typed) → (1 ≤ a.width → 1 ≤ c.width) → (a.width ≤ 64 → c.width ≤ 64) → space_of c.code ≤ space_of a.code
-    → ((o : Option Word) (vs : List ℕ) → 1 ≤ a.width → a.width ≤ 64 → Holds o a.width (value_of a.code vs) → Holds (g o) c.width (value_of c.code vs))
-    → GivesOne g (Some a) (Some c)
+    → ((o : Option Word) (vs : List ℕ) → Holds o a.width (value_of a.code vs) → Holds (g o) c.width (value_of c.code vs)) → MakesOne g a c
 one_held g a c low high room h = λ ws f n t. record {
   positive = low t.positive;
   at_most = high t.at_most;
-  value = λ s vs suit. h (f s) vs t.positive t.at_most (t.value s vs suit);
+  value = λ s vs suit. h (f s) vs (t.value s vs suit);
   space = let r = t.space in omega (arith, r, room);
 }
 
-pub not_none : (a : Option Typed) → a ≡ None → GivesOne (option_map not_of) a None
-not_none a e = subst (λ o. GivesOne (option_map not_of) o None) (sym e) (one_none (option_map not_of) refl)
+pub not_gives : (x : Typed) (m : ℕ) → IsMask x.width m → MakesOne (option_map not_of) x (typed (codes.Not x.code m) x.width)
+not_gives x m k =
+    one_held (option_map not_of) x (typed (codes.Not x.code m) x.width) (λ l. l) (λ l. l) (omega (arith, code-Not ℕ space_level x.code m))
+    (λ o vs h. held_as (option_map not_of o) x.width _ _ (at (code-Not N value_level x.code m) vs) (not_held o x.width (value_of x.code vs) m h (k h.word.positive h.word.at_most)))
 
-pub not_gives : (a : Option Typed) (x : Typed) (m : ℕ) → a ≡ Some x → IsMask x.width m → GivesOne (option_map not_of) a (Some (typed (codes.Not x.code m) x.width))
-not_gives a x m e k = subst (λ o. GivesOne (option_map not_of) o (Some (typed (codes.Not x.code m) x.width))) (sym e)
-    (one_held (option_map not_of) x (typed (codes.Not x.code m) x.width) (λ l. l) (λ l. l) (omega (arith, code-Not ℕ space_level x.code m))
-    (λ o vs low high h. held_as (option_map not_of o) x.width _ _ (at (code-Not N value_level x.code m) vs) (not_held o x.width (value_of x.code vs) m h (k low high))))
+pub slice_wrong : (hi lo : ℕ) (x : Typed) → (hi < lo) ⊎ (x.width ≤ hi) → GivesOne (option_and_then (checked_slice hi lo)) x (Err missing.Value)
+slice_wrong hi lo x l = one_fails (option_and_then (checked_slice hi lo)) x (λ o v held. slice_fails o x.width v hi lo held l)
 
-pub slice_none : (hi lo : ℕ) (a : Option Typed) → a ≡ None → GivesOne (option_and_then (checked_slice hi lo)) a None
-slice_none hi lo a e = subst (λ o. GivesOne (option_and_then (checked_slice hi lo)) o None) (sym e) (one_none (option_and_then (checked_slice hi lo)) refl)
-
-pub slice_wrong : (hi lo : ℕ) (a : Option Typed) (x : Typed) → a ≡ Some x → (hi < lo) ⊎ (x.width ≤ hi) → GivesOne (option_and_then (checked_slice hi lo)) a None
-slice_wrong hi lo a x e l = subst (λ o. GivesOne (option_and_then (checked_slice hi lo)) o None) (sym e)
-    (one_fails (option_and_then (checked_slice hi lo)) x (λ o v held. slice_fails o x.width v hi lo held l))
-
-pub slice_gives : (hi lo : ℕ) (a : Option Typed) (x : Typed) (w m : ℕ) → a ≡ Some x → lo ≤ hi → hi < x.width → w ≡ hi - lo + 1 → IsMask w m
-    → GivesOne (option_and_then (checked_slice hi lo)) a (Some (typed (codes.Slice x.code lo m) w))
-slice_gives hi lo a x w m e l k more mask =
+pub slice_gives : (hi lo : ℕ) (x : Typed) (w m : ℕ) → lo ≤ hi → hi < x.width → w ≡ hi - lo + 1 → IsMask w m → MakesOne (option_and_then (checked_slice hi lo)) x (typed (codes.Slice x.code lo m) w)
+slice_gives hi lo x w m l k more mask =
     let is : w ≡ hi + 1 - lo = omega (arith, more, l) in
-    subst (λ o. GivesOne (option_and_then (checked_slice hi lo)) o (Some (typed (codes.Slice x.code lo m) w))) (sym e)
-    (subst (λ n. GivesOne (option_and_then (checked_slice hi lo)) (Some x) (Some (typed (codes.Slice x.code lo m) n))) (sym is)
+    subst (λ n. MakesOne (option_and_then (checked_slice hi lo)) x (typed (codes.Slice x.code lo m) n)) (sym is)
     (one_held (option_and_then (checked_slice hi lo)) x (typed (codes.Slice x.code lo m) (hi + 1 - lo)) (λ z. omega arith) (λ z. omega arith) (omega (arith, code-Slice ℕ space_level x.code lo m))
-    (λ o vs low high h.
+    (λ o vs h.
+    let most = h.word.at_most in
     let b : m ≡ 2 ^ (hi + 1 - lo) - 1 = mask (omega arith) (omega arith) ∙ ap (λ n. 2 ^ n - 1) is in
-    held_as (option_and_then (checked_slice hi lo) o) (hi + 1 - lo) _ _ (at (code-Slice N value_level x.code lo m) vs) (slice_held o x.width (value_of x.code vs) hi lo m h l k b))))
+    held_as (option_and_then (checked_slice hi lo) o) (hi + 1 - lo) _ _ (at (code-Slice N value_level x.code lo m) vs) (slice_held o x.width (value_of x.code vs) hi lo m h l k b)))
 
-pub zext_none : (n : ℕ) (a : Option Typed) → a ≡ None → GivesOne (option_and_then (checked_zext n)) a None
-zext_none n a e = subst (λ o. GivesOne (option_and_then (checked_zext n)) o None) (sym e) (one_none (option_and_then (checked_zext n)) refl)
+pub zext_wrong : (n : ℕ) (x : Typed) → (n < x.width) ⊎ (64 < n) → GivesOne (option_and_then (checked_zext n)) x (Err missing.Value)
+zext_wrong n x l = one_fails (option_and_then (checked_zext n)) x (λ o v held. zext_fails o x.width v n held l)
 
-pub zext_wrong : (n : ℕ) (a : Option Typed) (x : Typed) → a ≡ Some x → (n < x.width) ⊎ (64 < n) → GivesOne (option_and_then (checked_zext n)) a None
-zext_wrong n a x e l = subst (λ o. GivesOne (option_and_then (checked_zext n)) o None) (sym e)
-    (one_fails (option_and_then (checked_zext n)) x (λ o v held. zext_fails o x.width v n held l))
+pub zext_gives : (n : ℕ) (x : Typed) → x.width ≤ n → n ≤ 64 → GivesOne (option_and_then (checked_zext n)) x (Ok (typed x.code n))
+zext_gives n x l k =
+    one_held (option_and_then (checked_zext n)) x (typed x.code n) (λ z. omega arith) (λ z. k) (omega arith) (λ o vs h. zext_held o x.width (value_of x.code vs) n h l k)
 
-pub zext_gives : (n : ℕ) (a : Option Typed) (x : Typed) → a ≡ Some x → x.width ≤ n → n ≤ 64 → GivesOne (option_and_then (checked_zext n)) a (Some (typed x.code n))
-zext_gives n a x e l k = subst (λ o. GivesOne (option_and_then (checked_zext n)) o (Some (typed x.code n))) (sym e)
-    (one_held (option_and_then (checked_zext n)) x (typed x.code n) (λ z. omega arith) (λ z. k) (omega arith)
-    (λ o vs low high h. zext_held o x.width (value_of x.code vs) n h l k))
+pub sext_wrong : (n : ℕ) (x : Typed) → (n < x.width) ⊎ (64 < n) → GivesOne (option_and_then (checked_sext n)) x (Err missing.Value)
+sext_wrong n x l = one_fails (option_and_then (checked_sext n)) x (λ o v held. sext_fails o x.width v n held l)
 
-pub sext_none : (n : ℕ) (a : Option Typed) → a ≡ None → GivesOne (option_and_then (checked_sext n)) a None
-sext_none n a e = subst (λ o. GivesOne (option_and_then (checked_sext n)) o None) (sym e) (one_none (option_and_then (checked_sext n)) refl)
-
-pub sext_wrong : (n : ℕ) (a : Option Typed) (x : Typed) → a ≡ Some x → (n < x.width) ⊎ (64 < n) → GivesOne (option_and_then (checked_sext n)) a None
-sext_wrong n a x e l = subst (λ o. GivesOne (option_and_then (checked_sext n)) o None) (sym e)
-    (one_fails (option_and_then (checked_sext n)) x (λ o v held. sext_fails o x.width v n held l))
-
-pub sext_gives : (n : ℕ) (a : Option Typed) (x : Typed) (narrow wide top more : ℕ) → a ≡ Some x → x.width ≤ n → n ≤ 64 → IsMask x.width narrow → IsMask n wide
-    → top ≡ narrow / 2 → more ≡ (wide + (2 ^ 64 - narrow)) % 2 ^ 64 → GivesOne (option_and_then (checked_sext n)) a (Some (typed (codes.Sext x.code top more) n))
-sext_gives n a x narrow wide top more e l k u v t m = subst (λ o. GivesOne (option_and_then (checked_sext n)) o (Some (typed (codes.Sext x.code top more) n))) (sym e)
-    (one_held (option_and_then (checked_sext n)) x (typed (codes.Sext x.code top more) n) (λ z. omega arith) (λ z. k) (omega (arith, code-Sext ℕ space_level x.code top more))
-    (λ o vs low high h.
-    let b : narrow ≡ 2 ^ x.width - 1 = u low high in
+pub sext_gives : (n : ℕ) (x : Typed) (narrow wide top more : ℕ) → x.width ≤ n → n ≤ 64 → IsMask x.width narrow → IsMask n wide
+    → top ≡ narrow / 2 → more ≡ (wide + (2 ^ 64 - narrow)) % 2 ^ 64 → MakesOne (option_and_then (checked_sext n)) x (typed (codes.Sext x.code top more) n)
+sext_gives n x narrow wide top more l k u v t m =
+    one_held (option_and_then (checked_sext n)) x (typed (codes.Sext x.code top more) n) (λ z. omega arith) (λ z. k) (omega (arith, code-Sext ℕ space_level x.code top more))
+    (λ o vs h.
+    let low = h.word.positive in
+    let b : narrow ≡ 2 ^ x.width - 1 = u low h.word.at_most in
     let c : wide ≡ 2 ^ n - 1 = v (omega arith) k in
     held_as (option_and_then (checked_sext n) o) n _ _ (at (code-Sext N value_level x.code top more) vs)
-    (sext_held o x.width (value_of x.code vs) n top more h l k (t ∙ top_is x.width narrow low b) (m ∙ more_is x.width n wide narrow l k c b))))
+    (sext_held o x.width (value_of x.code vs) n top more h l k (t ∙ top_is x.width narrow low b) (m ∙ more_is x.width n wide narrow l k c b)))
 
 -- two parts
--- if one of two has no value, and if both have
-zip_none : {A B : Type 0} (a : Option A) (b : Option B) → option_zip a b ≡ None → (a ≡ None) ⊎ (b ≡ None)
-zip_none None b e = inl refl
-zip_none (Some x) None e = inr refl
-zip_none (Some x) (Some y) e = cc
+two_fails : (g : Option Word → Option Word → Option Word) (a b : Typed) → ((o p : Option Word) (x y : ℕ) → Holds o a.width x → Holds p b.width y → g o p ≡ None) → GivesTwo g a b (Err missing.Value)
+two_fails g a b e = λ ws f h n m s t q slots vs suit. e (f slots) (h slots) (value_of a.code vs) (value_of b.code vs) (s.value slots vs suit) (t.value slots vs suit)
 
-zip_both : {A B : Type 0} (a : Option A) (b : Option B) (x : A) (y : B) → option_zip a b ≡ Some (x, y) → (a ≡ Some x) × (b ≡ Some y)
-zip_both None b x y e = cc
-zip_both (Some u) None x y e = cc
-zip_both {A} {B} (Some u) (Some v) x y e = (ap (λ o. option_map (λ (p : A × B). p.0) o) e, ap (λ o. option_map (λ (p : A × B). p.1) o) e)
-
-two_unless : (g : Option Word → Option Word → Option Word) (a b : Option Typed) → ((p : Option Word) → g None p ≡ None) → ((o : Option Word) → g o None ≡ None) → option_zip a b ≡ None → GivesTwo g a b None
-two_unless g a b first second e = ⊎_elim
-    (λ (none : a ≡ None). subst (λ o. GivesTwo g o b None) (sym none) (λ ws f h n m s t vs v suit. ap (λ o. g o (h vs)) (s vs v suit) ∙ first (h vs)))
-    (λ (none : b ≡ None). subst (λ o. GivesTwo g a o None) (sym none) (λ ws f h n m s t vs v suit. ap (g (f vs)) (t vs v suit) ∙ second (f vs)))
-    (zip_none a b e)
-
-two_fails : (g : Option Word → Option Word → Option Word) (a b : Typed) → ((o p : Option Word) (x y : ℕ) → Holds o a.width x → Holds p b.width y → g o p ≡ None) → GivesTwo g (Some a) (Some b) None
-two_fails g a b e = λ ws f h n m s t slots vs suit. e (f slots) (h slots) (value_of a.code vs) (value_of b.code vs) (s.value slots vs suit) (t.value slots vs suit)
+abbrev MakesTwo : (Option Word → Option Word → Option Word) → Typed → Typed → Typed → Type 0
+MakesTwo g a b c =
+    (ws : List (Option ℕ)) (f h : Slots → Option Word) (n m : ℕ) → IsTyped ws f n a → IsTyped ws h m b → IsTyped ws (λ s. g (f s) (h s)) (n + m) c
 
 two_held : (g : Option Word → Option Word → Option Word) (a b c : Typed) → (1 ≤ a.width → 1 ≤ c.width) → (a.width ≤ 64 → c.width ≤ 64) → space_of c.code ≤ space_of a.code + space_of b.code
-    → ((o p : Option Word) (vs : List ℕ) → 1 ≤ a.width → a.width ≤ 64 → Holds o a.width (value_of a.code vs) → Holds p b.width (value_of b.code vs) → Holds (g o p) c.width (value_of c.code vs))
-    → GivesTwo g (Some a) (Some b) (Some c)
+    → ((o p : Option Word) (vs : List ℕ) → Holds o a.width (value_of a.code vs) → Holds p b.width (value_of b.code vs) → Holds (g o p) c.width (value_of c.code vs))
+    → MakesTwo g a b c
 two_held g a b c low high room e = λ ws f h n m s t. record {
   positive = low s.positive;
   at_most = high s.at_most;
-  value = λ slots vs suit. e (f slots) (h slots) vs s.positive s.at_most (s.value slots vs suit) (t.value slots vs suit);
+  value = λ slots vs suit. e (f slots) (h slots) vs (s.value slots vs suit) (t.value slots vs suit);
   space = let q = s.space in let r = t.space in omega (arith, q, r, room);
 }
 
-none_right : (op : BinOp) (o : Option Word) → binary_found op o None ≡ None
-none_right op None = refl
-none_right op (Some w) = refl
-
-pub binary_wrong : (op : BinOp) (a b : Option Typed) (x y : Typed) → a ≡ Some x → b ≡ Some y → (is_shift op || x.width == y.width) ≡ false → GivesTwo (binary_found op) a b None
-binary_wrong op a b x y d e n = subst (λ o. GivesTwo (binary_found op) o b None) (sym d) (subst (λ o. GivesTwo (binary_found op) (Some x) o None) (sym e)
-    (two_fails (binary_found op) x y (λ o p u v h k. binary_fails op o p x.width y.width u v h k n)))
-
-pub binary_unless : (op : BinOp) (a b : Option Typed) → option_zip a b ≡ None → GivesTwo (binary_found op) a b None
-binary_unless op a b e = two_unless (binary_found op) a b (λ p. refl) (none_right op) e
-
-pub two_with : (g : Option Word → Option Word → Option Word) (a b : Option Typed) (x y : Typed) (c : Option Typed) → option_zip a b ≡ Some (x, y) → GivesTwo g (Some x) (Some y) c → GivesTwo g a b c
-two_with g a b x y c e h = let is = zip_both a b x y e in subst (λ o. GivesTwo g o b c) (sym is.0) (subst (λ o. GivesTwo g (Some x) o c) (sym is.1) h)
+pub binary_wrong : (op : BinOp) (x y : Typed) → (is_shift op || x.width == y.width) ≡ false → GivesTwo (binary_found op) x y (Err missing.Value)
+binary_wrong op x y n = two_fails (binary_found op) x y (λ o p u v h k. binary_fails op o p x.width y.width u v h k n)
 
 low_width : (op : BinOp) (w : ℕ) → 1 ≤ w → 1 ≤ binary_width op w
 low_width BinOp.Eq w h = omega arith
@@ -150,93 +125,45 @@ high_width BinOp.Eq w h = omega arith
 high_width BinOp.Lt w h = omega arith
 high_width _ w h = h
 
-pub binary_gives : (op : BinOp) (a b : Option Typed) (x y : Typed) (w m : ℕ) → a ≡ Some x → b ≡ Some y → (is_shift op || x.width == y.width) ≡ true → w ≡ binary_width op x.width → IsMask x.width m
-    → GivesTwo (binary_found op) a b (Some (typed (codes.Binary op x.code y.code x.width m) w))
-binary_gives op a b x y w m d e same is mask =
+pub binary_gives : (op : BinOp) (x y : Typed) (m : ℕ) → (is_shift op || x.width == y.width) ≡ true → IsMask x.width m
+    → MakesTwo (binary_found op) x y (typed (codes.Binary op x.code y.code x.width m) (binary_width op x.width))
+binary_gives op x y m same mask =
     let c : Code = codes.Binary op x.code y.code x.width m in
-    subst (λ o. GivesTwo (binary_found op) o b (Some (typed c w))) (sym d) (subst (λ o. GivesTwo (binary_found op) (Some x) o (Some (typed c w))) (sym e)
-    (subst (λ n. GivesTwo (binary_found op) (Some x) (Some y) (Some (typed c n))) (sym is)
-    (two_held (binary_found op) x y (typed c (binary_width op x.width)) (low_width op x.width) (high_width op x.width) (omega (arith, code-Binary ℕ space_level op x.code y.code x.width m))
-    (λ o p vs low high h k.
+    two_held (binary_found op) x y (typed c (binary_width op x.width)) (low_width op x.width) (high_width op x.width) (omega (arith, code-Binary ℕ space_level op x.code y.code x.width m))
+    (λ o p vs h k.
     held_as (binary_found op o p) (binary_width op x.width) _ _ (at (code-Binary N value_level op x.code y.code x.width m) vs)
-    (binary_held o p x.width y.width (value_of x.code vs) (value_of y.code vs) m h k (mask low high) op same)))))
+    (binary_held o p x.width y.width (value_of x.code vs) (value_of y.code vs) m h k (mask h.word.positive h.word.at_most) op same))
 
-none_below : (o : Option Word) → join_found o None ≡ None
-none_below None = refl
-none_below (Some w) = refl
+pub join_over : (x y : Typed) → (64 < x.width) ⊎ (64 - x.width < y.width) → GivesTwo join_found x y (Err missing.Value)
+join_over x y l =
+    two_fails join_found x y (λ o p u v h k. join_fails o p x.width y.width u v h k (⊎_elim (λ (m : 64 < x.width). omega arith) (λ (m : 64 - x.width < y.width). omega arith) l))
 
-pub join_unless : (a b : Option Typed) → option_zip a b ≡ None → GivesTwo join_found a b None
-join_unless a b e = two_unless join_found a b (λ p. refl) none_below e
-
-pub join_over : (a b : Option Typed) (x y : Typed) → a ≡ Some x → b ≡ Some y → (64 < x.width) ⊎ (64 - x.width < y.width) → GivesTwo join_found a b None
-join_over a b x y d e l = subst (λ o. GivesTwo join_found o b None) (sym d) (subst (λ o. GivesTwo join_found (Some x) o None) (sym e)
-    (two_fails join_found x y (λ o p u v h k. join_fails o p x.width y.width u v h k (⊎_elim (λ (m : 64 < x.width). omega arith) (λ (m : 64 - x.width < y.width). omega arith) l))))
-
-pub join_gives : (a b : Option Typed) (x y : Typed) (w : ℕ) → a ≡ Some x → b ≡ Some y → x.width ≤ 64 → y.width ≤ 64 - x.width → w ≡ x.width + y.width
-    → GivesTwo join_found a b (Some (typed (codes.Join x.code y.code y.width) w))
-join_gives a b x y w d e one two is =
-    let l : w ≤ 64 = omega (arith, one, two, is) in
-    let c : Code = codes.Join x.code y.code y.width in
-    subst (λ o. GivesTwo join_found o b (Some (typed c w))) (sym d) (subst (λ o. GivesTwo join_found (Some x) o (Some (typed c w))) (sym e)
-    (two_held join_found x y (typed c w) (λ z. omega (arith, is)) (λ z. l) (omega (arith, code-Join ℕ space_level x.code y.code y.width))
-    (λ o p vs low high h k.
-    held_as (join_found o p) w _ _ (at (code-Join N value_level x.code y.code y.width) vs)
-    (subst (λ n. Holds (join_found o p) n (bit_or (value_of x.code vs * 2 ^ bit_and y.width 63 % 2 ^ 64) (value_of y.code vs))) (sym is) (join_held o p x.width y.width (value_of x.code vs) (value_of y.code vs) h k (omega (arith, is)))))))
+pub join_gives : (x y : Typed) → x.width ≤ 64 → y.width ≤ 64 - x.width → MakesTwo join_found x y (typed (codes.Join x.code y.code y.width) (x.width + y.width))
+join_gives x y one two =
+    two_held join_found x y (typed (codes.Join x.code y.code y.width) (x.width + y.width)) (λ z. omega arith) (λ z. omega arith) (omega (arith, code-Join ℕ space_level x.code y.code y.width))
+    (λ o p vs h k.
+    held_as (join_found o p) (x.width + y.width) _ _ (at (code-Join N value_level x.code y.code y.width) vs)
+    (join_held o p x.width y.width (value_of x.code vs) (value_of y.code vs) h k (omega arith)))
 
 -- a choice
-mux_first : (t o p : Option Word) → t ≡ None → mux_found t o p ≡ None
-mux_first t o p e = ap (λ s. mux_found s o p) e
-
-mux_second : (t o p : Option Word) → o ≡ None → mux_found t o p ≡ None
-mux_second None o p e = refl
-mux_second (Some c) o p e = ap (λ s. mux_found (Some c) s p) e
-
-mux_third : (t o p : Option Word) → p ≡ None → mux_found t o p ≡ None
-mux_third None o p e = refl
-mux_third (Some c) None p e = refl
-mux_third (Some c) (Some x) p e = ap (λ s. mux_found (Some c) (Some x) s) e
-
-pub mux_none : (t a b : Option Typed) → t ≡ None → GivesMux t a b None
-mux_none t a b e = subst (λ o. GivesMux o a b None) (sym e) (λ ws f g h l n m u v w s vs suit. mux_first (f s) (g s) (h s) (u s vs suit))
-
-pub mux_no_yes : (t a b : Option Typed) → a ≡ None → GivesMux t a b None
-mux_no_yes t a b e = subst (λ o. GivesMux t o b None) (sym e) (λ ws f g h l n m u v w s vs suit. mux_second (f s) (g s) (h s) (v s vs suit))
-
-pub mux_no_no : (t a b : Option Typed) → b ≡ None → GivesMux t a b None
-mux_no_no t a b e = subst (λ o. GivesMux t a o None) (sym e) (λ ws f g h l n m u v w s vs suit. mux_third (f s) (g s) (h s) (w s vs suit))
-
-pub mux_unless : (t a b : Option Typed) → option_zip t (option_zip a b) ≡ None → GivesMux t a b None
-mux_unless t a b e = ⊎_elim (mux_none t a b) (λ k. ⊎_elim (mux_no_yes t a b) (mux_no_no t a b) (zip_none a b k)) (zip_none t (option_zip a b) e)
-
-pub mux_with : (t a b : Option Typed) (z x y : Typed) (c : Option Typed) → option_zip t (option_zip a b) ≡ Some (z, (x, y)) → GivesMux (Some z) (Some x) (Some y) c → GivesMux t a b c
-mux_with t a b z x y c e h =
-    let is = zip_both t (option_zip a b) z (x, y) e in
-    let both = zip_both a b x y is.1 in
-    subst (λ o. GivesMux o a b c) (sym is.0) (subst (λ o. GivesMux (Some z) o b c) (sym both.0) (subst (λ o. GivesMux (Some z) (Some x) o c) (sym both.1) h))
-
-pub mux_wrong : (t a b : Option Typed) (z x y : Typed) → t ≡ Some z → a ≡ Some x → b ≡ Some y → (z.width ≢ 1) ⊎ (x.width ≢ y.width) → GivesMux t a b None
-mux_wrong t a b z x y c d e k =
-    subst (λ o. GivesMux o a b None) (sym c) (subst (λ o. GivesMux (Some z) o b None) (sym d) (subst (λ o. GivesMux (Some z) (Some x) o None) (sym e)
-    (λ ws f g h l n m u v w s vs suit. ⊎_elim
+pub mux_wrong : (z x y : Typed) → (z.width ≢ 1) ⊎ (x.width ≢ y.width) → GivesMux z x y (Err missing.Value)
+mux_wrong z x y k = λ ws f g h l n m u v w e s vs suit. ⊎_elim
     (λ (q : z.width ≢ 1). mux_narrow (f s) (g s) (h s) z.width x.width y.width (value_of z.code vs) (value_of x.code vs) (value_of y.code vs) (u.value s vs suit) (v.value s vs suit) (w.value s vs suit) q)
-    (λ (q : x.width ≢ y.width). mux_other (f s) (g s) (h s) z.width x.width y.width (value_of z.code vs) (value_of x.code vs) (value_of y.code vs) (u.value s vs suit) (v.value s vs suit) (w.value s vs suit) q) k)))
+    (λ (q : x.width ≢ y.width). mux_other (f s) (g s) (h s) z.width x.width y.width (value_of z.code vs) (value_of x.code vs) (value_of y.code vs) (u.value s vs suit) (v.value s vs suit) (w.value s vs suit) q) k
 
-pub mux_gives : (t a b : Option Typed) (z x y : Typed) → t ≡ Some z → a ≡ Some x → b ≡ Some y → z.width ≡ 1 → x.width ≡ y.width
-    → GivesMux t a b (Some (typed (codes.Mux z.code x.code y.code) x.width))
-mux_gives t a b z x y c d e one same =
-    let r : Typed = typed (codes.Mux z.code x.code y.code) x.width in
-    subst (λ o. GivesMux o a b (Some r)) (sym c) (subst (λ o. GivesMux (Some z) o b (Some r)) (sym d) (subst (λ o. GivesMux (Some z) (Some x) o (Some r)) (sym e)
-    (λ ws f g h l n m u v w. record {
-      positive = v.positive;
-      at_most = v.at_most;
-      value = λ s vs suit.
-          held_as (mux_found (f s) (g s) (h s)) x.width _ _ (at (code-Mux N value_level z.code x.code y.code) vs)
-          (mux_held (f s) (g s) (h s) z.width x.width y.width (value_of z.code vs) (value_of x.code vs) (value_of y.code vs) (u.value s vs suit) (v.value s vs suit) (w.value s vs suit) one same);
-      space = let i = u.space in let j = v.space in let k = w.space in omega (arith, i, j, k, code-Mux ℕ space_level z.code x.code y.code);
-    })))
+pub mux_gives : (z x y : Typed) → z.width ≡ 1 → x.width ≡ y.width → (ws : List (Option ℕ)) (t f g : Slots → Option Word) (l n m : ℕ) → IsTyped ws t l z → IsTyped ws f n x → IsTyped ws g m y
+    → IsTyped ws (λ s. mux_found (t s) (f s) (g s)) (l + (n + m)) (typed (codes.Mux z.code x.code y.code) x.width)
+mux_gives z x y one same ws f g h l n m u v w = record {
+  positive = v.positive;
+  at_most = v.at_most;
+  value = λ s vs suit.
+      held_as (mux_found (f s) (g s) (h s)) x.width _ _ (at (code-Mux N value_level z.code x.code y.code) vs)
+      (mux_held (f s) (g s) (h s) z.width x.width y.width (value_of z.code vs) (value_of x.code vs) (value_of y.code vs) (u.value s vs suit) (v.value s vs suit) (w.value s vs suit) one same);
+  space = let i = u.space in let j = v.space in let k = w.space in omega (arith, i, j, k, code-Mux ℕ space_level z.code x.code y.code);
+}
 
 -- a word, and a name
-pub word_gives : (w : Word) (v n : ℕ) → IsWord w → v ≡ w.value → n ≡ w.width → GivesWord (Some w) (Some (typed (leaf.Word v) n))
+pub word_gives : (w : Word) (v n : ℕ) → IsWord w → v ≡ w.value → n ≡ w.width → GivesWord (Some w) (Ok (typed (leaf.Word v) n))
 word_gives w v n h e k = λ ws. record {
   positive = let p = h.positive in omega (arith, k, p);
   at_most = let p = h.at_most in omega (arith, k, p);
@@ -251,9 +178,12 @@ suits_at (w ∷ ws) (s ∷ slots) (v ∷ vs) zero h = h.0
 suits_at (w ∷ ws) (s ∷ slots) (v ∷ vs) (suc i) h = suits_at ws slots vs i h.1
 suits_at _ _ _ i h = absurd h
 
+pub word_nowhere : (w : Option Word) → w ≡ None → GivesWord w (Err missing.Value)
+word_nowhere w e = λ ws q s vs suit. e
+
 pub name_gives : (ws : List (Option ℕ)) (o : Option ℕ) (i w : ℕ) → o ≡ Some i → get_or ws i None ≡ Some w → 1 ≤ w → w ≤ 64
-    → Gives ws (λ s. at_place s o) 0 (Some (typed (leaf.Name i) w))
-name_gives ws o i w e is l k = subst (λ p. Gives ws (λ s. at_place s p) 0 (Some (typed (leaf.Name i) w))) (sym e) (record {
+    → IsTyped ws (λ s. at_place s o) 0 (typed (leaf.Name i) w)
+name_gives ws o i w e is l k = subst (λ p. IsTyped ws (λ s. at_place s p) 0 (typed (leaf.Name i) w)) (sym e) (record {
   positive = l;
   at_most = k;
   value = λ s vs suit.
@@ -262,17 +192,17 @@ name_gives ws o i w e is l k = subst (λ p. Gives ws (λ s. at_place s p) 0 (Som
   space = omega (arith, code-Name ℕ space_level i);
 })
 
-pub name_nowhere : (ws : List (Option ℕ)) (o : Option ℕ) → o ≡ None → Gives ws (λ s. at_place s o) 0 None
+pub name_nowhere : (ws : List (Option ℕ)) (o : Option ℕ) → o ≡ None → Absent ws (λ s. at_place s o)
 name_nowhere ws o e = λ s vs suit. ap (at_place s) e
 
-pub name_unknown : (ws : List (Option ℕ)) (o : Option ℕ) (i : ℕ) → o ≡ Some i → get_or ws i None ≡ None → Gives ws (λ s. at_place s o) 0 None
+pub name_unknown : (ws : List (Option ℕ)) (o : Option ℕ) (i : ℕ) → o ≡ Some i → get_or ws i None ≡ None → Absent ws (λ s. at_place s o)
 name_unknown ws o i e is = λ s vs suit. ap (at_place s) e ∙ subst (λ x. Suits x (get_or s i None) (slice_index vs i)) is (suits_at ws s vs i suit)
 
-pub name_past : (ws : List (Option ℕ)) (o : Option ℕ) (i : ℕ) → o ≡ Some i → length ws ≤ i → Gives ws (λ s. at_place s o) 0 None
+pub name_past : (ws : List (Option ℕ)) (o : Option ℕ) (i : ℕ) → o ≡ Some i → length ws ≤ i → Absent ws (λ s. at_place s o)
 name_past ws o i e l = name_unknown ws o i e (get_or_past ws i None l)
 
 -- no word has such a width
-pub name_wrong : (ws : List (Option ℕ)) (o : Option ℕ) (i w : ℕ) → o ≡ Some i → get_or ws i None ≡ Some w → (w ≡ 0) ⊎ (64 < w) → Gives ws (λ s. at_place s o) 0 None
+pub name_wrong : (ws : List (Option ℕ)) (o : Option ℕ) (i w : ℕ) → o ≡ Some i → get_or ws i None ≡ Some w → (w ≡ 0) ⊎ (64 < w) → Absent ws (λ s. at_place s o)
 name_wrong ws o i w e is bad = λ s vs suit.
     let h : Suits (Some w) (get_or s i None) (slice_index vs i) = subst (λ x. Suits x (get_or s i None) (slice_index vs i)) is (suits_at ws s vs i suit) in
     let least = h.word.positive in let most = h.word.at_most in
@@ -299,31 +229,22 @@ below_more None p os = refl
 below_more (Some a) None os = refl
 below_more (Some a) (Some b) os = below_by a b (all_there os)
 
-pub gives_same : (ws : List (Option ℕ)) (f g : Slots → Option Word) (n m : ℕ) (c : Option Typed) → ((s : Slots) → g s ≡ f s) → n ≤ m → Gives ws f n c → Gives ws g m c
-gives_same ws f g n m None e l h = λ s vs suit. e s ∙ h s vs suit
-gives_same ws f g n m (Some c) e l h = record {
+pub gives_same : (ws : List (Option ℕ)) (f g : Slots → Option Word) (n m : ℕ) (r : Result Typed Missing) → ((s : Slots) → g s ≡ f s) → n ≤ m → Yields ws f n r → Yields ws g m r
+gives_same ws f g n m (Err x) e l h = λ q s vs suit. e s ∙ h q s vs suit
+gives_same ws f g n m (Ok c) e l h = record {
   positive = h.positive;
   at_most = h.at_most;
   value = λ s vs suit. subst (λ o. Holds o c.width (value_of c.code vs)) (sym (e s)) (h.value s vs suit);
   space = let r = h.space in omega (arith, r, l);
 }
 
+-- what the exit of a `?` returns
+pub out : {T X : Type 0} (ws : List (Option ℕ)) {e : Missing} (R : T → Type 0) (f : Slots → Option X) (r : Result T Missing) → IsErrAnd r (λ y. y ≡ e) → Lacks ws f e → MatchResult r R (Lacks ws f)
+out ws R f r h m = let p = err_from_is_err_and r h in rw (p.1, p.2) m
+
 none_more : (o : Option Word) → option_and_then (λ (a : Word). Some a) o ≡ o
 none_more None = refl
 none_more (Some a) = refl
-
-pub joined_more : (ws : List (Option ℕ)) (ps : List Plan) (p : Plan) (rest : List Plan) (all part next c : Option Typed) → ps ≡ p ∷ rest → Gives ws (meaning p) (space p) part
-    → GivesTwo join_found all part next → GivesJoined ws rest next c → GivesJoined ws ps all c
-joined_more ws ps p rest all part next c e h two more = subst (λ xs. GivesJoined ws xs all c) (sym e)
-    (λ f n g.
-    let j = more (λ s. join_found (f s) (meaning p s)) (n + space p) (two ws f (meaning p) n (space p) g h) in
-    gives_same ws (joined_below (λ s. join_found (f s) (meaning p s)) rest) (joined_below f (p ∷ rest)) ((n + space p) + sum_by space rest) (n + sum_by space (p ∷ rest)) c
-    (λ s. below_more (f s) (meaning p s) (map (λ q. meaning q s) rest)) (omega (arith, sum_by-cons space p rest)) j)
-
--- from one part to the next
-pub joined_next : (ws : List (Option ℕ)) (rest : List Plan) (i : ℕ) (p : Plan) (all part next c : Option Typed) → i < length rest → p ≡ get_or rest i p → Gives ws (meaning p) (space p) part
-    → GivesTwo join_found all part next → GivesJoined ws (drop (i + 1) rest) next c → GivesJoined ws (drop i rest) all c
-joined_next ws rest i p all part next c l is h two more = joined_more ws (drop i rest) p (drop (i + 1) rest) all part next c (drop_more rest i p l ∙ ap (λ x. x ∷ drop (i + 1) rest) (sym is)) h two more
 
 first_below : (o : Option Word) (os : Option (List Word)) → option_and_then checked_joined (option_and_then (λ x. option_map (λ xs. x ∷ xs) os) o) ≡ option_and_then (λ a. option_and_then (checked_join a) os) o
 first_below None os = refl
@@ -334,11 +255,59 @@ first_there : (o : Option Word) (os : List (Option Word)) → option_and_then ch
 first_there None os = refl
 first_there (Some x) os = first_below (Some x) (all_there os)
 
-pub joined_first : (ws : List (Option ℕ)) (ps : List Plan) (p : Plan) (rest : List Plan) (part c : Option Typed) → ps ≡ p ∷ rest → Gives ws (meaning p) (space p) part
-    → GivesJoined ws rest part c → Gives ws (joined_found ps) (sum_by space ps) c
-joined_first ws ps p rest part c e h j = subst (λ xs. Gives ws (joined_found xs) (sum_by space xs) c) (sym e)
-    (gives_same ws (joined_below (meaning p) rest) (joined_found (p ∷ rest)) (space p + sum_by space rest) (sum_by space (p ∷ rest)) c
-    (λ s. first_there (meaning p s) (map (λ q. meaning q s) rest)) (omega (arith, sum_by-cons space p rest)) (j (meaning p) (space p) h))
+none_below : (o : Option Word) → join_found o None ≡ None
+none_below None = refl
+none_below (Some w) = refl
+
+-- a part that has no value
+none_joined : (o : Option Word) (os : Option (List Word)) → o ≡ None → option_and_then (λ a. option_and_then (checked_join a) os) o ≡ None
+none_joined o os e = ap (option_and_then (λ a. option_and_then (checked_join a) os)) e
+
+-- the first part
+module _ (ws : List (Option ℕ)) {ps : List Plan} {p : Plan} {rest : List Plan} (first : ps ≡ p ∷ rest) where
+  pub joined_first : {c : Typed} → IsTyped ws (meaning p) (space p) c → JoinedYet ws ps rest c
+  joined_first {c} h = subst (λ xs. JoinedYet ws xs rest c) (sym first) (record {
+    found = meaning p;
+    room = space p;
+    typed = h;
+    same = λ s. first_there (meaning p s) (map (λ q. meaning q s) rest);
+    few = omega (arith, sum_by-cons space p rest);
+  })
+
+  pub first_lacks : {e : Missing} → Lacks ws (meaning p) e → Lacks ws (joined_found ps) e
+  first_lacks k = λ q s vs suit. ap (λ xs. joined_found xs s) first ∙ first_there (meaning p s) (map (λ x. meaning x s) rest) ∙ none_joined _ _ (k q s vs suit)
+
+-- from one part to the next
+module _ {ws : List (Option ℕ)} {ps : List Plan} {all : Typed} (rest : List Plan) (i : ℕ) (h : JoinedYet ws ps (drop i rest) all) where
+  module _ (p : Plan) (l : i < length rest) (here : p ≡ get_or rest i p) where
+    abbrev both : Slots → Option Word
+    both s = join_found (h.found s) (meaning p s)
+
+    left : drop i rest ≡ p ∷ drop (i + 1) rest
+    left = drop_more rest i p l ∙ ap (λ x. x ∷ drop (i + 1) rest) (sym here)
+
+    step : (s : Slots) → joined_found ps s ≡ joined_below both (drop (i + 1) rest) s
+    step s = h.same s ∙ ap (λ xs. joined_below h.found xs s) left ∙ below_more (h.found s) (meaning p s) (map (λ q. meaning q s) (drop (i + 1) rest))
+
+    pub joined_lacks : {e : Missing} → Lacks ws (meaning p) e → Lacks ws (joined_found ps) e
+    joined_lacks k = λ q s vs suit. step s ∙ none_joined _ _ (ap (join_found (h.found s)) (k q s vs suit) ∙ none_below (h.found s))
+
+    module _ {low : Typed} (part : IsTyped ws (meaning p) (space p) low) where
+      pub joined_next : {c : Typed} → GivesTwo join_found all low (Ok c) → JoinedYet ws ps (drop (i + 1) rest) c
+      joined_next two = record {
+        found = both;
+        room = h.room + space p;
+        typed = two ws h.found (meaning p) h.room (space p) h.typed part;
+        same = step;
+        few = let m = h.few in omega (arith, m, ap (sum_by space) left, sum_by-cons space p (drop (i + 1) rest));
+      }
+
+      pub joined_over : {e : Missing} → GivesTwo join_found all low (Err e) → Lacks ws (joined_found ps) e
+      joined_over two = λ q s vs suit. step s ∙ none_joined _ _ (two ws h.found (meaning p) h.room (space p) h.typed part q s vs suit)
+
+  pub joined_all : length rest ≤ i → IsTyped ws (joined_found ps) (sum_by space ps) all
+  joined_all l = gives_same ws h.found (joined_found ps) h.room (sum_by space ps) (Ok all)
+      (λ s. h.same s ∙ ap (λ xs. joined_below h.found xs s) (drop_all i rest l) ∙ none_more (h.found s)) (let m = h.few in omega (arith, m)) h.typed
 
 typed_last : (ws : List (Option ℕ)) (ps : List Plan) (p : Plan) (cs : List Code) (ks : List (Option ℕ)) (c : Typed) → AreTyped ws ps cs ks → IsTyped ws (meaning p) (space p) c
     → AreTyped ws (ps ++ p ∷ []) (cs ++ c.code ∷ []) (ks ++ Some c.width ∷ [])
@@ -382,26 +351,43 @@ spaces ws (p ∷ ps) (c ∷ cs) (Some k ∷ ks) h =
     (ap (λ n. suc n) r.0, (let l = r.1 in omega (arith, l, one, sum_by-cons space_of c cs, sum_by-cons space p ps)))
 spaces ws _ _ _ h = absurd h
 
-pub call_none : (cs : List Code) (body : Option Typed) → body ≡ None → GivesCall cs body None
-call_none cs body e = subst (λ o. GivesCall cs o None) (sym e) (λ ws ks ps f n h b s vs suit.
-    let g = given ws ps cs ks s vs h suit in
-    ap (option_and_then (λ us. f (map Some us))) g.there ∙ b (map Some g.words) (map (λ c. value_of c vs) cs) g.suit)
+pub args_missing : (ws : List (Option ℕ)) (ps : List Plan) {e : Missing} (f : Slots → Option Word) → Lacks ws (values_in ps) e → Lacks ws (call_found ps f) e
+args_missing ws ps f k = λ q s vs suit. ap (option_and_then (λ us. f (map Some us))) (k q s vs suit)
 
-pub call_gives : (cs args : List Code) (body : Option Typed) (b : Typed) → body ≡ Some b → args ≡ cs → GivesCall cs body (Some (typed (codes.Call args b.code) b.width))
-call_gives cs args body b e is = subst (λ o. GivesCall cs o (Some (typed (codes.Call args b.code) b.width))) (sym e)
-    (subst (λ xs. GivesCall cs (Some b) (Some (typed (codes.Call xs b.code) b.width))) (sym is)
-    (λ ws ks ps f n h t. record {
-      positive = t.positive;
-      at_most = t.at_most;
-      value = λ s vs suit.
-          let g = given ws ps cs ks s vs h suit in
-          let r = t.value (map Some g.words) (map (λ c. value_of c vs) cs) g.suit in
-          held_as (call_found ps f s) b.width _ _ (value_called cs b.code vs)
-          (subst (λ o. Holds o b.width (value_of b.code (map (λ c. value_of c vs) cs))) (sym (ap (option_and_then (λ us. f (map Some us))) g.there)) r);
-      space =
-          let l = spaces ws ps cs ks h in
-          let i = l.0 in
-          let j = l.1 in
-          let k = t.space in
-          omega (arith, i, j, k, space_called cs b.code);
-    }))
+pub call_lacks : (ws ks ls : List (Option ℕ)) (ps : List Plan) (cs : List Code) (f : Slots → Option Word) {e : Missing} → AreTyped ws ps cs ks → ls ≡ ks → Lacks ls f e → Lacks ws (call_found ps f) e
+call_lacks ws ks ls ps cs f h same b = λ q s vs suit.
+    let g = given ws ps cs ks s vs h suit in
+    ap (option_and_then (λ us. f (map Some us))) g.there ∙ b q (map Some g.words) (map (λ c. value_of c vs) cs) (subst (λ l. AllSuit l (map Some g.words) (map (λ c. value_of c vs) cs)) (sym same) g.suit)
+
+pub call_gives : (ws ks : List (Option ℕ)) (ps : List Plan) (cs : List Code) (f : Slots → Option Word) (n : ℕ) {ls : List (Option ℕ)} {b : Typed} → AreTyped ws ps cs ks → ls ≡ ks → IsTyped ls f n b
+    → IsTyped ws (call_found ps f) (call_space ps n) (typed (codes.Call cs b.code) b.width)
+call_gives ws ks ps cs f n {b = b} h same t = record {
+  positive = t.positive;
+  at_most = t.at_most;
+  value = λ s vs suit.
+      let g = given ws ps cs ks s vs h suit in
+      let r = t.value (map Some g.words) (map (λ c. value_of c vs) cs) (subst (λ l. AllSuit l (map Some g.words) (map (λ c. value_of c vs) cs)) (sym same) g.suit) in
+      held_as (call_found ps f s) b.width _ _ (value_called cs b.code vs)
+      (subst (λ o. Holds o b.width (value_of b.code (map (λ c. value_of c vs) cs))) (sym (ap (option_and_then (λ us. f (map Some us))) g.there)) r);
+  space =
+      let l = spaces ws ps cs ks h in
+      let i = l.0 in
+      let j = l.1 in
+      let k = t.space in
+      omega (arith, i, j, k, space_called cs b.code);
+}
+
+-- one that has none
+there_none : (os : List (Option Word)) (i : ℕ) → i < length os → get_or os i None ≡ None → all_there os ≡ None
+there_none [] i l e = absurd (omega arith)
+there_none (None ∷ os) i l e = refl
+there_none (Some x ∷ os) zero l e = cc
+there_none (Some x ∷ os) (suc i) l e = ap (option_map (λ xs. x ∷ xs)) (there_none os i (omega arith) e)
+
+-- arguments of which one has no value
+fills_none : {X : Type 0} (f : X → Option Word) (es : List X) (i : ℕ) (e : X) → i < length es → e ≡ get_or es i e → f e ≡ None → all_there (map f es) ≡ None
+fills_none f es i e l is h =
+    there_none (map f es) i (omega (arith, length-map es f)) (get_or-map f es i e None l ∙ ap f (sym is) ∙ h)
+
+pub args_lack : (ws : List (Option ℕ)) {e : Missing} (ps : List Plan) (i : ℕ) (p : Plan) → i < length ps → p ≡ get_or ps i p → Lacks ws (meaning p) e → Lacks ws (values_in ps) e
+args_lack ws ps i p l here h = λ q s vs suit. fills_none (λ x. meaning x s) ps i p l here (h q s vs suit)

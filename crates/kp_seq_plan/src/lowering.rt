@@ -1,5 +1,5 @@
 //! Lowering of plans to codes, once for all instructions: the width of each part is computed, so that values are plain numbers.
-ghost use Rattle.std.specs.Prelude.{◌≡◌, ◌+◌, ◌||◌, ◌==◌, ℕ, Some, IfOk, IfSome, sum_by};
+ghost use Rattle.std.specs.Prelude.{◌≡◌, ◌+◌, ◌||◌, ◌==◌, ◌++◌, ◌∷◌, [], ℕ, Some, IfOk, IfSome, OnOk, MatchResult, sum_by};
 ghost use Rattle.kp_bits.specs.Operators.{is_shift};
 ghost use Rattle.kp_bits.specs.declared.operator.BinOp.{BinOp};
 ghost use Rattle.std.specs.Option.{option_map, option_and_then};
@@ -10,8 +10,9 @@ ghost use Rattle.kp_seq_plan.specs.Plans.{meaning, space};
 ghost use Rattle.kp_seq_plan.specs.declared.code.Code.{Code};
 ghost use Rattle.kp_seq_plan.specs.declared.code.Code.TheVariants as ends;
 ghost use Rattle.kp_seq_plan.specs.declared.code.Code.TheViews as codes;
-ghost use Rattle.kp_seq_plan.specs.Lowering.{Gives};
-ghost use Rattle.kp_seq_plan.specs.inner.Parts.{GivesOne, GivesTwo, GivesMux, GivesAll, GivesCall, GivesWord, Replaces, IsMask, binary_width, binary_found, join_found, joined_found, call_found, call_space};
+ghost use Rattle.kp_seq_plan.specs.declared.lowering.Missing.TheVariants as missing;
+ghost use Rattle.kp_seq_plan.specs.Lowering.{IsTyped, Gives};
+ghost use Rattle.kp_seq_plan.specs.inner.Parts.{Lacks, IsCode, GivesOne, GivesTwo, GivesMux, GivesWord, AreTyped, Replaces, IsMask, binary_width, binary_found, join_found, both_found, values_in, joined_found, call_found, call_space};
 
 use crate::{Code, Plan, Typed};
 use kp_ast::Boxed;
@@ -21,7 +22,6 @@ use std::alloc::Global;
 
 /// The code of a plan, provided that the values under its indices are words of these widths, or missing if there is
 /// no width. None if the plan has no value then. Error: out of memory.
-#[cycle(lowering)]
 pub fn code_of(
     alloc: Global,
     plan: &Plan,
@@ -29,11 +29,38 @@ pub fn code_of(
 ) -> Result<Option<Typed>, NoMemory>
     ensures { IfOk result (λ c. Gives widths.now (meaning plan.now) (space plan.now) c) }
 {
+    match typed_of(alloc, plan, widths) {
+        Ok(code) => Ok(Some(code)),
+        Err(Missing::Value) => Ok(None),
+        Err(Missing::NoMemory) => Err(NoMemory),
+    }
+}
+
+// Why there is no code.
+#[derive(Clone, Copy)]
+enum Missing {
+    // The plan has no value.
+    Value,
+    NoMemory,
+}
+
+impl From<NoMemory> for Missing {
+    ghost from_gives = { λ _ e. e ≡ missing.NoMemory };
+
+    fn from(_: NoMemory) -> Self {
+        Missing::NoMemory
+    }
+}
+
+#[cycle(lowering)]
+fn typed_of(alloc: Global, plan: &Plan, widths: &[Option<u64>]) -> Result<Typed, Missing>
+    ensures { MatchResult result (λ c. IsTyped widths.now (meaning plan.now) (space plan.now) c) (Lacks widths.now (meaning plan.now)) }
+{
     match plan {
-        Plan::Word(word) => Ok(word_of(*word)),
-        Plan::Name(place) => Ok(name_of(widths, *place)),
+        Plan::Word(word) => word_of(*word),
+        Plan::Name(place) => name_of(widths, *place),
         Plan::Not(a) => {
-            let a = code_of(alloc, a.get(), widths)?;
+            let a = typed_of(alloc, a.get(), widths)?;
             complement(alloc, a)
         }
         Plan::Binary(op, a, b) => {
@@ -41,27 +68,26 @@ pub fn code_of(
             binary(alloc, *op, a, b)
         }
         Plan::Mux(test, a, b) => {
-            let (a, b) = two_of(alloc, a.get(), b.get(), widths)?;
-            match code_of(alloc, test.get(), widths) {
-                Ok(test) => choice(alloc, test, a, b),
-                Err(error) => {
-                    drop(a);
-                    drop(b);
-                    Err(error)
+            let test = typed_of(alloc, test.get(), widths)?;
+            match two_of(alloc, a.get(), b.get(), widths) {
+                Ok((a, b)) => choice(alloc, test, a, b),
+                Err(missing) => {
+                    drop(test);
+                    Err(missing)
                 }
             }
         }
         Plan::Concat(parts) => joined_of(alloc, parts.as_slice(), widths),
         Plan::Slice(a, hi, lo) => {
-            let a = code_of(alloc, a.get(), widths)?;
+            let a = typed_of(alloc, a.get(), widths)?;
             slice(alloc, a, *hi, *lo)
         }
         Plan::Zext(a, width) => {
-            let a = code_of(alloc, a.get(), widths)?;
-            Ok(zero_extended(a, *width))
+            let a = typed_of(alloc, a.get(), widths)?;
+            zero_extended(a, *width)
         }
         Plan::Sext(a, width) => {
-            let a = code_of(alloc, a.get(), widths)?;
+            let a = typed_of(alloc, a.get(), widths)?;
             sign_extended(alloc, a, *width)
         }
         Plan::Call(args, body) => call_of(alloc, args.as_slice(), body.get(), widths),
@@ -75,38 +101,34 @@ fn two_of(
     a: &Plan,
     b: &Plan,
     widths: &[Option<u64>],
-) -> Result<(Option<Typed>, Option<Typed>), NoMemory>
-    ensures { IfOk result (λ c. Gives widths.now (meaning a.now) (space a.now) c.0 × Gives widths.now (meaning b.now) (space b.now) c.1) }
+) -> Result<(Typed, Typed), Missing>
+    ensures { MatchResult result (λ c. IsTyped widths.now (meaning a.now) (space a.now) c.0 × IsTyped widths.now (meaning b.now) (space b.now) c.1) (Lacks widths.now (both_found a.now b.now)) }
 {
-    let a = code_of(alloc, a, widths)?;
-    match code_of(alloc, b, widths) {
+    let a = typed_of(alloc, a, widths)?;
+    match typed_of(alloc, b, widths) {
         Ok(b) => Ok((a, b)),
-        Err(error) => {
+        Err(missing) => {
             drop(a);
-            Err(error)
+            Err(missing)
         }
     }
 }
 
 // The code of a concatenation, the first part in the high bits.
 #[cycle(lowering)]
-fn joined_of(
-    alloc: Global,
-    parts: &[Plan],
-    widths: &[Option<u64>],
-) -> Result<Option<Typed>, NoMemory>
-    ensures { IfOk result (λ c. Gives widths.now (joined_found parts.now) (sum_by space parts.now) c) }
+fn joined_of(alloc: Global, parts: &[Plan], widths: &[Option<u64>]) -> Result<Typed, Missing>
+    ensures { MatchResult result (λ c. IsTyped widths.now (joined_found parts.now) (sum_by space parts.now) c) (Lacks widths.now (joined_found parts.now)) }
 {
     let Some((first, rest)) = parts.split_first() else {
-        return Ok(None);
+        return Err(Missing::Value);
     };
-    let mut all = code_of(alloc, first, widths)?;
+    let mut all = typed_of(alloc, first, widths)?;
     for part in rest {
-        let low = match code_of(alloc, part, widths) {
+        let low = match typed_of(alloc, part, widths) {
             Ok(low) => low,
-            Err(error) => {
+            Err(missing) => {
                 drop(all);
-                return Err(error);
+                return Err(missing);
             }
         };
         all = join(alloc, all, low)?;
@@ -121,14 +143,17 @@ fn call_of(
     args: &[Plan],
     body: &Plan,
     widths: &[Option<u64>],
-) -> Result<Option<Typed>, NoMemory>
-    ensures { IfOk result (λ c. Gives widths.now (call_found args.now (meaning body.now)) (call_space args.now (space body.now)) c) }
+) -> Result<Typed, Missing>
+    ensures { MatchResult result (λ c. IsTyped widths.now (call_found args.now (meaning body.now)) (call_space args.now (space body.now)) c) (Lacks widths.now (call_found args.now (meaning body.now))) }
 {
-    let Some(args) = args_of(alloc, args, widths)? else {
-        return Ok(None);
-    };
-    let body = code_of(alloc, body, args.widths.as_slice())?;
-    call(alloc, args.codes, body)
+    let args = args_of(alloc, args, widths)?;
+    match typed_of(alloc, body, args.widths.as_slice()) {
+        Ok(body) => of_width(call(alloc, args, body.code), body.width),
+        Err(missing) => {
+            drop(args);
+            Err(missing)
+        }
+    }
 }
 
 // Arguments, and their widths.
@@ -138,89 +163,97 @@ struct Args {
     widths: Vec<Option<u64>>,
 }
 
-// The codes of arguments.
-#[cycle(lowering)]
-fn args_of(alloc: Global, plans: &[Plan], widths: &[Option<u64>]) -> Result<Option<Args>, NoMemory>
-    ensures { IfOk result (λ args. GivesAll widths.now plans.now args) }
-{
-    let mut codes = Vec::new(alloc);
-    let mut known = Vec::new(alloc);
-    for plan in plans {
-        let arg = code_of(alloc, plan, widths)?;
-        match arg {
-            Some(arg) => {
-                codes.push(arg.code)?;
-                known.push(Some(arg.width))?;
-            }
-            None => return Ok(None),
-        }
+impl Args {
+    fn add(&mut self, arg: Typed) -> Result<(), NoMemory>
+        ensures codes { OnOk result (self.new.codes.items ≡ self.old.codes.items ++ arg.code ∷ []) }
+        ensures widths { OnOk result (self.new.widths.items ≡ self.old.widths.items ++ Some arg.width ∷ []) }
+    {
+        self.codes.push(arg.code)?;
+        self.widths.push(Some(arg.width))?;
+        Ok(())
     }
-    Ok(Some(Args {
-        codes,
-        widths: known,
-    }))
 }
 
-// The body with these arguments.
-#[tactic(auto, using(crate::proofs::Typing::call_none, crate::proofs::Typing::call_gives))]
-fn call(alloc: Global, args: Vec<Code>, body: Option<Typed>) -> Result<Option<Typed>, NoMemory>
-    ensures { IfOk result (λ c. GivesCall args.items body c) }
+// The codes of arguments.
+#[cycle(lowering)]
+fn args_of(alloc: Global, plans: &[Plan], widths: &[Option<u64>]) -> Result<Args, Missing>
+    ensures { MatchResult result (λ args. AreTyped widths.now plans.now args.codes.items args.widths.items) (Lacks widths.now (values_in plans.now)) }
 {
-    let Some(body) = body else {
-        return Ok(None);
+    let mut args = Args {
+        codes: Vec::new(alloc),
+        widths: Vec::new(alloc),
     };
-    let width = body.width;
-    match Boxed::new(alloc, body.code) {
-        Ok(body) => {
-            let code = Code::Call(List::new(args), body);
-            Ok(Some(Typed { code, width }))
-        }
+    for plan in plans {
+        let arg = typed_of(alloc, plan, widths)?;
+        args.add(arg)?;
+    }
+    Ok(args)
+}
+
+// The call of a body with these arguments.
+#[tactic(auto, using(crate::proofs::Replacing::itself))]
+fn call(alloc: Global, args: Args, body: Code) -> Result<Code, NoMemory>
+    ensures { IfOk result (λ c. Replaces c (codes.Call args.codes.items body)) }
+{
+    drop(args.widths);
+    match Boxed::new(alloc, body) {
+        Ok(body) => Ok(Code::Call(List::new(args.codes), body)),
         Err(error) => {
-            drop(args);
+            drop(args.codes);
             Err(error)
         }
     }
 }
 
-#[tactic(auto, using(crate::proofs::Typing::word_gives))]
-fn word_of(word: Option<Bits>) -> Option<Typed>
+// A code of this width.
+fn of_width(code: Result<Code, NoMemory>, width: u64) -> Result<Typed, Missing>
+    ensures { IsCode code width result }
+{
+    match code {
+        Ok(code) => Ok(Typed { code, width }),
+        Err(_) => Err(Missing::NoMemory),
+    }
+}
+
+#[tactic(auto, using(crate::proofs::Typing::word_gives, crate::proofs::Typing::word_nowhere))]
+fn word_of(word: Option<Bits>) -> Result<Typed, Missing>
     ensures { GivesWord word result }
 {
-    let word = word?;
-    Some(Typed {
-        code: Code::Word(word.value()),
-        width: u64::from(word.width()),
-    })
+    match word {
+        Some(word) => Ok(Typed {
+            code: Code::Word(word.value()),
+            width: u64::from(word.width()),
+        }),
+        None => Err(Missing::Value),
+    }
 }
 
 #[tactic(auto, using(crate::proofs::Typing::name_gives, crate::proofs::Typing::name_nowhere, crate::proofs::Typing::name_unknown, crate::proofs::Typing::name_wrong, crate::proofs::Typing::name_past))]
-fn name_of(widths: &[Option<u64>], place: Option<usize>) -> Option<Typed>
-    ensures { Gives widths.now (λ s. at_place s place) 0 result }
+fn name_of(widths: &[Option<u64>], place: Option<usize>) -> Result<Typed, Missing>
+    ensures { MatchResult result (λ c. IsTyped widths.now (λ s. at_place s place) 0 c) (Lacks widths.now (λ s. at_place s place)) }
 {
-    let place = place?;
+    let Some(place) = place else {
+        return Err(Missing::Value);
+    };
     if place >= widths.len() {
-        return None;
+        return Err(Missing::Value);
     }
-    let width = widths[place]?;
+    let Some(width) = widths[place] else {
+        return Err(Missing::Value);
+    };
     if width == 0 || width > 64 {
-        return None;
+        return Err(Missing::Value);
     }
-    Some(Typed {
+    Ok(Typed {
         code: Code::Name(place),
         width,
     })
 }
 
-#[tactic(auto, using(crate::proofs::Typing::not_none))]
-fn complement(alloc: Global, a: Option<Typed>) -> Result<Option<Typed>, NoMemory>
-    ensures { IfOk result (λ c. GivesOne (option_map not_of) a c) }
+fn complement(alloc: Global, a: Typed) -> Result<Typed, Missing>
+    ensures { GivesOne (option_map not_of) a result }
 {
-    let Some(a) = a else {
-        return Ok(None);
-    };
-    let width = a.width;
-    let code = flipped(alloc, a.code, mask(width))?;
-    Ok(Some(Typed { code, width }))
+    of_width(flipped(alloc, a.code, mask(a.width)), a.width)
 }
 
 // The code of a complement.
@@ -234,34 +267,18 @@ fn flipped(alloc: Global, a: Code, mask: u64) -> Result<Code, NoMemory>
     }
 }
 
-#[tactic(auto, using(crate::proofs::Typing::binary_unless, crate::proofs::Typing::two_with))]
-fn binary(
-    alloc: Global,
-    op: BinOp,
-    a: Option<Typed>,
-    b: Option<Typed>,
-) -> Result<Option<Typed>, NoMemory>
-    ensures { IfOk result (λ c. GivesTwo (binary_found op) a b c) }
-{
-    match a.zip(b) {
-        Some((a, b)) => operation(alloc, op, a, b),
-        None => Ok(None),
-    }
-}
-
 #[tactic(auto, using(crate::proofs::Typing::binary_wrong))]
-fn operation(alloc: Global, op: BinOp, a: Typed, b: Typed) -> Result<Option<Typed>, NoMemory>
-    ensures { IfOk result (λ c. GivesTwo (binary_found op) (Some a) (Some b) c) }
+fn binary(alloc: Global, op: BinOp, a: Typed, b: Typed) -> Result<Typed, Missing>
+    ensures { GivesTwo (binary_found op) a b result }
 {
     if !is_meant(op, a.width, b.width) {
         drop(a);
         drop(b);
-        return Ok(None);
+        return Err(Missing::Value);
     }
-    let width = binary_width(op, a.width);
     let mask = mask(a.width);
-    let code = applied(alloc, op, a.code, b.code, a.width, mask)?;
-    Ok(Some(Typed { code, width }))
+    let code = applied(alloc, op, a.code, b.code, a.width, mask);
+    of_width(code, binary_width(op, a.width))
 }
 
 // The code of a binary operator.
@@ -308,58 +325,52 @@ fn grouped(
 {
     match a {
         Code::Binary(inner, first, last, width_of_a, mask_of_a) => {
-            let chain = Chain {
-                op: inner,
-                first,
-                last,
-                width: width_of_a,
-                mask: mask_of_a,
-            };
-            regrouped(alloc, op, chain, b, width, mask)
+            match chained(inner, union(op, last.get(), &b)) {
+                Some(set) => {
+                    drop(last);
+                    drop(b);
+                    with_set(alloc, first, set, width, mask)
+                }
+                None => {
+                    let left = Code::Binary(inner, first, last, width_of_a, mask_of_a);
+                    pair(alloc, op, left, b, width, mask)
+                }
+            }
         }
         other => pair(alloc, op, other, b, width, mask),
     }
 }
 
-// A binary operator on two codes, with the width and the mask of the first one.
-#[derive(Drop)]
-struct Chain {
-    op: BinOp,
-    first: Boxed<Code>,
-    last: Boxed<Code>,
-    width: u64,
-    mask: u64,
-}
-
-// The code of a binary operator whose left operand is one too.
-fn regrouped(
-    alloc: Global,
-    op: BinOp,
-    a: Chain,
-    b: Code,
-    width: u64,
-    mask: u64,
-) -> Result<Code, NoMemory>
-    ensures { IfOk result (λ c. Replaces c (codes.Binary op (codes.Binary a.op a.first a.last a.width a.mask) b width mask)) }
+// The set, if the operator before it is `|`.
+fn chained(inner: BinOp, set: Option<Code>) -> Option<Code>
+    ensures { IfSome result (λ c. (inner ≡ BinOp.Or) × (set ≡ Some c)) }
 {
-    match last_set(op, a.op, a.last.get(), &b) {
-        Some(set) => {
-            drop(b);
-            with_set(alloc, a, set, width, mask)
-        }
-        None => {
-            let left = Code::Binary(a.op, a.first, a.last, a.width, a.mask);
-            pair(alloc, op, left, b, width, mask)
+    match inner {
+        BinOp::Or => set,
+        _ => {
+            drop(set);
+            None
         }
     }
 }
 
-// A chain of `|` whose last operand becomes this set.
-fn with_set(alloc: Global, a: Chain, set: Code, width: u64, mask: u64) -> Result<Code, NoMemory>
-    ensures { IfOk result (λ c. c ≡ codes.Binary BinOp.Or a.first set width mask) }
+// A chain of `|` whose last operand is this set.
+fn with_set(
+    alloc: Global,
+    first: Boxed<Code>,
+    set: Code,
+    width: u64,
+    mask: u64,
+) -> Result<Code, NoMemory>
+    ensures { IfOk result (λ c. c ≡ codes.Binary BinOp.Or first set width mask) }
 {
-    let last = Boxed::new(alloc, set)?;
-    Ok(Code::Binary(BinOp::Or, a.first, last, width, mask))
+    match Boxed::new(alloc, set) {
+        Ok(last) => Ok(Code::Binary(BinOp::Or, first, last, width, mask)),
+        Err(error) => {
+            drop(first);
+            Err(error)
+        }
+    }
 }
 
 // The code of a binary operator on two codes.
@@ -369,19 +380,6 @@ fn pair(alloc: Global, op: BinOp, a: Code, b: Code, width: u64, mask: u64) -> Re
 {
     let (left, right) = boxed(alloc, a, b)?;
     Ok(Code::Binary(op, left, right, width, mask))
-}
-
-// The union of the last two operands in a chain of `|`, if both are sets that the same name is tested for.
-fn last_set(op: BinOp, inner: BinOp, last: &Code, b: &Code) -> Option<Code>
-    ensures { (x : Code) (w m width mask : ℕ) → IfSome result (λ c. Replaces (codes.Binary BinOp.Or x c width mask) (codes.Binary op (codes.Binary inner x last.now w m) b.now width mask)) }
-{
-    match (op, inner) {
-        (BinOp::Or, BinOp::Or) => {
-            let set = union(BinOp::Or, last, b)?;
-            Some(set)
-        }
-        _ => None,
-    }
 }
 
 // The code of a comparison of a name with a word.
@@ -397,7 +395,8 @@ fn same(op: BinOp, a: &Code, b: &Code) -> Option<Code>
 
 // The code of an `|` of two sets that the same name is tested for.
 fn union(op: BinOp, a: &Code, b: &Code) -> Option<Code>
-    ensures { (width mask : ℕ) → IfSome result (λ c. Replaces c (codes.Binary op a.now b.now width mask)) }
+    ensures or { IfSome result (λ c. op ≡ BinOp.Or) }
+    ensures set { (width mask : ℕ) → IfSome result (λ c. Replaces c (codes.Binary op a.now b.now width mask)) }
 {
     let (place, left) = set_of(a)?;
     let (other, right) = set_of(b)?;
@@ -424,10 +423,13 @@ fn boxed(alloc: Global, a: Code, b: Code) -> Result<(Boxed<Code>, Boxed<Code>), 
     ensures { IfOk result (λ boxes. boxes ≡ (a, b)) }
 {
     match Boxed::new(alloc, a) {
-        Ok(a) => {
-            let b = Boxed::new(alloc, b)?;
-            Ok((a, b))
-        }
+        Ok(a) => match Boxed::new(alloc, b) {
+            Ok(b) => Ok((a, b)),
+            Err(error) => {
+                drop(a);
+                Err(error)
+            }
+        },
         Err(error) => {
             drop(b);
             Err(error)
@@ -452,36 +454,17 @@ fn binary_width(op: BinOp, width: u64) -> u64
     }
 }
 
-#[tactic(auto, using(crate::proofs::Typing::mux_unless, crate::proofs::Typing::mux_with))]
-fn choice(
-    alloc: Global,
-    test: Option<Typed>,
-    a: Option<Typed>,
-    b: Option<Typed>,
-) -> Result<Option<Typed>, NoMemory>
-    ensures { IfOk result (λ c. GivesMux test a b c) }
-{
-    match test.zip(a.zip(b)) {
-        Some((test, (a, b))) => chosen(alloc, test, a, b),
-        None => Ok(None),
-    }
-}
-
 #[tactic(auto, using(crate::proofs::Typing::mux_wrong))]
-fn chosen(alloc: Global, test: Typed, a: Typed, b: Typed) -> Result<Option<Typed>, NoMemory>
-    ensures { IfOk result (λ c. GivesMux (Some test) (Some a) (Some b) c) }
+fn choice(alloc: Global, test: Typed, a: Typed, b: Typed) -> Result<Typed, Missing>
+    ensures { GivesMux test a b result }
 {
     if test.width != 1 || a.width != b.width {
         drop(test);
         drop(a);
         drop(b);
-        return Ok(None);
+        return Err(Missing::Value);
     }
-    let code = mux(alloc, test.code, a.code, b.code)?;
-    Ok(Some(Typed {
-        code,
-        width: a.width,
-    }))
+    of_width(mux(alloc, test.code, a.code, b.code), a.width)
 }
 
 // The code of a choice.
@@ -523,46 +506,38 @@ fn tested(test: &Code) -> Option<(usize, u64)>
     }
 }
 
-#[tactic(auto, using(crate::proofs::Typing::join_unless, crate::proofs::Typing::two_with))]
-fn join(alloc: Global, high: Option<Typed>, low: Option<Typed>) -> Result<Option<Typed>, NoMemory>
-    ensures { IfOk result (λ c. GivesTwo join_found high low c) }
-{
-    match high.zip(low) {
-        Some((high, low)) => joined(alloc, high, low),
-        None => Ok(None),
-    }
-}
-
-#[tactic(auto, using(crate::proofs::Typing::join_over, crate::proofs::Typing::join_gives))]
-fn joined(alloc: Global, high: Typed, low: Typed) -> Result<Option<Typed>, NoMemory>
-    ensures { IfOk result (λ c. GivesTwo join_found (Some high) (Some low) c) }
+#[tactic(auto, using(crate::proofs::Typing::join_over))]
+fn join(alloc: Global, high: Typed, low: Typed) -> Result<Typed, Missing>
+    ensures { GivesTwo join_found high low result }
 {
     if high.width > 64 || low.width > 64 - high.width {
         drop(high);
         drop(low);
-        return Ok(None);
+        return Err(Missing::Value);
     }
-    let (top, bottom) = boxed(alloc, high.code, low.code)?;
-    Ok(Some(Typed {
-        code: Code::Join(top, bottom, low.width),
-        width: high.width + low.width,
-    }))
+    let code = joined(alloc, high.code, low.code, low.width);
+    of_width(code, high.width + low.width)
 }
 
-#[tactic(auto, using(crate::proofs::Typing::slice_none, crate::proofs::Typing::slice_wrong))]
-fn slice(alloc: Global, a: Option<Typed>, hi: u64, lo: u64) -> Result<Option<Typed>, NoMemory>
-    ensures { IfOk result (λ c. GivesOne (option_and_then (checked_slice hi lo)) a c) }
+// The code of a concatenation of two parts.
+#[tactic(auto, using(crate::proofs::Replacing::itself))]
+fn joined(alloc: Global, high: Code, low: Code, width: u64) -> Result<Code, NoMemory>
+    ensures { IfOk result (λ c. Replaces c (codes.Join high low width)) }
 {
-    let Some(a) = a else {
-        return Ok(None);
-    };
+    let (top, bottom) = boxed(alloc, high, low)?;
+    Ok(Code::Join(top, bottom, width))
+}
+
+#[tactic(auto, using(crate::proofs::Typing::slice_wrong))]
+fn slice(alloc: Global, a: Typed, hi: u64, lo: u64) -> Result<Typed, Missing>
+    ensures { GivesOne (option_and_then (checked_slice hi lo)) a result }
+{
     if lo > hi || hi >= a.width {
         drop(a);
-        return Ok(None);
+        return Err(Missing::Value);
     }
     let width = hi - lo + 1;
-    let code = bits(alloc, a.code, lo, mask(width))?;
-    Ok(Some(Typed { code, width }))
+    of_width(bits(alloc, a.code, lo, mask(width)), width)
 }
 
 // The code of a slice.
@@ -576,40 +551,39 @@ fn bits(alloc: Global, a: Code, lo: u64, mask: u64) -> Result<Code, NoMemory>
     }
 }
 
-#[tactic(auto, using(crate::proofs::Typing::zext_none, crate::proofs::Typing::zext_wrong, crate::proofs::Typing::zext_gives))]
-fn zero_extended(a: Option<Typed>, width: u64) -> Option<Typed>
+#[tactic(auto, using(crate::proofs::Typing::zext_wrong))]
+fn zero_extended(a: Typed, width: u64) -> Result<Typed, Missing>
     ensures { GivesOne (option_and_then (checked_zext width)) a result }
 {
-    let Some(a) = a else {
-        return None;
-    };
     if a.width > width || width > 64 {
         drop(a);
-        return None;
+        return Err(Missing::Value);
     }
-    Some(Typed {
+    Ok(Typed {
         code: a.code,
         width,
     })
 }
 
-#[tactic(auto, using(crate::proofs::Typing::sext_none, crate::proofs::Typing::sext_wrong, crate::proofs::Typing::sext_gives))]
-fn sign_extended(alloc: Global, a: Option<Typed>, width: u64) -> Result<Option<Typed>, NoMemory>
-    ensures { IfOk result (λ c. GivesOne (option_and_then (checked_sext width)) a c) }
+#[tactic(auto, using(crate::proofs::Typing::sext_wrong))]
+fn sign_extended(alloc: Global, a: Typed, width: u64) -> Result<Typed, Missing>
+    ensures { GivesOne (option_and_then (checked_sext width)) a result }
 {
-    let Some(a) = a else {
-        return Ok(None);
-    };
     if a.width > width || width > 64 {
         drop(a);
-        return Ok(None);
+        return Err(Missing::Value);
     }
     let narrow = mask(a.width);
     let more = mask(width).wrapping_sub(narrow);
-    Ok(Some(Typed {
-        code: Code::Sext(Boxed::new(alloc, a.code)?, narrow / 2, more),
-        width,
-    }))
+    of_width(extended(alloc, a.code, narrow / 2, more), width)
+}
+
+// The code of an extension by the sign.
+#[tactic(auto, using(crate::proofs::Replacing::itself))]
+fn extended(alloc: Global, a: Code, top: u64, more: u64) -> Result<Code, NoMemory>
+    ensures { IfOk result (λ c. Replaces c (codes.Sext a top more)) }
+{
+    Ok(Code::Sext(Boxed::new(alloc, a)?, top, more))
 }
 
 // The greatest number of a width, and 0 if the width is not in 1 to 64.

@@ -2,8 +2,6 @@
 ghost use Rattle.std.specs.Prelude.{◌≡◌, IfOk};
 ghost use Rattle.std.specs.List.{position};
 ghost use Rattle.kp_ast.specs.Expressions.{is_same_name};
-ghost use Rattle.kp_ast.specs.declared.tree.Expr.{Expr};
-ghost use Rattle.kp_ast.specs.declared.tree.ExprKind.TheViews as kinds;
 ghost use Rattle.kp_seq_plan.specs.Names.{place_of};
 ghost use Rattle.kp_seq_plan.specs.Plans.{Means, AllMean, MeansCall, MeansBody};
 
@@ -11,7 +9,7 @@ use crate::keys::Keys;
 use crate::plan::Plan;
 use kp_ast::{Boxed, Decl, Expr, ExprKind, Name, Param};
 use kp_base::{List, NoMemory};
-use kp_bits::{BinOp, checked};
+use kp_bits::checked;
 use std::alloc::Global;
 
 /// Where the names of an expression have their indices: in a stage, or among the parameters of a function.
@@ -33,8 +31,20 @@ pub fn plan_of(alloc: Global, decls: &[Decl], scope: Scope, e: &Expr) -> Result<
             let a = part_of(alloc, decls, scope, a.get())?;
             Ok(Plan::Not(a))
         }
-        ExprKind::Binary(op, a, b) => binary_of(alloc, decls, scope, *op, a.get(), b.get()),
-        ExprKind::Mux(test, a, b) => mux_of(alloc, decls, scope, test.get(), a.get(), b.get()),
+        ExprKind::Binary(op, a, b) => {
+            let (a, b) = parts_of(alloc, decls, scope, a.get(), b.get())?;
+            Ok(Plan::Binary(*op, a, b))
+        }
+        ExprKind::Mux(test, a, b) => {
+            let test = part_of(alloc, decls, scope, test.get())?;
+            match parts_of(alloc, decls, scope, a.get(), b.get()) {
+                Ok((a, b)) => Ok(Plan::Mux(test, a, b)),
+                Err(error) => {
+                    drop(test);
+                    Err(error)
+                }
+            }
+        }
         ExprKind::Concat(parts) => {
             let parts = plans_of(alloc, decls, scope, parts.as_slice())?;
             Ok(Plan::Concat(List::new(parts)))
@@ -67,39 +77,25 @@ fn part_of(alloc: Global, decls: &[Decl], scope: Scope, e: &Expr) -> Result<Boxe
     Boxed::new(alloc, plan)
 }
 
-// The plan of a binary operator on two parts.
+// The plans of two parts.
 #[cycle(resolve)]
-fn binary_of(
+fn parts_of(
     alloc: Global,
     decls: &[Decl],
     scope: Scope,
-    op: BinOp,
     a: &Expr,
     b: &Expr,
-) -> Result<Plan, NoMemory>
-    ensures { (e : Expr) → e.kind ≡ kinds.Binary op a.now b.now → IfOk result (λ p. Means decls.now scope.entry e p) }
+) -> Result<(Boxed<Plan>, Boxed<Plan>), NoMemory>
+    ensures { IfOk result (λ p. Means decls.now scope.entry a.now p.0 × Means decls.now scope.entry b.now p.1) }
 {
     let a = part_of(alloc, decls, scope, a)?;
-    let b = part_of(alloc, decls, scope, b)?;
-    Ok(Plan::Binary(op, a, b))
-}
-
-// The plan of a choice.
-#[cycle(resolve)]
-fn mux_of(
-    alloc: Global,
-    decls: &[Decl],
-    scope: Scope,
-    test: &Expr,
-    a: &Expr,
-    b: &Expr,
-) -> Result<Plan, NoMemory>
-    ensures { (e : Expr) → e.kind ≡ kinds.Mux test.now a.now b.now → IfOk result (λ p. Means decls.now scope.entry e p) }
-{
-    let test = part_of(alloc, decls, scope, test)?;
-    let a = part_of(alloc, decls, scope, a)?;
-    let b = part_of(alloc, decls, scope, b)?;
-    Ok(Plan::Mux(test, a, b))
+    match part_of(alloc, decls, scope, b) {
+        Ok(b) => Ok((a, b)),
+        Err(error) => {
+            drop(a);
+            Err(error)
+        }
+    }
 }
 
 // The plans of several expressions.

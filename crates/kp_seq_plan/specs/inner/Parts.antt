@@ -1,10 +1,12 @@
 -- The codes of a plan's parts, and the codes that are built from them.
-use Rattle.std.specs.Prelude.{◌≡◌, ◌≤◌, ◌+◌, ◌-◌, ◌^◌, ℕ, length, List, [], ◌∷◌, map, sum_by, Option, Some, None}
-use Rattle.std.specs.Option.{option_and_then}
+use Rattle.std.specs.Prelude.{◌≡◌, ◌≤◌, ◌+◌, ◌-◌, ◌^◌, ℕ, length, List, [], ◌∷◌, map, sum_by, Option, Some, None, Result, Ok, MatchResult}
+use Rattle.std.specs.Option.{option_and_then, option_zip}
+use Rattle.kp_base.specs.declared.outside.NoMemory.{NoMemory}
 use Rattle.kp_bits.specs.{Word.Word, Checked.checked_binary, Checked.checked_mux, Checked.checked_join, Checked.checked_joined, declared.operator.BinOp.BinOp}
 use Rattle.kp_ast.specs.Checked.{all_there}
 use Rattle.kp_seq_plan.specs.{declared.plan.Plan.Plan, Plans.Slots, Plans.meaning, Plans.space, declared.code.Code.Code, declared.code.Typed.Typed}
-use Rattle.kp_seq_plan.specs.{declared.lowering.Args.Args, Codes.value_of, Codes.space_of, Lowering.AllSuit, Lowering.IsTyped, Lowering.Gives}
+use Rattle.kp_seq_plan.specs.{declared.lowering.Missing.Missing, Codes.value_of, Codes.space_of, Lowering.AllSuit, Lowering.IsTyped}
+use Rattle.kp_seq_plan.specs.declared.lowering.Missing.TheVariants as missing
 
 -- the codes and the widths of several plans
 abbrev pub AreTyped : List (Option ℕ) → List Plan → List Code → List (Option ℕ) → Type 0
@@ -12,13 +14,29 @@ AreTyped widths [] codes ws = (codes ≡ []) × (ws ≡ [])
 AreTyped widths (p ∷ ps) (c ∷ codes) (Some w ∷ ws) = IsTyped widths (meaning p) (space p) (record { code = c; width = w }) × AreTyped widths ps codes ws
 AreTyped widths _ _ _ = ⊥
 
--- the code of a part, and the code that is built from it
-abbrev pub GivesOne : (Option Word → Option Word) → Option Typed → Option Typed → Type 0
-GivesOne g a c = (widths : List (Option ℕ)) (f : Slots → Option Word) (n : ℕ) → Gives widths f n a → Gives widths (λ s. g (f s)) n c
+-- what is wanted has no value there
+abbrev pub Absent : {X : Type 0} → List (Option ℕ) → (Slots → Option X) → Type 0
+Absent widths found = (slots : Slots) (values : List ℕ) → AllSuit widths slots values → found slots ≡ None
 
-abbrev pub GivesTwo : (Option Word → Option Word → Option Word) → Option Typed → Option Typed → Option Typed → Type 0
-GivesTwo h a b c =
-    (widths : List (Option ℕ)) (f g : Slots → Option Word) (n m : ℕ) → Gives widths f n a → Gives widths g m b → Gives widths (λ s. h (f s) (g s)) (n + m) c
+-- and this is the reason, unless the memory is exhausted
+abbrev pub Lacks : {X : Type 0} → List (Option ℕ) → (Slots → Option X) → Missing → Type 0
+Lacks widths found e = e ≡ missing.Value → Absent widths found
+
+-- the code of a plan, or why there is none
+abbrev pub Yields : List (Option ℕ) → (Slots → Option Word) → ℕ → Result Typed Missing → Type 0
+Yields widths found room r = MatchResult r (λ c. IsTyped widths found room c) (Lacks widths found)
+
+-- a code that has been made, with its width
+abbrev pub IsCode : Result Code NoMemory → ℕ → Result Typed Missing → Type 0
+IsCode code width r = MatchResult r (λ c. (code ≡ Ok c.code) × (c.width ≡ width)) (λ e. e ≡ missing.NoMemory)
+
+-- what is built from the code of a part
+abbrev pub GivesOne : (Option Word → Option Word) → Typed → Result Typed Missing → Type 0
+GivesOne g a r = (widths : List (Option ℕ)) (f : Slots → Option Word) (n : ℕ) → IsTyped widths f n a → Yields widths (λ s. g (f s)) n r
+
+abbrev pub GivesTwo : (Option Word → Option Word → Option Word) → Typed → Typed → Result Typed Missing → Type 0
+GivesTwo h a b r =
+    (widths : List (Option ℕ)) (f g : Slots → Option Word) (n m : ℕ) → IsTyped widths f n a → IsTyped widths g m b → Yields widths (λ s. h (f s) (g s)) (n + m) r
 
 -- for a binary operator, a choice, and a concatenation
 abbrev pub binary_found : BinOp → Option Word → Option Word → Option Word
@@ -36,10 +54,14 @@ mux_found test a b = option_and_then (λ t. option_and_then (λ x. option_and_th
 abbrev pub join_found : Option Word → Option Word → Option Word
 join_found a b = option_and_then (λ x. option_and_then (λ y. checked_join x (y ∷ [])) b) a
 
-abbrev pub GivesMux : Option Typed → Option Typed → Option Typed → Option Typed → Type 0
-GivesMux test a b c =
-    (widths : List (Option ℕ)) (t f g : Slots → Option Word) (l n m : ℕ) → Gives widths t l test → Gives widths f n a → Gives widths g m b
-    → Gives widths (λ s. mux_found (t s) (f s) (g s)) (l + (n + m)) c
+abbrev pub GivesMux : Typed → Typed → Typed → Result Typed Missing → Type 0
+GivesMux test a b r =
+    (widths : List (Option ℕ)) (t f g : Slots → Option Word) (l n m : ℕ) → IsTyped widths t l test → IsTyped widths f n a → IsTyped widths g m b
+    → Yields widths (λ s. mux_found (t s) (f s) (g s)) (l + (n + m)) r
+
+-- the values of two plans, if both have one
+abbrev pub both_found : Plan → Plan → Slots → Option (Word × Word)
+both_found a b s = option_zip (meaning a s) (meaning b s)
 
 abbrev pub values_in : List Plan → Slots → Option (List Word)
 values_in ps s = all_there (map (λ p. meaning p s) ps)
@@ -50,8 +72,13 @@ joined_found ps s = option_and_then checked_joined (values_in ps s)
 abbrev pub joined_below : (Slots → Option Word) → List Plan → Slots → Option Word
 joined_below f ps s = option_and_then (λ a. option_and_then (checked_join a) (values_in ps s)) (f s)
 
-abbrev pub GivesJoined : List (Option ℕ) → List Plan → Option Typed → Option Typed → Type 0
-GivesJoined widths ps all c = (f : Slots → Option Word) (n : ℕ) → Gives widths f n all → Gives widths (joined_below f ps) (n + sum_by space ps) c
+-- the code of the first parts of a concatenation, and the parts that are still to be joined to it
+pub record JoinedYet (widths : List (Option ℕ)) (parts rest : List Plan) (all : Typed) : Type 0 where
+  pub found : Slots → Option Word
+  pub room : ℕ
+  pub typed : IsTyped widths found room all
+  pub same : (s : Slots) → joined_found parts s ≡ joined_below found rest s
+  pub few : room + sum_by space rest ≤ sum_by space parts
 
 -- for a call
 abbrev pub call_found : List Plan → (Slots → Option Word) → Slots → Option Word
@@ -60,18 +87,9 @@ call_found ps body s = option_and_then (λ vs. body (map Some vs)) (values_in ps
 abbrev pub call_space : List Plan → ℕ → ℕ
 call_space ps body = body + (length ps + sum_by space ps)
 
-abbrev pub GivesAll : List (Option ℕ) → List Plan → Option Args → Type 0
-GivesAll widths ps None = (slots : Slots) (values : List ℕ) → AllSuit widths slots values → values_in ps slots ≡ None
-GivesAll widths ps (Some args) = AreTyped widths ps args.codes.items args.widths.items
-
-abbrev pub GivesCall : List Code → Option Typed → Option Typed → Type 0
-GivesCall codes body c =
-    (widths ws : List (Option ℕ)) (ps : List Plan) (f : Slots → Option Word) (n : ℕ) → AreTyped widths ps codes ws → Gives ws f n body
-    → Gives widths (call_found ps f) (call_space ps n) c
-
 -- for a word
-abbrev pub GivesWord : Option Word → Option Typed → Type 0
-GivesWord w c = (widths : List (Option ℕ)) → Gives widths (λ s. w) 0 c
+abbrev pub GivesWord : Option Word → Result Typed Missing → Type 0
+GivesWord w r = (widths : List (Option ℕ)) → Yields widths (λ s. w) 0 r
 
 -- a one in each bit of a width
 abbrev pub IsMask : ℕ → ℕ → Type 0

@@ -1,14 +1,7 @@
-use Rattle.std.{proofs.Common.refl, proofs.Common.arith, proofs.Common.◌+◌, proofs.Common.◌-◌, specs.Option.option_and_then}
-use Rattle.kp_bits.specs.Checked.{checked_slice}
-use Rattle.kp_seq_plan.specs.declared.code.Code.TheViews as codes
-use Rattle.kp_seq_plan.proofs.{Typing.slice_gives, Replacing.replaced_one}
+use Rattle.std.proofs.Common.{refl, arith}
+use Rattle.kp_seq_plan.proofs.Typing.{made, slice_gives}
 use Rattle.kp_seq_plan.proofs.lowering.slice.Goals as goal
 
 pub returns : goal.returns
-returns c =
-    let a = c.in-Some.a in
-    let lo = c.args.lo in
-    let w = c.args.hi - lo + 1 in
-    let m = c.mask.result in
-    replaced_one (option_and_then (checked_slice c.args.hi lo)) c.args.a _ (codes.Slice a.code lo m) w c.in_ok-code.ensures
-    (slice_gives c.args.hi lo c.args.a a w m c.in-Some.is (omega arith) (omega arith) refl c.mask.ensures)
+returns c = λ ws f n a.
+    made ws _ _ _ _ c.bits.result c.of_width.result c.bits.ensures c.of_width.ensures (slice_gives c.args.hi c.args.lo c.args.a _ c.mask.result (omega arith) (omega arith) refl c.mask.ensures ws f n a)

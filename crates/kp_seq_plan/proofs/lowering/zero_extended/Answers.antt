@@ -3,4 +3,4 @@ use Rattle.kp_seq_plan.proofs.Typing.{zext_gives}
 use Rattle.kp_seq_plan.proofs.lowering.zero_extended.Goals as goal
 
 pub returns : goal.returns
-returns c = zext_gives c.args.width c.args.a c.in-Some.a c.in-Some.is (omega arith) (omega arith)
+returns c = zext_gives c.args.width c.args.a (omega arith) (omega arith)

@@ -19,20 +19,15 @@ pub plan_of-returns-in_ok-a-in-Not : goal.plan_of-returns-in_ok-a-in-Not
 plan_of-returns-in_ok-a-in-Not t c =
     means_Not c.args.decls.now c.args.scope c.args.e.now c.in-Not.a c.get.result.now c.in_ok-a-in-Not.a c.in-Not.is c.get.ensures c.in_ok-a-in-Not.ensures
 
-pub plan_of-returns-in-Binary : goal.plan_of-returns-in-Binary
-plan_of-returns-in-Binary t c = c.binary_of.ensures c.args.e.now (rw (c.get-in-Binary.ensures, c.get-in-Binary-2.ensures) c.in-Binary.is)
+pub plan_of-returns-in_ok-a-in-Binary : goal.plan_of-returns-in_ok-a-in-Binary
+plan_of-returns-in_ok-a-in-Binary t c =
+    means_Binary c.args.decls.now c.args.scope c.args.e.now c.in-Binary.op c.in-Binary.a c.in-Binary.b c.get-in-Binary.result.now c.get-in-Binary-2.result.now
+    c.in_ok-a-in-Binary.a c.in_ok-a-in-Binary.b c.in-Binary.is c.get-in-Binary.ensures c.get-in-Binary-2.ensures c.in_ok-a-in-Binary.ensures.0 c.in_ok-a-in-Binary.ensures.1
 
-pub plan_of-returns-in-Mux : goal.plan_of-returns-in-Mux
-plan_of-returns-in-Mux t c = c.mux_of.ensures c.args.e.now (rw (c.get-in-Mux.ensures, c.get-in-Mux-2.ensures, c.get-in-Mux-3.ensures) c.in-Mux.is)
-
-pub binary_of-returns : goal.binary_of-returns
-binary_of-returns t c = λ e is.
-    means_Binary c.args.decls.now c.args.scope e c.args.op c.args.a.now c.args.b.now c.args.a.now c.args.b.now c.in_ok-a.a c.in_ok-b.b is refl refl c.in_ok-a.ensures c.in_ok-b.ensures
-
-pub mux_of-returns : goal.mux_of-returns
-mux_of-returns t c = λ e is.
-    means_Mux c.args.decls.now c.args.scope e c.args.test.now c.args.a.now c.args.b.now c.args.test.now c.args.a.now c.args.b.now c.in_ok-test.test c.in_ok-a.a c.in_ok-b.b
-    is refl refl refl c.in_ok-test.ensures c.in_ok-a.ensures c.in_ok-b.ensures
+pub plan_of-returns-in-Ok : goal.plan_of-returns-in-Ok
+plan_of-returns-in-Ok t c =
+    means_Mux c.args.decls.now c.args.scope c.args.e.now c.in-Mux.test c.in-Mux.a c.in-Mux.b c.get-in-Mux.result.now c.get-in-Mux-2.result.now c.get-in-Mux-3.result.now
+    c.in_ok-test-in-Mux.test c.in-Ok.a c.in-Ok.b c.in-Mux.is c.get-in-Mux.ensures c.get-in-Mux-2.ensures c.get-in-Mux-3.ensures c.in_ok-test-in-Mux.ensures c.in-Ok.ensures.0 c.in-Ok.ensures.1
 
 pub plan_of-returns-in_ok-a-in-Slice : goal.plan_of-returns-in_ok-a-in-Slice
 plan_of-returns-in_ok-a-in-Slice t c =

@@ -10,11 +10,8 @@ decreases-plan_of l = 4 * goal.size-plan_of l + 4 * weight l.decls.now
 abbrev pub decreases-part_of : goal.decreases-part_of
 decreases-part_of l = (4 * goal.size-part_of l + 1) + 4 * weight l.decls.now
 
-abbrev pub decreases-binary_of : goal.decreases-binary_of
-decreases-binary_of l = (4 * max (goal.size-binary_of l) (size-Expr l.b.now) + 2) + 4 * weight l.decls.now
-
-abbrev pub decreases-mux_of : goal.decreases-mux_of
-decreases-mux_of l = (4 * max (goal.size-mux_of l) (max (size-Expr l.a.now) (size-Expr l.b.now)) + 2) + 4 * weight l.decls.now
+abbrev pub decreases-parts_of : goal.decreases-parts_of
+decreases-parts_of l = (4 * max (goal.size-parts_of l) (size-Expr l.b.now) + 2) + 4 * weight l.decls.now
 
 abbrev pub decreases-plans_of : goal.decreases-plans_of
 decreases-plans_of l = (4 * goal.size-plans_of l + 1) + 4 * weight l.decls.now
