@@ -3,15 +3,15 @@ ghost use Rattle.std.specs.Prelude.{◌≡◌, [], OnOk};
 ghost use Rattle.kp_net.specs.Names.{among};
 ghost use Rattle.kp_vread_rules.specs.inner.Sets.{Adds};
 
-use indexmap::IndexSet;
 use kp_base::NoMemory;
 use kp_net::{Key, Label};
 use std::alloc::Global;
+use std::collections::HashSet;
 use std::marker::Model;
 
 /// Names that are looked up in about constant time. Contracts see the list of them.
 pub(crate) struct NameSet<'m> {
-    names: IndexSet<Key<'m>>,
+    names: HashSet<Key<'m>>,
 }
 
 impl Drop for NameSet<'_> {
@@ -35,7 +35,7 @@ impl<'m> NameSet<'m> {
         ensures { result ≡ [] }
     {
         NameSet {
-            names: IndexSet::new(alloc),
+            names: HashSet::new(alloc),
         }
     }
 

@@ -53,5 +53,5 @@ fn all_digits(bytes: &[u8]) -> bool
 pub fn is_output(name: &[u8]) -> bool
     ensures { result ≡ is_output_name name.now }
 {
-    matches!(name, b"full" | b"ue" | b"back")
+    name == b"full".as_slice() || name == b"ue".as_slice() || name == b"back".as_slice()
 }
