@@ -1,16 +1,17 @@
 -- The token with a given number.
-use Rattle.std.proofs.Common.{ℕ, ◌≡◌, ◌==◌, ◌<◌, ◌≤◌, ◌+◌, ◌-◌, List, [], ◌∷◌, length, drop, take, map, true, false, refl, sym, ap, ◌∙◌, arith}
-use Rattle.std.{proofs.lemmas.Bool.Decides.nat_tests, proofs.lemmas.List.drop_more, proofs.lemmas.List.drop-map, specs.Prelude.slice_index_or}
+use Rattle.std.proofs.Common.{ℕ, ◌≡◌, ◌==◌, ◌<◌, ◌≤◌, ◌+◌, ◌-◌, List, [], ◌∷◌, ◌++◌, length, drop, take, map, get_or, Bool, true, false, refl, sym, ap, subst, ◌∙◌, arith}
+use Rattle.std.{proofs.lemmas.Bool.Decides.nat_tests, proofs.lemmas.List.drop_more, proofs.lemmas.List.drop_all, proofs.lemmas.List.drop-map, specs.Prelude.slice_index_or}
 use Rattle.kp_bits.specs.declared.literal.Literal.{Literal}
 use Rattle.kp_base.specs.{Grammar.Terminal, GrammarMachine.Stops, GrammarMachine.look, GrammarMachine.wrong}
 use Rattle.kp_base.proofs.Ways.{took}
-use Rattle.kp_vlog.specs.Language.{Way, Sym, Value, ID, NUM, LIT, dropped, named, number, literal, word_class, keyword_class, mark_class, verilog}
-use Rattle.kp_vlog.specs.{declared.token.Keyword.Keyword, declared.token.Mark.Mark, declared.token.VKind.VKind, declared.token.VToken.VToken, Tokens.Token}
+use Rattle.kp_vlog.specs.Language.{Way, Sym, Value, ID, NUM, LIT, dropped, named, number, literal, word_class, verilog}
+use Rattle.kp_vlog.specs.{declared.token.VKind.VKind, declared.token.VToken.VToken, Tokens.Token}
 use Rattle.kp_vlog.specs.{Outcome.token_of, Outcome.word_of, inner.Follow.tables}
 use Rattle.kp_vlog.specs.declared.token.Keyword.TheVariants as keywords
 use Rattle.kp_vlog.specs.declared.token.Mark.TheVariants as marks
 use Rattle.kp_vlog.specs.declared.token.VKind.TheVariants as kinds
-use Rattle.kp_vread_parse.specs.inner.Reading.{Goes, class_at, never, Turns}
+use Rattle.kp_vread_parse.specs.{declared.tokens.Fixed.Fixed, inner.Words.class_of, inner.Words.symbol, inner.Reading.Goes, inner.Reading.class_at, inner.Reading.never, inner.Reading.Turns, inner.Reading.TurnsYet}
+use Rattle.kp_vread_parse.specs.declared.tokens.Fixed.TheVariants as fixed
 
 -- the class of a token of this kind
 abbrev pub kind_class : VKind → ℕ
@@ -46,16 +47,15 @@ differ : (a b : ℕ) → false ≡ (a == b) → a ≡ b → ⊥
 differ a b h e = cc (same_number b, ap (λ (n : ℕ). n == b) e, h)
 
 -- token i isn't of the class
-missed : (ts : List Token) (i c : ℕ) → false ≡ (class_at ts i == c) → (way : Way) (s : List Sym) (vs : List Value) → Goes (Terminal c way ∷ s) vs (drop i ts) (Stops (length (drop i ts)))
+pub missed : (ts : List Token) (i c : ℕ) → false ≡ (class_at ts i == c) → (way : Way) (s : List Sym) (vs : List Value) → Goes (Terminal c way ∷ s) vs (drop i ts) (Stops (length (drop i ts)))
 missed ts i c h way s vs = wrong (λ e. differ (class_at ts i) c h e)
 
-pub missed_kind : (ts : List Token) (i c : ℕ) (bytes : List ℕ) (k : VKind) (at : ℕ) (rest : List Token) → drop i ts ≡ spelled bytes k at ∷ rest → false ≡ (kind_class k == c)
-    → (way : Way) (s : List Sym) (vs : List Value) → Goes (Terminal c way ∷ s) vs (drop i ts) (Stops (length (drop i ts)))
-missed_kind ts i c bytes k at rest h e = missed ts i c (e ∙ ap (λ (d : ℕ). d == c) (sym (class_is ts i bytes k at rest h)))
+-- the class of a token, or of the end of the text
+pub kind_at : (ts : List Token) (i c : ℕ) (bytes : List ℕ) (k : VKind) (at : ℕ) (rest : List Token) (b : Bool) → drop i ts ≡ spelled bytes k at ∷ rest → b ≡ (kind_class k == c) → b ≡ (class_at ts i == c)
+kind_at ts i c bytes k at rest b h e = e ∙ ap (λ (d : ℕ). d == c) (sym (class_is ts i bytes k at rest h))
 
-pub missed_end : (ts : List Token) (i c : ℕ) → drop i ts ≡ [] → false ≡ (0 == c)
-    → (way : Way) (s : List Sym) (vs : List Value) → Goes (Terminal c way ∷ s) vs (drop i ts) (Stops (length (drop i ts)))
-missed_end ts i c h e = missed ts i c (e ∙ ap (λ (d : ℕ). d == c) (sym (ap (look verilog) h)))
+pub end_at : (ts : List Token) (i c : ℕ) → drop i ts ≡ [] → false ≡ (0 == c) → false ≡ (class_at ts i == c)
+end_at ts i c h e = e ∙ ap (λ (d : ℕ). d == c) (sym (ap (look verilog) h))
 
 one_less : (ts : List Token) (i j : ℕ) (t : Token) → drop i ts ≡ t ∷ drop j ts → length (drop j ts) + 1 ≤ length (drop i ts)
 one_less ts i j t h = let e = ap length h in omega (arith, e)
@@ -88,14 +88,11 @@ reads_literal ts i j bytes k at l h e =
     let w : drop i ts ≡ spelled bytes (kinds.Literal l) at ∷ drop j ts = h ∙ ap (λ (x : VKind). spelled bytes x at ∷ drop j ts) e in
     record { leads = λ s vs o g. took verilog never tables w refl refl g; shrinks = one_less ts i j _ w }
 
--- keywords and punctuators are nothing else
-pub keyword_isnt_end : (k : Keyword) → false ≡ (0 == keyword_class k)
-keyword_isnt_end keywords.Module = refl
-keyword_isnt_end _ = refl
-
-pub mark_isnt_end : (k : Mark) → false ≡ (0 == mark_class k)
-mark_isnt_end marks.Semicolon = refl
-mark_isnt_end _ = refl
+-- a token without a value isn't the end of the text
+pub fixed_isnt_end : (f : Fixed) → false ≡ (0 == class_of f)
+fixed_isnt_end (fixed.Word keywords.Module) = refl
+fixed_isnt_end (fixed.Sign marks.Semicolon) = refl
+fixed_isnt_end _ = refl
 
 -- what isn't a name, a number, a literal
 pub no_name : (k : VKind) → (k ≡ kinds.Ident → ⊥) → false ≡ (kind_class k == 1)
@@ -115,3 +112,22 @@ no_literal (kinds.Literal l) h = absurd (h l refl)
 no_literal (kinds.Keyword keywords.Module) h = refl
 no_literal (kinds.Mark marks.Semicolon) h = refl
 no_literal _ h = refl
+
+-- the tokens that are the same in each module, one by one
+module _ (ts : List Token) (given : List Fixed) (at k here : ℕ) (d : Fixed) (l : k < length given) (old : TurnsYet ts (map symbol given) (map symbol (drop k given)) [] [] at here) where
+  pub skipped : (next : ℕ) → Turns ts (symbol (get_or given k d) ∷ []) [] [] here next 1 → TurnsYet ts (map symbol given) (map symbol (drop (k + 1) given)) [] [] at next
+  skipped next t = record {
+    leads = λ s vs o h. old.leads s vs o (subst (λ (xs : List Fixed). Goes (map symbol xs ++ s) vs (drop here ts) o) (sym (drop_more given k d l)) (t.leads (map symbol (drop (k + 1) given) ++ s) vs o h));
+    shrinks = let a = old.shrinks in let b = t.shrinks in omega (arith, a, b);
+  }
+
+  pub stuck : false ≡ (class_at ts here == class_of (get_or given k d)) → (s : List Sym) (vs : List Value) → Goes (map symbol given ++ s) vs (drop at ts) (Stops (length (drop here ts)))
+  stuck f s vs =
+      old.leads s vs _ (subst (λ (xs : List Fixed). Goes (map symbol xs ++ s) vs (drop here ts) (Stops (length (drop here ts)))) (sym (drop_more given k d l))
+      (missed ts here (class_of (get_or given k d)) f dropped _ vs))
+
+pub skipped_all : (ts : List Token) (given : List Fixed) (at k here : ℕ) → length given ≤ k → TurnsYet ts (map symbol given) (map symbol (drop k given)) [] [] at here → Turns ts (map symbol given) [] [] at here 0
+skipped_all ts given at k here l old = record {
+  leads = λ s vs o h. old.leads s vs o (subst (λ (xs : List Fixed). Goes (map symbol xs ++ s) vs (drop here ts) o) (sym (drop_all k given l)) h);
+  shrinks = let a = old.shrinks in omega (arith, a);
+}

@@ -1,17 +1,18 @@
 // The lines before `initial`.
-ghost use Rattle.std.specs.Prelude.{◌≡◌, ◌==◌, [], ◌∷◌, MatchResult, MatchOption, IfOk, true, false};
-ghost use Rattle.kp_base.specs.{Grammar.Nonterminal, Tables.among};
+ghost use Rattle.std.specs.Prelude.{◌≡◌, ◌==◌, [], ◌∷◌, MatchResult, true};
+ghost use Rattle.kp_base.specs.Grammar.{Nonterminal};
+ghost use Rattle.kp_base.specs.Tables.{among};
 ghost use Rattle.kp_vlog.specs.declared.token.Keyword.TheVariants as keywords;
 ghost use Rattle.kp_vlog.specs.declared.token.Mark.TheVariants as marks;
-ghost use Rattle.kp_vlog.specs.Language.{keyword_class, mark_class, mark as mark_of, ITEMS, ITEM, DECLARED, RIGHT, named, range as range_value, right as right_value, item as item_value, items as items_value};
+ghost use Rattle.kp_vlog.specs.Language.{keyword_class, mark_class, ITEMS, ITEM, DECLARED, named, range as range_value, item as item_value, items as items_value};
 ghost use Rattle.kp_vread_parse.specs.inner.Words.{item_words, ASSIGNMENT};
 ghost use Rattle.kp_vread_parse.specs.inner.Reading.{class_at, Turns, Ends};
 
 use crate::fault::Fault;
 use crate::ports::range;
 use crate::rights::right;
-use crate::tokens::Tokens;
-use kp_vlog::{Item, Keyword, Mark, Named, Range, Right};
+use crate::tokens::{Fixed, Tokens};
+use kp_vlog::{Item, Keyword, Mark, Named, Range};
 use std::alloc::Global;
 
 /// The items, up to `initial`.
@@ -36,43 +37,30 @@ pub(crate) fn items(
 fn item(alloc: Global, tokens: &Tokens<'_>, at: usize) -> Result<(Item, usize), Fault>
     ensures { MatchResult result (λ x. Turns tokens.now (Nonterminal ITEM ∷ []) [] (item_value x.0 ∷ []) at x.1 1) (Ends tokens.now (Nonterminal ITEM ∷ []) [] at) }
 {
-    if tokens.is_keyword(Keyword::Reg, at) {
+    if tokens.is(Fixed::Word(Keyword::Reg), at) {
         return memory(alloc, tokens, at);
     }
-    if tokens.is_keyword(Keyword::Integer, at) {
+    if tokens.is(Fixed::Word(Keyword::Integer), at) {
         return integer(alloc, tokens, at);
     }
-    if tokens.is_keyword(Keyword::Wire, at) {
+    if tokens.is(Fixed::Word(Keyword::Wire), at) {
         return wire(alloc, tokens, at);
     }
-    let (target, right, next) = assignment(alloc, tokens, at)?;
-    Ok((Item::Assign(target, right), next))
+    assignment(alloc, tokens, at)
 }
 
-// The target and the right side of an assignment.
-fn assignment(alloc: Global, tokens: &Tokens<'_>, at: usize) -> Result<(Named, Right, usize), Fault>
-    ensures { MatchResult result (λ x. Turns tokens.now (ASSIGNMENT) [] (right_value x.1 ∷ named x.0 ∷ []) at x.2 1) (Ends tokens.now (ASSIGNMENT) [] at) }
+// An assignment.
+fn assignment(alloc: Global, tokens: &Tokens<'_>, at: usize) -> Result<(Item, usize), Fault>
+    ensures { MatchResult result (λ x. Turns tokens.now (ASSIGNMENT) [] (item_value x.0 ∷ []) at x.1 1) (Ends tokens.now (ASSIGNMENT) [] at) }
 {
-    let next = tokens.word(Keyword::Assign, at)?;
-    let (target, next) = tokens.name_before(alloc, Mark::Equals, next)?;
-    let (right, next) = right_before(alloc, tokens, Mark::Semicolon, next)?;
-    Ok((target, right, next))
-}
-
-// A right side followed by this punctuator.
-fn right_before(
-    alloc: Global,
-    tokens: &Tokens<'_>,
-    mark: Mark,
-    at: usize,
-) -> Result<(Right, usize), Fault>
-    ensures { MatchResult result (λ x. Turns tokens.now (Nonterminal RIGHT ∷ mark_of mark ∷ []) [] (right_value x.0 ∷ []) at x.1 1) (Ends tokens.now (Nonterminal RIGHT ∷ mark_of mark ∷ []) [] at) }
-{
-    let (right, next) = right(alloc, tokens, at)?;
-    match tokens.mark(mark, next) {
-        Ok(next) => Ok((right, next)),
+    let next = tokens.skip(&[Fixed::Word(Keyword::Assign)], at)?;
+    let (target, next) = tokens.name_before(alloc, &[Fixed::Sign(Mark::Equals)], next)?;
+    let (right, next) = right(alloc, tokens, next)?;
+    let item = Item::Assign(target, right);
+    match tokens.skip(&[Fixed::Sign(Mark::Semicolon)], next) {
+        Ok(next) => Ok((item, next)),
         Err(fault) => {
-            drop(right);
+            drop(item);
             Err(fault)
         }
     }
@@ -83,11 +71,10 @@ fn memory(alloc: Global, tokens: &Tokens<'_>, at: usize) -> Result<(Item, usize)
     requires { true ≡ (class_at tokens.now at == keyword_class keywords.Reg) }
     ensures { MatchResult result (λ x. Turns tokens.now (Nonterminal ITEM ∷ []) [] (item_value x.0 ∷ []) at x.1 1) (Ends tokens.now (Nonterminal ITEM ∷ []) [] at) }
 {
-    let next = tokens.word(Keyword::Reg, at)?;
+    let next = tokens.skip(&[Fixed::Word(Keyword::Reg)], at)?;
     let (range, next) = range(tokens, next)?;
     let (name, next) = tokens.name(alloc, next)?;
-    let (item, next) = declared(tokens, range, name, next)?;
-    Ok((item, next))
+    declared(tokens, range, name, next)
 }
 
 // What follows the name of a register or a file.
@@ -97,22 +84,22 @@ fn declared(
     name: Named,
     at: usize,
 ) -> Result<(Item, usize), Fault>
-    ensures { MatchResult result (λ x. Turns tokens.now (Nonterminal DECLARED ∷ []) (named name ∷ range_value range ∷ []) (item_value x.0 ∷ []) at x.1 1) (Ends tokens.now (Nonterminal DECLARED ∷ []) (named name ∷ range_value range ∷ []) at) }
+    ensures { MatchResult result (λ x. Turns tokens.now (Nonterminal DECLARED ∷ []) (named name ∷ range_value range ∷ []) (item_value x.0 ∷ []) at x.1 0) (Ends tokens.now (Nonterminal DECLARED ∷ []) (named name ∷ range_value range ∷ []) at) }
 {
-    if tokens.is_mark(Mark::OpenBracket, at) {
+    if tokens.is(Fixed::Sign(Mark::OpenBracket), at) {
         return file(tokens, range, name, at);
     }
-    let next = tokens.mark(Mark::Semicolon, at)?;
+    let next = tokens.skip(&[Fixed::Sign(Mark::Semicolon)], at)?;
     Ok((Item::Reg(range, name), next))
 }
 
 // The range of the words of a file.
 fn file(tokens: &Tokens<'_>, bits: Range, name: Named, at: usize) -> Result<(Item, usize), Fault>
     requires { true ≡ (class_at tokens.now at == mark_class marks.OpenBracket) }
-    ensures { MatchResult result (λ x. Turns tokens.now (Nonterminal DECLARED ∷ []) (named name ∷ range_value bits ∷ []) (item_value x.0 ∷ []) at x.1 1) (Ends tokens.now (Nonterminal DECLARED ∷ []) (named name ∷ range_value bits ∷ []) at) }
+    ensures { MatchResult result (λ x. Turns tokens.now (Nonterminal DECLARED ∷ []) (named name ∷ range_value bits ∷ []) (item_value x.0 ∷ []) at x.1 0) (Ends tokens.now (Nonterminal DECLARED ∷ []) (named name ∷ range_value bits ∷ []) at) }
 {
     let (words, next) = range(tokens, at)?;
-    let next = tokens.mark(Mark::Semicolon, next)?;
+    let next = tokens.skip(&[Fixed::Sign(Mark::Semicolon)], next)?;
     Ok((Item::File(bits, name, words), next))
 }
 
@@ -121,8 +108,8 @@ fn integer(alloc: Global, tokens: &Tokens<'_>, at: usize) -> Result<(Item, usize
     requires { true ≡ (class_at tokens.now at == keyword_class keywords.Integer) }
     ensures { MatchResult result (λ x. Turns tokens.now (Nonterminal ITEM ∷ []) [] (item_value x.0 ∷ []) at x.1 1) (Ends tokens.now (Nonterminal ITEM ∷ []) [] at) }
 {
-    let next = tokens.word(Keyword::Integer, at)?;
-    let (name, next) = tokens.name_before(alloc, Mark::Semicolon, next)?;
+    let next = tokens.skip(&[Fixed::Word(Keyword::Integer)], at)?;
+    let (name, next) = tokens.name_before(alloc, &[Fixed::Sign(Mark::Semicolon)], next)?;
     Ok((Item::Integer(name), next))
 }
 
@@ -131,17 +118,17 @@ fn wire(alloc: Global, tokens: &Tokens<'_>, at: usize) -> Result<(Item, usize), 
     requires { true ≡ (class_at tokens.now at == keyword_class keywords.Wire) }
     ensures { MatchResult result (λ x. Turns tokens.now (Nonterminal ITEM ∷ []) [] (item_value x.0 ∷ []) at x.1 1) (Ends tokens.now (Nonterminal ITEM ∷ []) [] at) }
 {
-    let next = tokens.word(Keyword::Wire, at)?;
+    let next = tokens.skip(&[Fixed::Word(Keyword::Wire)], at)?;
     let (range, next) = range(tokens, next)?;
-    let (name, next) = tokens.name_before(alloc, Mark::Semicolon, next)?;
+    let (name, next) = tokens.name_before(alloc, &[Fixed::Sign(Mark::Semicolon)], next)?;
     Ok((Item::Wire(range, name), next))
 }
 
 fn begins_item(tokens: &Tokens<'_>, at: usize) -> bool
     ensures { result ≡ among (class_at tokens.now at) item_words }
 {
-    tokens.is_keyword(Keyword::Reg, at)
-        || tokens.is_keyword(Keyword::Integer, at)
-        || tokens.is_keyword(Keyword::Wire, at)
-        || tokens.is_keyword(Keyword::Assign, at)
+    tokens.is(Fixed::Word(Keyword::Reg), at)
+        || tokens.is(Fixed::Word(Keyword::Integer), at)
+        || tokens.is(Fixed::Word(Keyword::Wire), at)
+        || tokens.is(Fixed::Word(Keyword::Assign), at)
 }

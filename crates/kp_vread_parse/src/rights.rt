@@ -1,14 +1,15 @@
 // The right sides of assignments.
-ghost use Rattle.std.specs.Prelude.{◌≡◌, ◌==◌, ◌&&◌, nat_lt, [], ◌∷◌, MatchResult, MatchOption, IfOk, true, false};
-ghost use Rattle.kp_base.specs.{Grammar.Nonterminal, Tables.among};
+ghost use Rattle.std.specs.Prelude.{◌≡◌, ◌==◌, ◌&&◌, nat_lt, [], ◌∷◌, MatchResult, true};
+ghost use Rattle.kp_base.specs.Grammar.{Nonterminal};
+ghost use Rattle.kp_base.specs.Tables.{among};
 ghost use Rattle.kp_vlog.specs.declared.token.Mark.TheVariants as marks;
 ghost use Rattle.kp_vlog.specs.Language.{mark_class, LITERAL, NUMBER, RIGHT, BEHIND, INDEX, NAMES, named, names as names_value, right as right_value};
 ghost use Rattle.kp_vread_parse.specs.inner.Words.{sign, TWO_NAMES};
 ghost use Rattle.kp_vread_parse.specs.inner.Reading.{class_at, Turns, Ends};
 
 use crate::fault::Fault;
-use crate::tokens::Tokens;
-use kp_base::{List, NoMemory};
+use crate::tokens::{Fixed, Tokens};
+use kp_base::List;
 use kp_bits::BinOp;
 use kp_vlog::{Mark, Named, Right};
 use std::alloc::Global;
@@ -20,15 +21,14 @@ pub(crate) fn right(alloc: Global, tokens: &Tokens<'_>, at: usize) -> Result<(Ri
     if tokens.is_literal(at) {
         return constant(tokens, at);
     }
-    if tokens.is_mark(Mark::Tilde, at) {
+    if tokens.is(Fixed::Sign(Mark::Tilde), at) {
         return negation(alloc, tokens, at);
     }
-    if tokens.is_mark(Mark::OpenBrace, at) {
+    if tokens.is(Fixed::Sign(Mark::OpenBrace), at) {
         return concat(alloc, tokens, at);
     }
     let (first, next) = tokens.name(alloc, at)?;
-    let (right, next) = behind(alloc, tokens, first, next)?;
-    Ok((right, next))
+    after_name(alloc, tokens, first, next)
 }
 
 // A literal.
@@ -45,7 +45,7 @@ fn negation(alloc: Global, tokens: &Tokens<'_>, at: usize) -> Result<(Right, usi
     requires { true ≡ (class_at tokens.now at == mark_class marks.Tilde) }
     ensures { MatchResult result (λ x. Turns tokens.now (Nonterminal RIGHT ∷ []) [] (right_value x.0 ∷ []) at x.1 1) (Ends tokens.now (Nonterminal RIGHT ∷ []) [] at) }
 {
-    let next = tokens.mark(Mark::Tilde, at)?;
+    let next = tokens.skip(&[Fixed::Sign(Mark::Tilde)], at)?;
     let (name, next) = tokens.name(alloc, next)?;
     Ok((Right::Not(name), next))
 }
@@ -55,16 +55,16 @@ fn concat(alloc: Global, tokens: &Tokens<'_>, at: usize) -> Result<(Right, usize
     requires { true ≡ (class_at tokens.now at == mark_class marks.OpenBrace) }
     ensures { MatchResult result (λ x. Turns tokens.now (Nonterminal RIGHT ∷ []) [] (right_value x.0 ∷ []) at x.1 1) (Ends tokens.now (Nonterminal RIGHT ∷ []) [] at) }
 {
-    let next = tokens.mark(Mark::OpenBrace, at)?;
+    let next = tokens.skip(&[Fixed::Sign(Mark::OpenBrace)], at)?;
     let (two, next) = two_names(alloc, tokens, next)?;
     let (all, next) = more_names(alloc, tokens, two, next)?;
-    let next = tokens.mark(Mark::CloseBrace, next)?;
+    let next = tokens.skip(&[Fixed::Sign(Mark::CloseBrace)], next)?;
     let parts = List::new(all);
     Ok((Right::Concat(parts), next))
 }
 
 // What follows the first name of a right side.
-fn behind(
+fn after_name(
     alloc: Global,
     tokens: &Tokens<'_>,
     first: Named,
@@ -72,10 +72,10 @@ fn behind(
 ) -> Result<(Right, usize), Fault>
     ensures { MatchResult result (λ x. Turns tokens.now (Nonterminal BEHIND ∷ []) (named first ∷ []) (right_value x.0 ∷ []) at x.1 0) (Ends tokens.now (Nonterminal BEHIND ∷ []) (named first ∷ []) at) }
 {
-    if tokens.is_mark(Mark::Question, at) {
+    if tokens.is(Fixed::Sign(Mark::Question), at) {
         return choice(alloc, tokens, first, at);
     }
-    if tokens.is_mark(Mark::OpenBracket, at) {
+    if tokens.is(Fixed::Sign(Mark::OpenBracket), at) {
         return indexed(alloc, tokens, first, at);
     }
     match tokens.operator_at(at) {
@@ -95,7 +95,7 @@ fn binary(
     requires { class_at tokens.now at ≡ mark_class (sign operator) }
     ensures { MatchResult result (λ x. Turns tokens.now (Nonterminal BEHIND ∷ []) (named first ∷ []) (right_value x.0 ∷ []) at x.1 0) (Ends tokens.now (Nonterminal BEHIND ∷ []) (named first ∷ []) at) }
 {
-    let next = tokens.mark(mark_of(operator), at)?;
+    let next = tokens.skip(&[Fixed::Sign(mark_of(operator))], at)?;
     let (second, next) = tokens.name(alloc, next)?;
     Ok((Right::Binary(operator, first, second), next))
 }
@@ -110,8 +110,8 @@ fn choice(
     requires { true ≡ (class_at tokens.now at == mark_class marks.Question) }
     ensures { MatchResult result (λ x. Turns tokens.now (Nonterminal BEHIND ∷ []) (named test ∷ []) (right_value x.0 ∷ []) at x.1 0) (Ends tokens.now (Nonterminal BEHIND ∷ []) (named test ∷ []) at) }
 {
-    let next = tokens.mark(Mark::Question, at)?;
-    let (chosen, next) = tokens.name_before(alloc, Mark::Colon, next)?;
+    let next = tokens.skip(&[Fixed::Sign(Mark::Question)], at)?;
+    let (chosen, next) = tokens.name_before(alloc, &[Fixed::Sign(Mark::Colon)], next)?;
     let (other, next) = tokens.name(alloc, next)?;
     Ok((Right::Choice(test, chosen, other), next))
 }
@@ -126,24 +126,11 @@ fn indexed(
     requires { true ≡ (class_at tokens.now at == mark_class marks.OpenBracket) }
     ensures { MatchResult result (λ x. Turns tokens.now (Nonterminal BEHIND ∷ []) (named first ∷ []) (right_value x.0 ∷ []) at x.1 0) (Ends tokens.now (Nonterminal BEHIND ∷ []) (named first ∷ []) at) }
 {
-    let next = tokens.mark(Mark::OpenBracket, at)?;
-    let (right, next) = index(alloc, tokens, first, next)?;
-    Ok((right, next))
-}
-
-// What is in brackets after a name.
-fn index(
-    alloc: Global,
-    tokens: &Tokens<'_>,
-    first: Named,
-    at: usize,
-) -> Result<(Right, usize), Fault>
-    ensures { MatchResult result (λ x. Turns tokens.now (Nonterminal INDEX ∷ []) (named first ∷ []) (right_value x.0 ∷ []) at x.1 1) (Ends tokens.now (Nonterminal INDEX ∷ []) (named first ∷ []) at) }
-{
-    if tokens.is_number(at) {
-        return slice(tokens, first, at);
+    let next = tokens.skip(&[Fixed::Sign(Mark::OpenBracket)], at)?;
+    if tokens.is_number(next) {
+        return slice(tokens, first, next);
     }
-    let (address, next) = tokens.name_before(alloc, Mark::CloseBracket, at)?;
+    let (address, next) = tokens.name_before(alloc, &[Fixed::Sign(Mark::CloseBracket)], next)?;
     Ok((Right::Word(first, address), next))
 }
 
@@ -152,8 +139,8 @@ fn slice(tokens: &Tokens<'_>, first: Named, at: usize) -> Result<(Right, usize),
     requires { true ≡ (class_at tokens.now at == NUMBER) }
     ensures { MatchResult result (λ x. Turns tokens.now (Nonterminal INDEX ∷ []) (named first ∷ []) (right_value x.0 ∷ []) at x.1 1) (Ends tokens.now (Nonterminal INDEX ∷ []) (named first ∷ []) at) }
 {
-    let (high, next) = tokens.number_before(Mark::Colon, at)?;
-    let (low, next) = tokens.number_before(Mark::CloseBracket, next)?;
+    let (high, next) = tokens.number_before(&[Fixed::Sign(Mark::Colon)], at)?;
+    let (low, next) = tokens.number_before(&[Fixed::Sign(Mark::CloseBracket)], next)?;
     Ok((Right::Slice(first, high, low), next))
 }
 
@@ -161,19 +148,10 @@ fn slice(tokens: &Tokens<'_>, first: Named, at: usize) -> Result<(Right, usize),
 fn two_names(alloc: Global, tokens: &Tokens<'_>, at: usize) -> Result<(Vec<Named>, usize), Fault>
     ensures { MatchResult result (λ x. Turns tokens.now (TWO_NAMES) [] (names_value x.0.items ∷ []) at x.1 1) (Ends tokens.now (TWO_NAMES) [] at) }
 {
-    let (first, next) = tokens.name_before(alloc, Mark::Comma, at)?;
+    let (first, next) = tokens.name_before(alloc, &[Fixed::Sign(Mark::Comma)], at)?;
     let (second, next) = tokens.name(alloc, next)?;
-    let two = pair(alloc, first, second)?;
+    let two = vec![in alloc; first, second]?;
     Ok((two, next))
-}
-
-fn pair(alloc: Global, first: Named, second: Named) -> Result<Vec<Named>, NoMemory>
-    ensures { IfOk result (λ v. v.items ≡ first ∷ second ∷ []) }
-{
-    let mut all = Vec::new(alloc);
-    all.push(first)?;
-    all.push(second)?;
-    Ok(all)
 }
 
 // The other names of a concatenation, at most ten.
@@ -189,7 +167,7 @@ fn more_names(
     let mut left = 10;
     let mut here = at;
     'all: while goes_on(tokens, left, here) {
-        let next = tokens.mark(Mark::Comma, here)?;
+        let next = tokens.skip(&[Fixed::Sign(Mark::Comma)], here)?;
         let (one, next) = tokens.name(alloc, next)?;
         all.push(one)?;
         left -= 1;
@@ -202,7 +180,7 @@ fn more_names(
 fn goes_on(tokens: &Tokens<'_>, left: usize, at: usize) -> bool
     ensures { result ≡ (nat_lt 0 left && (class_at tokens.now at == mark_class marks.Comma)) }
 {
-    left > 0 && tokens.is_mark(Mark::Comma, at)
+    left > 0 && tokens.is(Fixed::Sign(Mark::Comma), at)
 }
 
 // The punctuator of an operator.

@@ -1,10 +1,10 @@
 // The tokens of a text, as the parser reads them.
-ghost use Rattle.std.specs.Prelude.{◌≡◌, ◌==◌, ◌+◌, ◌≤◌, [], ◌∷◌, drop, length, map, false, MatchOption, MatchResult, IfSome, All};
+ghost use Rattle.std.specs.Prelude.{◌≡◌, ◌==◌, ◌+◌, ◌≤◌, [], ◌∷◌, drop, length, map, true, false, MatchOption, MatchResult, IfSome, All};
 ghost use Rattle.kp_vlog.specs.declared.token.VKind.TheVariants as kinds;
 ghost use Rattle.kp_vlog.specs.Outcome.{token_of, word_of};
-ghost use Rattle.kp_vlog.specs.Language.{word_class, keyword_class, mark_class, IDENTIFIER, NUMBER, LITERAL, ID, NUM, LIT, word as word_of_keyword, mark as mark_of, named, number as number_value, literal as literal_value};
+ghost use Rattle.kp_vlog.specs.Language.{word_class, keyword_class, mark_class, IDENTIFIER, NUMBER, LITERAL, ID, NUM, LIT, named, number as number_value, literal as literal_value};
 ghost use Rattle.kp_vread_parse.specs.inner.Spelled.{IsSpelled};
-ghost use Rattle.kp_vread_parse.specs.inner.Words.{sign as sign_of, operator_classes};
+ghost use Rattle.kp_vread_parse.specs.inner.Words.{class_of, symbol, sign as sign_of, operator_classes};
 ghost use Rattle.kp_base.specs.Tables.{among};
 ghost use Rattle.kp_vread_parse.specs.inner.Reading.{class_at, Follows, Turns, Ends};
 
@@ -33,6 +33,25 @@ impl<'t> Model for Tokens<'t> {
     ghost view = { λ t. map (token_of t.text.now) t.all.now };
 
     ghost invariant = { λ t. All (IsSpelled t.text.now) t.all.now };
+}
+
+/// A token without a value: a keyword or a punctuator.
+#[derive(Clone, Copy)]
+pub(crate) enum Fixed {
+    Word(Keyword),
+    Sign(Mark),
+}
+
+impl Fixed {
+    // Whether a token of this kind is this one.
+    fn is(self, kind: VKind) -> bool
+        ensures { result ≡ (word_class (word_of [] kind) == class_of self) }
+    {
+        match self {
+            Fixed::Word(keyword) => is_this_keyword(kind, keyword),
+            Fixed::Sign(mark) => is_this_mark(kind, mark),
+        }
+    }
 }
 
 /// A token and its bytes.
@@ -89,22 +108,26 @@ impl<'t> Tokens<'t> {
         }
     }
 
-    /// Whether the token is this keyword.
-    pub(crate) fn is_keyword(&self, keyword: Keyword, at: usize) -> bool
-        ensures { result ≡ (class_at self.now at == keyword_class keyword) }
+    /// The number of the next token, if the token is this one.
+    pub(crate) fn after(&self, fixed: Fixed, at: usize) -> Option<usize>
+        ensures { MatchOption result (false ≡ (class_at self.now at == class_of fixed))
+            (λ next. (true ≡ (class_at self.now at == class_of fixed)) × Turns self.now (symbol fixed ∷ []) [] [] at next 1) }
     {
-        match self.kind(at) {
-            Some(kind) => is_this_keyword(kind, keyword),
-            None => false,
+        let Some((token, next)) = self.token(at) else {
+            return None;
+        };
+        if !fixed.is(token.kind) {
+            return None;
         }
+        Some(next)
     }
 
-    /// Whether the token is this punctuator.
-    pub(crate) fn is_mark(&self, mark: Mark, at: usize) -> bool
-        ensures { result ≡ (class_at self.now at == mark_class mark) }
+    /// Whether the token is this one.
+    pub(crate) fn is(&self, fixed: Fixed, at: usize) -> bool
+        ensures { result ≡ (class_at self.now at == class_of fixed) }
     {
         match self.kind(at) {
-            Some(kind) => is_this_mark(kind, mark),
+            Some(kind) => fixed.is(kind),
             None => false,
         }
     }
@@ -149,30 +172,18 @@ impl<'t> Tokens<'t> {
         }
     }
 
-    /// Reads this keyword, and returns the number of the next token.
-    pub(crate) fn word(&self, keyword: Keyword, at: usize) -> Result<usize, Fault>
-        ensures { MatchResult result (λ next. Turns self.now (word_of_keyword keyword ∷ []) [] [] at next 1) (Ends self.now (word_of_keyword keyword ∷ []) [] at) }
+    /// Reads these tokens, and returns the number of the next one.
+    pub(crate) fn skip(&self, given: &[Fixed], at: usize) -> Result<usize, Fault>
+        ensures { MatchResult result (λ next. Turns self.now (map symbol given.now) [] [] at next 0) (Ends self.now (map symbol given.now) [] at) }
     {
-        let Some((token, next)) = self.token(at) else {
-            return Err(Fault::Wrong(at));
-        };
-        if !is_this_keyword(token.kind, keyword) {
-            return Err(Fault::Wrong(at));
+        let mut here = at;
+        for fixed in given {
+            let Some(next) = self.after(*fixed, here) else {
+                return Err(Fault::Wrong(here));
+            };
+            here = next;
         }
-        Ok(next)
-    }
-
-    /// Reads this punctuator, and returns the number of the next token.
-    pub(crate) fn mark(&self, mark: Mark, at: usize) -> Result<usize, Fault>
-        ensures { MatchResult result (λ next. Turns self.now (mark_of mark ∷ []) [] [] at next 1) (Ends self.now (mark_of mark ∷ []) [] at) }
-    {
-        let Some((token, next)) = self.token(at) else {
-            return Err(Fault::Wrong(at));
-        };
-        if !is_this_mark(token.kind, mark) {
-            return Err(Fault::Wrong(at));
-        }
-        Ok(next)
+        Ok(here)
     }
 
     /// A name, and the number of the next token.
@@ -190,22 +201,31 @@ impl<'t> Tokens<'t> {
         Ok((Named { name, at }, next))
     }
 
-    /// A name followed by this punctuator, and the number of the next token.
+    /// A name followed by these tokens, and the number of the next token.
     pub(crate) fn name_before(
         &self,
         alloc: Global,
-        mark: Mark,
+        given: &[Fixed],
         at: usize,
     ) -> Result<(Named, usize), Fault>
-        ensures { MatchResult result (λ x. Turns self.now (ID ∷ mark_of mark ∷ []) [] (named x.0 ∷ []) at x.1 1) (Ends self.now (ID ∷ mark_of mark ∷ []) [] at) }
+        ensures { MatchResult result (λ x. Turns self.now (ID ∷ map symbol given.now) [] (named x.0 ∷ []) at x.1 1) (Ends self.now (ID ∷ map symbol given.now) [] at) }
     {
         let (name, next) = self.name(alloc, at)?;
-        let next = self.mark(mark, next)?;
+        let next = self.skip(given, next)?;
         Ok((name, next))
     }
 
-    /// A number, and the number of the next token.
-    pub(crate) fn number(&self, at: usize) -> Result<(Num, usize), Fault>
+    /// A number followed by these tokens, and the number of the next token.
+    pub(crate) fn number_before(&self, given: &[Fixed], at: usize) -> Result<(Num, usize), Fault>
+        ensures { MatchResult result (λ x. Turns self.now (NUM ∷ map symbol given.now) [] (number_value x.0 ∷ []) at x.1 1) (Ends self.now (NUM ∷ map symbol given.now) [] at) }
+    {
+        let (number, next) = self.number(at)?;
+        let next = self.skip(given, next)?;
+        Ok((number, next))
+    }
+
+    // A number, and the number of the next token.
+    fn number(&self, at: usize) -> Result<(Num, usize), Fault>
         ensures { MatchResult result (λ x. Turns self.now (NUM ∷ []) [] (number_value x.0 ∷ []) at x.1 1) (Ends self.now (NUM ∷ []) [] at) }
     {
         let Some((token, next)) = self.token(at) else {
@@ -216,15 +236,6 @@ impl<'t> Tokens<'t> {
         };
         let at = token.at;
         Ok((Num { value, at }, next))
-    }
-
-    /// A number followed by this punctuator, and the number of the next token.
-    pub(crate) fn number_before(&self, mark: Mark, at: usize) -> Result<(Num, usize), Fault>
-        ensures { MatchResult result (λ x. Turns self.now (NUM ∷ mark_of mark ∷ []) [] (number_value x.0 ∷ []) at x.1 1) (Ends self.now (NUM ∷ mark_of mark ∷ []) [] at) }
-    {
-        let (number, next) = self.number(at)?;
-        let next = self.mark(mark, next)?;
-        Ok((number, next))
     }
 
     /// A literal, and the number of the next token.
@@ -241,12 +252,12 @@ impl<'t> Tokens<'t> {
         Ok((Lit { literal, at }, next))
     }
 
-    /// A literal followed by this punctuator, and the number of the next token.
-    pub(crate) fn literal_before(&self, mark: Mark, at: usize) -> Result<(Lit, usize), Fault>
-        ensures { MatchResult result (λ x. Turns self.now (LIT ∷ mark_of mark ∷ []) [] (literal_value x.0 ∷ []) at x.1 1) (Ends self.now (LIT ∷ mark_of mark ∷ []) [] at) }
+    /// A literal followed by these tokens, and the number of the next token.
+    pub(crate) fn literal_before(&self, given: &[Fixed], at: usize) -> Result<(Lit, usize), Fault>
+        ensures { MatchResult result (λ x. Turns self.now (LIT ∷ map symbol given.now) [] (literal_value x.0 ∷ []) at x.1 1) (Ends self.now (LIT ∷ map symbol given.now) [] at) }
     {
         let (literal, next) = self.literal(at)?;
-        let next = self.mark(mark, next)?;
+        let next = self.skip(given, next)?;
         Ok((literal, next))
     }
 }

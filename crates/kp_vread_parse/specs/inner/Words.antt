@@ -1,11 +1,22 @@
 -- The tokens that parts of a module start with, and parts of a module that the grammar has no name for.
-use Rattle.std.specs.Prelude.{ℕ, List, [], ◌∷◌}
+use Rattle.std.specs.Prelude.{ℕ, List, [], ◌∷◌, ◌++◌}
 use Rattle.kp_bits.specs.declared.operator.BinOp.{BinOp}
-use Rattle.kp_base.specs.Grammar.{Nonterminal, Action}
+use Rattle.kp_base.specs.Grammar.{Terminal, Nonterminal, Action}
 use Rattle.kp_vlog.specs.declared.token.Keyword.TheVariants as keywords
-use Rattle.kp_vlog.specs.Language.{Sym, word, mark, ID, NUM, LIT, keyword_class, mark_class, IDENTIFIER, WIRE, PORT, STALLS, SAMPLES, ITEMS, RIGHT, INITS, BODY, VALUES, UPDATES, no_ports, no_items, two_names, no_inits, no_values, no_updates}
+use Rattle.kp_vlog.specs.Language.{Sym, dropped, word, mark, ID, NUM, LIT, keyword_class, mark_class, IDENTIFIER, WIRE, PORT, STALLS, SAMPLES, ITEMS, RIGHT, INITS, BODY, VALUES, UPDATES, no_ports, no_items, make_assign, two_names, no_inits, no_values}
+use Rattle.kp_vlog.specs.Language.{no_updates, first_update, update_reg, update_file}
+use Rattle.kp_vread_parse.specs.declared.tokens.Fixed.{Fixed}
+use Rattle.kp_vread_parse.specs.declared.tokens.Fixed.TheVariants as fixed
 use Rattle.kp_vlog.specs.declared.token.Mark.{Mark}
 use Rattle.kp_vlog.specs.declared.token.Mark.TheVariants as marks
+
+-- a token without a value, as a symbol
+abbrev pub class_of : Fixed → ℕ
+class_of (fixed.Word k) = keyword_class k
+class_of (fixed.Sign m) = mark_class m
+
+abbrev pub symbol : Fixed → Sym
+symbol f = Terminal (class_of f) dropped
 
 -- what an item starts with
 abbrev pub item_words : List ℕ
@@ -50,7 +61,7 @@ FILL_WORD = ID ∷ mark marks.OpenBracket ∷ ID ∷ mark marks.CloseBracket ∷
 
 -- an assignment
 abbrev pub ASSIGNMENT : List Sym
-ASSIGNMENT = word keywords.Assign ∷ ID ∷ mark marks.Equals ∷ Nonterminal RIGHT ∷ mark marks.Semicolon ∷ []
+ASSIGNMENT = word keywords.Assign ∷ ID ∷ mark marks.Equals ∷ Nonterminal RIGHT ∷ mark marks.Semicolon ∷ Action make_assign ∷ []
 
 -- the first two names of a concatenation
 abbrev pub TWO_NAMES : List Sym
@@ -68,54 +79,37 @@ RESET_VALUES = word keywords.Begin ∷ Action no_values ∷ Nonterminal VALUES �
 abbrev pub OTHERS : List Sym
 OTHERS = word keywords.Else ∷ word keywords.Begin ∷ Action no_updates ∷ Nonterminal UPDATES ∷ word keywords.End ∷ []
 
--- the new value of the word of a file
-abbrev pub FILE_VALUE : List Sym
-FILE_VALUE = ID ∷ mark marks.OpenBracket ∷ ID ∷ mark marks.CloseBracket ∷ mark marks.Arrow ∷ ID ∷ mark marks.Semicolon ∷ []
+-- an update of a register, and one of a file after its test
+abbrev pub REG_UPDATE : List Sym
+REG_UPDATE = ID ∷ mark marks.Arrow ∷ ID ∷ mark marks.Semicolon ∷ Action update_reg ∷ []
 
--- the keywords before a port
-abbrev pub INPUT_WIRE : List Sym
-INPUT_WIRE = word keywords.Input ∷ Nonterminal WIRE ∷ []
+abbrev pub FILE_UPDATE : List Sym
+FILE_UPDATE = ID ∷ mark marks.OpenBracket ∷ ID ∷ mark marks.CloseBracket ∷ mark marks.Arrow ∷ ID ∷ mark marks.Semicolon ∷ Action update_file ∷ []
 
--- `module`, the name and the clock
+-- the updates after the first one, if there is no reset list
+abbrev pub FIRST : List Sym
+FIRST = Action first_update ∷ Nonterminal UPDATES ∷ []
+
+-- `module`, the name and the clock, up to the port after it
 abbrev pub HEAD : List Sym
-HEAD = word keywords.Module ∷ ID ∷ mark marks.OpenParenthesis ∷ word keywords.Input ∷ Nonterminal WIRE ∷ ID ∷ mark marks.Comma ∷ []
-
--- an input, and the comma after it
-abbrev pub INPUT : List Sym
-INPUT = word keywords.Input ∷ Nonterminal PORT ∷ mark marks.Comma ∷ []
-
--- an output followed by this punctuator
-abbrev pub OUTPUT : Mark → List Sym
-OUTPUT m = word keywords.Output ∷ Nonterminal PORT ∷ mark m ∷ []
-
--- the last output, up to the semicolon
-abbrev pub LAST_OUTPUT : List Sym
-LAST_OUTPUT = word keywords.Output ∷ Nonterminal PORT ∷ mark marks.CloseParenthesis ∷ mark marks.Semicolon ∷ []
+HEAD = word keywords.Module ∷ ID ∷ mark marks.OpenParenthesis ∷ word keywords.Input ∷ Nonterminal WIRE ∷ ID ∷ mark marks.Comma ∷ word keywords.Input ∷ Nonterminal WIRE ∷ []
 
 -- `module` and the name, up to the sample ports
 abbrev pub INPUTS : List Sym
-INPUTS = word keywords.Module ∷ ID ∷ mark marks.OpenParenthesis ∷ word keywords.Input ∷ Nonterminal WIRE ∷ ID ∷ mark marks.Comma ∷ word keywords.Input ∷ Nonterminal WIRE ∷ Nonterminal STALLS ∷ Action no_ports ∷ Nonterminal SAMPLES ∷ []
+INPUTS = HEAD ++ (Nonterminal STALLS ∷ Action no_ports ∷ Nonterminal SAMPLES ∷ [])
 
 -- the outputs, up to the semicolon
 abbrev pub OUTPUTS : List Sym
 OUTPUTS = word keywords.Output ∷ Nonterminal PORT ∷ mark marks.Comma ∷ word keywords.Output ∷ Nonterminal PORT ∷ mark marks.Comma ∷ word keywords.Output ∷ Nonterminal PORT ∷ mark marks.CloseParenthesis ∷ mark marks.Semicolon ∷ []
 
--- the items, and the `initial` block
-abbrev pub LINES : List Sym
-LINES = Action no_items ∷ Nonterminal ITEMS ∷ word keywords.Initial ∷ word keywords.Begin ∷ Action no_inits ∷ Nonterminal INITS ∷ word keywords.End ∷ []
-
 -- the `initial` block, from this keyword to `end`
 abbrev pub STARTS : List Sym
 STARTS = word keywords.Initial ∷ word keywords.Begin ∷ Action no_inits ∷ Nonterminal INITS ∷ word keywords.End ∷ []
 
--- the clock, up to `begin`
-abbrev pub CLOCK : List Sym
-CLOCK = word keywords.Always ∷ mark marks.At ∷ mark marks.OpenParenthesis ∷ word keywords.Posedge ∷ ID ∷ mark marks.CloseParenthesis ∷ word keywords.Begin ∷ []
+-- the items, and the `initial` block
+abbrev pub LINES : List Sym
+LINES = Action no_items ∷ Nonterminal ITEMS ∷ STARTS
 
 -- the block with the updates at the clock edge, up to the end
 abbrev pub EDGE : List Sym
 EDGE = word keywords.Always ∷ mark marks.At ∷ mark marks.OpenParenthesis ∷ word keywords.Posedge ∷ ID ∷ mark marks.CloseParenthesis ∷ word keywords.Begin ∷ Nonterminal BODY ∷ word keywords.End ∷ word keywords.Endmodule ∷ []
-
--- the last two keywords
-abbrev pub LAST : List Sym
-LAST = word keywords.End ∷ word keywords.Endmodule ∷ []

@@ -1,10 +1,25 @@
 use Rattle.std.proofs.Common.{◌∙◌, sym, arith, refl}
 use Rattle.kp_base.specs.GrammarMachine.{make, goes}
-use Rattle.kp_vread_parse.proofs.Picks.{other}
+use Rattle.kp_vread_parse.proofs.{Steps.exits, Steps.follows, Picks.goes_at, Picks.other}
 use Rattle.kp_vread_parse.proofs.edges.body.Goals as goal
+
+pub returns-in_err-test : goal.returns-in_err-test
+returns-in_err-test c = exits _ _ _ c.from_residual.ensures.1 c.in_err-test.ensures (λ o h s vs. goes_at _ (sym c.if-is.true ∙ c.is.ensures) refl (h _ _))
+
+pub returns-then-is : goal.returns-then-is
+returns-then-is c =
+    follows _ _ _ _ _ _ _ _ _ _ _ _ (λ s vs o h. goes_at _ (sym c.if-is.true ∙ c.is.ensures) refl (c.in_ok-test.ensures.leads _ _ _ h)) (omega (arith, c.in_ok-test.ensures.shrinks)) c.condition.ensures
+
+pub returns-in_err-first : goal.returns-in_err-first
+returns-in_err-first c =
+    exits _ _ _ c.from_residual-in_err-first.ensures.1 c.in_err-first.ensures (λ o h s vs. goes_at _ (sym c.if-is_name.true ∙ c.is_name.ensures) refl (h _ _))
+
+pub returns-then-is_name : goal.returns-then-is_name
+returns-then-is_name c =
+    follows _ _ _ _ _ _ _ _ _ _ _ _ (λ s vs o h. goes_at _ (sym c.if-is_name.true ∙ c.is_name.ensures) refl (c.in_ok-first.ensures.leads _ _ _ h)) (omega (arith, c.in_ok-first.ensures.shrinks)) c.only_updates.ensures
 
 pub returns : goal.returns
 returns c = record {
-  leads = λ s vs o h. goes _ (other _ _ _ _ (sym c.if-is_keyword.false ∙ c.is_keyword.ensures) (other _ _ _ _ (sym c.if-is_name.false ∙ c.is_name.ensures) refl)) (make (make ((rw c.new-none.ensures.items at h))));
+  leads = λ s vs o h. goes _ (other _ _ _ _ (sym c.if-is.false ∙ c.is.ensures) (other _ _ _ _ (sym c.if-is_name.false ∙ c.is_name.ensures) refl)) (make (make (rw c.requires at h)));
   shrinks = omega (arith);
 }

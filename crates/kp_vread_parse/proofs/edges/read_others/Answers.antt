@@ -8,18 +8,15 @@ pub returns-in_err-next : goal.returns-in_err-next
 returns-in_err-next c = exits _ _ _ c.from_residual.ensures.1 c.in_err-next.ensures (λ o h s vs. h _ _)
 
 pub returns-in_err-next-2 : goal.returns-in_err-next-2
-returns-in_err-next-2 c = exits _ _ _ c.from_residual-in_err-next-2.ensures.1 c.in_err-next-2.ensures (λ o h s vs. c.in_ok-next.ensures.leads _ _ _ (h _ _))
-
-pub returns-in_err-all : goal.returns-in_err-all
-returns-in_err-all c =
-    exits _ _ _ c.from_residual-in_err-all.ensures.1 c.in_err-all.ensures (λ o h s vs. c.in_ok-next.ensures.leads _ _ _ (c.in_ok-next-2.ensures.leads _ _ _ (make (on_top updates c.new-none.ensures.items (h _ _)))))
+returns-in_err-next-2 c =
+    exits _ _ _ c.from_residual-in_err-next-2.ensures.1 c.in_err-next-2.ensures (λ o h s vs. c.in_ok-next.ensures.leads _ _ _ (make (on_top updates c.requires (h _ _))))
 
 pub returns-in_err-next-3 : goal.returns-in_err-next-3
 returns-in_err-next-3 c =
-    exits _ _ _ c.from_residual-in_err-next-3.ensures.1 c.in_err-next-3.ensures (λ o h s vs. c.in_ok-next.ensures.leads _ _ _ (c.in_ok-next-2.ensures.leads _ _ _ (make (on_top updates c.new-none.ensures.items (c.in_ok-all.ensures.leads _ _ _ (h _ _))))))
+    exits _ _ _ c.from_residual-in_err-next-3.ensures.1 c.in_err-next-3.ensures (λ o h s vs. c.in_ok-next.ensures.leads _ _ _ (make (on_top updates c.requires (c.in_ok-next-2.ensures.leads _ _ _ (h _ _)))))
 
 pub returns : goal.returns
 returns c = record {
-  leads = λ s vs o h. c.in_ok-next.ensures.leads _ _ _ (c.in_ok-next-2.ensures.leads _ _ _ (make (on_top updates c.new-none.ensures.items (c.in_ok-all.ensures.leads _ _ _ (c.in_ok-next-3.ensures.leads _ _ _ (h))))));
-  shrinks = omega (arith, c.in_ok-next.ensures.shrinks, c.in_ok-next-2.ensures.shrinks, c.in_ok-all.ensures.shrinks, c.in_ok-next-3.ensures.shrinks);
+  leads = λ s vs o h. c.in_ok-next.ensures.leads _ _ _ (make (on_top updates c.requires (c.in_ok-next-2.ensures.leads _ _ _ (c.in_ok-next-3.ensures.leads _ _ _ h))));
+  shrinks = omega (arith, c.in_ok-next.ensures.shrinks, c.in_ok-next-2.ensures.shrinks, c.in_ok-next-3.ensures.shrinks);
 }

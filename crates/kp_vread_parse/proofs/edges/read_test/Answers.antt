@@ -5,15 +5,11 @@ use Rattle.kp_vread_parse.proofs.edges.read_test.Goals as goal
 pub returns-in_err-next : goal.returns-in_err-next
 returns-in_err-next c = exits _ _ _ c.from_residual.ensures.1 c.in_err-next.ensures (λ o h s vs. h _ _)
 
-pub returns-in_err-next-2 : goal.returns-in_err-next-2
-returns-in_err-next-2 c = exits _ _ _ c.from_residual-in_err-next-2.ensures.1 c.in_err-next-2.ensures (λ o h s vs. c.in_ok-next.ensures.leads _ _ _ (h _ _))
-
 pub returns-in_err-test : goal.returns-in_err-test
-returns-in_err-test c =
-    exits _ _ _ c.from_residual-in_err-test.ensures.1 c.in_err-test.ensures (λ o h s vs. c.in_ok-next.ensures.leads _ _ _ (c.in_ok-next-2.ensures.leads _ _ _ (h _ _)))
+returns-in_err-test c = exits _ _ _ c.from_residual-in_err-test.ensures.1 c.in_err-test.ensures (λ o h s vs. c.in_ok-next.ensures.leads _ _ _ (h _ _))
 
 pub returns : goal.returns
 returns c = record {
-  leads = λ s vs o h. c.in_ok-next.ensures.leads _ _ _ (c.in_ok-next-2.ensures.leads _ _ _ (c.in_ok-test.ensures.leads _ _ _ (h)));
-  shrinks = omega (arith, c.in_ok-next.ensures.shrinks, c.in_ok-next-2.ensures.shrinks, c.in_ok-test.ensures.shrinks);
+  leads = λ s vs o h. c.in_ok-next.ensures.leads _ _ _ (c.in_ok-test.ensures.leads _ _ _ (h));
+  shrinks = omega (arith, c.in_ok-next.ensures.shrinks, c.in_ok-test.ensures.shrinks);
 }

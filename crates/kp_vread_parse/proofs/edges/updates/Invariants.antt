@@ -5,7 +5,7 @@ use Rattle.kp_vread_parse.specs.inner.Reading.{TurnsYet}
 use Rattle.kp_vread_parse.proofs.edges.updates.Given as goal
 
 abbrev pub invariant-all : goal.invariant-all
-invariant-all l = TurnsYet l.tokens (Nonterminal UPDATES ∷ []) (Nonterminal UPDATES ∷ []) (updates l.fn.front.items ∷ []) (updates l.all.items ∷ []) l.at l.here
+invariant-all l = TurnsYet l.tokens (Nonterminal UPDATES ∷ []) (Nonterminal UPDATES ∷ []) (updates l.fn.all.items ∷ []) (updates l.all.items ∷ []) l.at l.here
 
 abbrev pub decreases-all : goal.decreases-all
 decreases-all l = length (drop l.here l.tokens)

@@ -5,22 +5,18 @@ use Rattle.kp_vread_parse.proofs.inits.start.Goals as goal
 
 pub returns-in_err-next : goal.returns-in_err-next
 returns-in_err-next c =
-    exits _ _ _ c.from_residual.ensures.1 c.in_err-next.ensures (λ o h s vs. goes _ (other _ _ _ _ (sym c.if-is_mark.false ∙ c.is_mark.ensures) refl) (h _ _))
+    exits _ _ _ c.from_residual.ensures.1 c.in_err-next.ensures (λ o h s vs. goes _ (other _ _ _ _ (sym c.if-is.false ∙ c.is.ensures) refl) (h _ _))
 
 pub returns-in_err-index : goal.returns-in_err-index
 returns-in_err-index c =
-    exits _ _ _ c.from_residual-in_err-index.ensures.1 c.in_err-index.ensures (λ o h s vs. goes _ (other _ _ _ _ (sym c.if-is_mark.false ∙ c.is_mark.ensures) refl) (c.in_ok-next.ensures.leads _ _ _ (h _ _)))
-
-pub returns-in_err-next-2 : goal.returns-in_err-next-2
-returns-in_err-next-2 c =
-    exits _ _ _ c.from_residual-in_err-next-2.ensures.1 c.in_err-next-2.ensures (λ o h s vs. goes _ (other _ _ _ _ (sym c.if-is_mark.false ∙ c.is_mark.ensures) refl) (c.in_ok-next.ensures.leads _ _ _ (c.in_ok-index.ensures.leads _ _ _ (h _ _))))
+    exits _ _ _ c.from_residual-in_err-index.ensures.1 c.in_err-index.ensures (λ o h s vs. goes _ (other _ _ _ _ (sym c.if-is.false ∙ c.is.ensures) refl) (c.in_ok-next.ensures.leads _ _ _ (h _ _)))
 
 pub returns-in_err-value : goal.returns-in_err-value
 returns-in_err-value c =
-    exits _ _ _ c.from_residual-in_err-value.ensures.1 c.in_err-value.ensures (λ o h s vs. goes _ (other _ _ _ _ (sym c.if-is_mark.false ∙ c.is_mark.ensures) refl) (c.in_ok-next.ensures.leads _ _ _ (c.in_ok-index.ensures.leads _ _ _ (c.in_ok-next-2.ensures.leads _ _ _ (h _ _)))))
+    exits _ _ _ c.from_residual-in_err-value.ensures.1 c.in_err-value.ensures (λ o h s vs. goes _ (other _ _ _ _ (sym c.if-is.false ∙ c.is.ensures) refl) (c.in_ok-next.ensures.leads _ _ _ (c.in_ok-index.ensures.leads _ _ _ (h _ _))))
 
 pub returns : goal.returns
 returns c = record {
-  leads = λ s vs o h. goes _ (other _ _ _ _ (sym c.if-is_mark.false ∙ c.is_mark.ensures) refl) (c.in_ok-next.ensures.leads _ _ _ (c.in_ok-index.ensures.leads _ _ _ (c.in_ok-next-2.ensures.leads _ _ _ (c.in_ok-value.ensures.leads _ _ _ (make (h))))));
-  shrinks = omega (arith, c.in_ok-next.ensures.shrinks, c.in_ok-index.ensures.shrinks, c.in_ok-next-2.ensures.shrinks, c.in_ok-value.ensures.shrinks);
+  leads = λ s vs o h. goes _ (other _ _ _ _ (sym c.if-is.false ∙ c.is.ensures) refl) (c.in_ok-next.ensures.leads _ _ _ (c.in_ok-index.ensures.leads _ _ _ (c.in_ok-value.ensures.leads _ _ _ (make (h)))));
+  shrinks = omega (arith, c.in_ok-next.ensures.shrinks, c.in_ok-index.ensures.shrinks, c.in_ok-value.ensures.shrinks);
 }

@@ -1,5 +1,5 @@
 use Rattle.std.proofs.Common.{arith, refl}
-use Rattle.kp_vread_parse.proofs.{Steps.exits, Picks.goes_at}
+use Rattle.kp_vread_parse.proofs.{Steps.exits, Steps.follows, Picks.goes_at}
 use Rattle.kp_vread_parse.proofs.items.memory.Goals as goal
 
 pub returns-in_err-next : goal.returns-in_err-next
@@ -13,12 +13,6 @@ pub returns-in_err-name : goal.returns-in_err-name
 returns-in_err-name c =
     exits _ _ _ c.from_residual-in_err-name.ensures.1 c.in_err-name.ensures (λ o h s vs. goes_at _ c.requires refl (c.in_ok-next.ensures.leads _ _ _ (c.in_ok-range.ensures.leads _ _ _ (h _ _))))
 
-pub returns-in_err-item : goal.returns-in_err-item
-returns-in_err-item c =
-    exits _ _ _ c.from_residual-in_err-item.ensures.1 c.in_err-item.ensures (λ o h s vs. goes_at _ c.requires refl (c.in_ok-next.ensures.leads _ _ _ (c.in_ok-range.ensures.leads _ _ _ (c.in_ok-name.ensures.leads _ _ _ (h _ _)))))
-
 pub returns : goal.returns
-returns c = record {
-  leads = λ s vs o h. goes_at _ c.requires refl (c.in_ok-next.ensures.leads _ _ _ (c.in_ok-range.ensures.leads _ _ _ (c.in_ok-name.ensures.leads _ _ _ (c.in_ok-item.ensures.leads _ _ _ (h)))));
-  shrinks = omega (arith, c.in_ok-next.ensures.shrinks, c.in_ok-range.ensures.shrinks, c.in_ok-name.ensures.shrinks, c.in_ok-item.ensures.shrinks);
-}
+returns c =
+    follows _ _ _ _ _ _ _ _ _ _ _ _ (λ s vs o h. goes_at _ c.requires refl (c.in_ok-next.ensures.leads _ _ _ (c.in_ok-range.ensures.leads _ _ _ (c.in_ok-name.ensures.leads _ _ _ (h))))) (omega (arith, c.in_ok-next.ensures.shrinks, c.in_ok-range.ensures.shrinks, c.in_ok-name.ensures.shrinks)) c.declared.ensures

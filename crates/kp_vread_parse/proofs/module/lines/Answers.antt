@@ -12,6 +12,6 @@ returns-in_err-starts c =
 
 pub returns : goal.returns
 returns c = record {
-  leads = λ s vs o h. make (c.in_ok-all.ensures.leads _ _ _ (c.in_ok-starts.ensures.leads _ _ _ (h)));
+  leads = λ s vs o h. make (c.in_ok-all.ensures.leads _ _ _ (c.in_ok-starts.ensures.leads _ _ _ (rw (c.new-items.ensures, c.new.ensures) at h)));
   shrinks = omega (arith, c.in_ok-all.ensures.shrinks, c.in_ok-starts.ensures.shrinks);
 }

@@ -2,18 +2,22 @@ use Rattle.std.proofs.Common.{arith}
 use Rattle.kp_vread_parse.proofs.Steps.{exits}
 use Rattle.kp_vread_parse.proofs.module.read_edge.Goals as goal
 
+pub returns-in_err-next : goal.returns-in_err-next
+returns-in_err-next c = exits _ _ _ c.from_residual.ensures.1 c.in_err-next.ensures (λ o h s vs. h _ _)
+
 pub returns-in_err-clock : goal.returns-in_err-clock
-returns-in_err-clock c = exits _ _ _ c.from_residual.ensures.1 c.in_err-clock.ensures (λ o h s vs. h _ _)
+returns-in_err-clock c = exits _ _ _ c.from_residual-in_err-clock.ensures.1 c.in_err-clock.ensures (λ o h s vs. c.in_ok-next.ensures.leads _ _ _ (h _ _))
 
 pub returns-in_err-reset : goal.returns-in_err-reset
-returns-in_err-reset c = exits _ _ _ c.from_residual-in_err-reset.ensures.1 c.in_err-reset.ensures (λ o h s vs. c.in_ok-clock.ensures.leads _ _ _ (h _ _))
+returns-in_err-reset c =
+    exits _ _ _ c.from_residual-in_err-reset.ensures.1 c.in_err-reset.ensures (λ o h s vs. c.in_ok-next.ensures.leads _ _ _ (c.in_ok-clock.ensures.leads _ _ _ (h _ _)))
 
-pub returns-in_err-next : goal.returns-in_err-next
-returns-in_err-next c =
-    exits _ _ _ c.from_residual-in_err-next.ensures.1 c.in_err-next.ensures (λ o h s vs. c.in_ok-clock.ensures.leads _ _ _ (c.in_ok-reset.ensures.leads _ _ _ (h _ _)))
+pub returns-in_err-next-2 : goal.returns-in_err-next-2
+returns-in_err-next-2 c =
+    exits _ _ _ c.from_residual-in_err-next-2.ensures.1 c.in_err-next-2.ensures (λ o h s vs. c.in_ok-next.ensures.leads _ _ _ (c.in_ok-clock.ensures.leads _ _ _ (c.in_ok-reset.ensures.leads _ _ _ (h _ _))))
 
 pub returns : goal.returns
 returns c = record {
-  leads = λ s vs o h. c.in_ok-clock.ensures.leads _ _ _ (c.in_ok-reset.ensures.leads _ _ _ (c.in_ok-next.ensures.leads _ _ _ (rw c.new-updates.ensures at h)));
-  shrinks = omega (arith, c.in_ok-clock.ensures.shrinks, c.in_ok-reset.ensures.shrinks, c.in_ok-next.ensures.shrinks);
+  leads = λ s vs o h. c.in_ok-next.ensures.leads _ _ _ (c.in_ok-clock.ensures.leads _ _ _ (c.in_ok-reset.ensures.leads _ _ _ (c.in_ok-next-2.ensures.leads _ _ _ (rw c.new-updates.ensures at h))));
+  shrinks = omega (arith, c.in_ok-next.ensures.shrinks, c.in_ok-clock.ensures.shrinks, c.in_ok-reset.ensures.shrinks, c.in_ok-next-2.ensures.shrinks);
 }

@@ -5,16 +5,16 @@ use Rattle.kp_vread_parse.proofs.ports.samples.Goals as goal
 
 pub returns-in_err-one : goal.returns-in_err-one
 returns-in_err-one c =
-    exits _ _ _ c.from_residual.ensures.1 c.in_err-one.ensures (λ o h s vs. c.all.invariant.leads _ _ _ (goes_at _ (sym c.all-test.true ∙ c.is_keyword.ensures) refl (h _ _)))
+    exits _ _ _ c.from_residual.ensures.1 c.in_err-one.ensures (λ o h s vs. c.all.invariant.leads _ _ _ (goes_at _ (sym c.all-test.true ∙ c.is.ensures) refl (h _ _)))
 
 pub all-preserved : goal.all-preserved
 all-preserved c = rw c.in_ok-push.ensures.items (record {
-  leads = λ s vs o h. c.all.invariant.leads _ _ _ (goes_at _ (sym c.all-test.true ∙ c.is_keyword.ensures) refl (c.in_ok-one.ensures.leads _ _ _ (make (h))));
+  leads = λ s vs o h. c.all.invariant.leads _ _ _ (goes_at _ (sym c.all-test.true ∙ c.is.ensures) refl (c.in_ok-one.ensures.leads _ _ _ (make (h))));
   shrinks = omega (arith, c.all.invariant.shrinks, c.in_ok-one.ensures.shrinks);
 })
 
 pub returns : goal.returns
 returns c = record {
-  leads = λ s vs o h. c.all.invariant.leads _ _ _ (goes _ (other _ _ _ _ (sym c.all-test.false ∙ c.is_keyword.ensures) refl) h);
+  leads = λ s vs o h. c.all.invariant.leads _ _ _ (goes _ (other _ _ _ _ (sym c.all-test.false ∙ c.is.ensures) refl) h);
   shrinks = omega (arith, c.all.invariant.shrinks);
 }

@@ -1,6 +1,6 @@
 use Rattle.std.proofs.Common.{arith}
 use Rattle.kp_base.specs.GrammarMachine.{make}
-use Rattle.kp_vread_parse.proofs.{Picks.behind_op, Steps.exits}
+use Rattle.kp_vread_parse.proofs.{Steps.exits, Picks.behind_op}
 use Rattle.kp_vread_parse.proofs.rights.binary.Goals as goal
 
 pub returns-in_err-next : goal.returns-in_err-next

@@ -12,6 +12,6 @@ returns-in_err-second c = exits _ _ _ c.from_residual-in_err-second.ensures.1 c.
 
 pub returns : goal.returns
 returns c = record {
-  leads = λ s vs o h. c.in_ok-first.ensures.leads _ _ _ (c.in_ok-second.ensures.leads _ _ _ (make (on_top names c.in_ok-two.ensures (h))));
+  leads = λ s vs o h. c.in_ok-first.ensures.leads _ _ _ (c.in_ok-second.ensures.leads _ _ _ (make (on_top names c.in_ok-two.ensures.items (h))));
   shrinks = omega (arith, c.in_ok-first.ensures.shrinks, c.in_ok-second.ensures.shrinks);
 }

@@ -1,6 +1,6 @@
 use Rattle.std.proofs.Common.{arith}
 use Rattle.kp_vread_parse.proofs.Steps.{exits}
-use Rattle.kp_vread_parse.proofs.ports.output_before.Goals as goal
+use Rattle.kp_vread_parse.proofs.ports.port_between.Goals as goal
 
 pub returns-in_err-next : goal.returns-in_err-next
 returns-in_err-next c = exits _ _ _ c.from_residual.ensures.1 c.in_err-next.ensures (λ o h s vs. h _ _)

@@ -1,7 +1,7 @@
 use Rattle.std.proofs.Common.{arith, refl}
 use Rattle.kp_base.specs.GrammarMachine.{make}
 use Rattle.kp_vread_parse.proofs.{Steps.exits, Picks.goes_at}
-use Rattle.kp_vread_parse.proofs.ports.behind_reset.Goals as goal
+use Rattle.kp_vread_parse.proofs.ports.with_reset.Goals as goal
 
 pub returns-in_err-reset : goal.returns-in_err-reset
 returns-in_err-reset c = exits _ _ _ c.from_residual.ensures.1 c.in_err-reset.ensures (λ o h s vs. goes_at _ c.requires refl (h _ _))

@@ -1,0 +1,16 @@
+use Rattle.std.proofs.Common.{arith}
+use Rattle.kp_base.specs.GrammarMachine.{make}
+use Rattle.kp_vread_parse.proofs.Steps.{exits}
+use Rattle.kp_vread_parse.proofs.edges.reg_update.Goals as goal
+
+pub returns-in_err-name : goal.returns-in_err-name
+returns-in_err-name c = exits _ _ _ c.from_residual.ensures.1 c.in_err-name.ensures (λ o h s vs. h _ _)
+
+pub returns-in_err-value : goal.returns-in_err-value
+returns-in_err-value c = exits _ _ _ c.from_residual-in_err-value.ensures.1 c.in_err-value.ensures (λ o h s vs. c.in_ok-name.ensures.leads _ _ _ (h _ _))
+
+pub returns : goal.returns
+returns c = record {
+  leads = λ s vs o h. c.in_ok-name.ensures.leads _ _ _ (c.in_ok-value.ensures.leads _ _ _ (make (h)));
+  shrinks = omega (arith, c.in_ok-name.ensures.shrinks, c.in_ok-value.ensures.shrinks);
+}
