@@ -1,16 +1,16 @@
 // Complete modules.
-ghost use Rattle.std.specs.Prelude.{[], ◌∷◌, MatchResult};
+ghost use Rattle.std.specs.Prelude.{[], ◌∷◌, ◌++◌, MatchResult};
 ghost use Rattle.kp_base.specs.Grammar.{Nonterminal};
 ghost use Rattle.kp_base.specs.GrammarMachine.{Accepts};
-ghost use Rattle.kp_vlog.specs.Language.{MODULE, whole, named, perhaps_reset, items as items_value, inits as inits_value, updates as updates_value};
-ghost use Rattle.kp_vread_parse.specs.inner.Words.{LINES, STARTS, EDGE};
+ghost use Rattle.kp_vlog.specs.Language.{MODULE, whole, named, perhaps_named, perhaps_reset, port as port_value, ports as ports_value, items as items_value, inits as inits_value, updates as updates_value};
+ghost use Rattle.kp_vread_parse.specs.inner.Words.{INPUTS, OUTPUTS, LINES, STARTS, EDGE};
 ghost use Rattle.kp_vread_parse.specs.inner.Reading.{Turns, Ends, ModuleGoes, FaultIs};
 
 use crate::edges::body;
 use crate::fault::Fault;
 use crate::inits::inits;
 use crate::items::items;
-use crate::ports::{read_inputs, read_outputs};
+use crate::ports::{Inputs, Outputs, read_inputs, read_outputs};
 use crate::tokens::{Fixed, Tokens};
 use kp_base::List;
 use kp_vlog::{Init, Item, Keyword, Mark, Named, ResetList, Update, VModule};
@@ -22,6 +22,14 @@ struct Edge {
     clock: Named,
     reset: Option<ResetList>,
     updates: List<Update>,
+}
+
+// What follows the ports.
+#[derive(Drop)]
+struct Body {
+    items: List<Item>,
+    inits: List<Init>,
+    edge: Edge,
 }
 
 /// The module of these tokens.
@@ -42,10 +50,8 @@ pub(crate) fn module(alloc: Global, tokens: &Tokens<'_>) -> Result<VModule, Faul
 fn read_module(alloc: Global, tokens: &Tokens<'_>, at: usize) -> Result<(VModule, usize), Fault>
     ensures { MatchResult result (λ x. Turns tokens.now (Nonterminal MODULE ∷ []) [] (whole x.0 ∷ []) at x.1 0) (Ends tokens.now (Nonterminal MODULE ∷ []) [] at) }
 {
-    let (first, next) = read_inputs(alloc, tokens, at)?;
-    let (second, next) = read_outputs(alloc, tokens, next)?;
-    let (items, inits, next) = lines(alloc, tokens, next)?;
-    let (edge, next) = read_edge(alloc, tokens, next)?;
+    let (first, second, next) = read_ports(alloc, tokens, at)?;
+    let (body, next) = read_body(alloc, tokens, next)?;
     let parsed = VModule {
         name: first.name,
         clk: first.clk,
@@ -55,13 +61,36 @@ fn read_module(alloc: Global, tokens: &Tokens<'_>, at: usize) -> Result<(VModule
         full: second.full,
         ue: second.ue,
         back: second.back,
-        items,
-        inits,
-        clock: edge.clock,
-        reset: edge.reset,
-        updates: edge.updates,
+        items: body.items,
+        inits: body.inits,
+        clock: body.edge.clock,
+        reset: body.edge.reset,
+        updates: body.edge.updates,
     };
     Ok((parsed, next))
+}
+
+// The name and the ports.
+fn read_ports(
+    alloc: Global,
+    tokens: &Tokens<'_>,
+    at: usize,
+) -> Result<(Inputs, Outputs, usize), Fault>
+    ensures { MatchResult result (λ x. Turns tokens.now (INPUTS ++ OUTPUTS) [] (port_value x.1.back ∷ port_value x.1.ue ∷ port_value x.1.full ∷ ports_value x.0.samples ∷ port_value x.0.ext ∷ perhaps_named x.0.rst ∷ named x.0.clk ∷ named x.0.name ∷ []) at x.2 0) (Ends tokens.now (INPUTS ++ OUTPUTS) [] at) }
+{
+    let (first, next) = read_inputs(alloc, tokens, at)?;
+    let (second, next) = read_outputs(alloc, tokens, next)?;
+    Ok((first, second, next))
+}
+
+// What follows the ports, up to the end.
+fn read_body(alloc: Global, tokens: &Tokens<'_>, at: usize) -> Result<(Body, usize), Fault>
+    ensures { MatchResult result (λ x. Turns tokens.now (LINES ++ EDGE) [] (updates_value x.0.edge.updates ∷ perhaps_reset x.0.edge.reset ∷ named x.0.edge.clock ∷ inits_value x.0.inits ∷ items_value x.0.items ∷ []) at x.1 0) (Ends tokens.now (LINES ++ EDGE) [] at) }
+{
+    let (items, inits, next) = lines(alloc, tokens, at)?;
+    let (edge, next) = read_edge(alloc, tokens, next)?;
+    let body = Body { items, inits, edge };
+    Ok((body, next))
 }
 
 // The items, and the `initial` block.
