@@ -5,10 +5,11 @@ use Rattle.std.proofs.lemmas.List.Elements.{All-head, All-tail}
 use Rattle.kp_net.specs.declared.node.{NodeId.NodeId, Kind.Kind}
 use Rattle.kp_net.specs.declared.node.Kind.TheVariants.{Word, Not, Binary, Mux, Concat, Slice}
 use Rattle.kp_net.specs.declared.{node.Node.Node, netlist.NetFile.NetFile, netlist.NetReg.NetReg, netlist.Parts.Parts, netlist.Port.Port}
-use Rattle.kp_net.specs.{Netlist.Net, Parts.NetOk, Parts.CellOk, Parts.no_file, Widths.Distinct, Widths.KindOk, Widths.NodeOk, Widths.no_node}
+use Rattle.kp_net.specs.{Netlist.Net, Parts.NetOk, Parts.CellOk, Parts.no_file, Widths.KindOk, Widths.NodeOk, Widths.no_node}
 use Rattle.kp_equiv.specs.{Alike.commutes, Classes.place, Classes.no_class, Classes.class_in, Classes.Determines}
-use Rattle.kp_equiv.specs.inner.Shapes.{Known, known_of, AreFew, first_of_pair, second_of_pair, shape_kind, shape, AreClasses, Extends, Grown}
-use Rattle.kp_equiv.proofs.{Places.reg_count, Places.file_count, Places.sample_count, Exactness.determines}
+use Rattle.kp_equiv.proofs.Places.{reg_count, file_count, sample_count}
+use Rattle.kp_equiv.specs.inner.Shapes.{Known, known_of, AreFew, first_of_pair, second_of_pair, shape_kind, shape, Numbered, Has, IsTable, Extends, Puts, AreClasses, Grown}
+use Rattle.kp_equiv.proofs.Exactness.{determines}
 
 -- a shape depends only on the classes of the operands
 all_agree : (m n : NodeId → NodeId) (i : ℕ) (xs : List NodeId) → All (λ x. x.0 < i) xs → ((x : NodeId) → x.0 < i → m x ≡ n x) → map m xs ≡ map n xs
@@ -29,6 +30,12 @@ kinds_agree ks p ns i w m n (Concat xs) h e = ap Concat (all_agree m n i xs h.2 
 kinds_agree ks p ns i w m n (Slice a hi lo) h e = ap (λ (x : NodeId). Slice x hi lo) (e a h.0)
 kinds_agree ks p ns i w m n _ h e = refl
 
+-- a source in terms of the known names
+pub source_shape : {X : Type 0} (K : ℕ → Kind) (f : Known → List (List ℕ)) (name : X → List ℕ) (d x : X) (old ks : Known) (xs ys zs : List X) (i r : ℕ) → old ≡ ks → xs ≡ ys → ys ≡ zs
+    → i < length zs → x ≡ get_or xs i x → r ≡ place (f old) (name x) → K r ≡ K (place (f ks) (name (get_or zs i d)))
+source_shape K f name d x old ks xs ys zs i r k e g l is p =
+    ap K (p ∙ ap (λ o. place (f o) (name x)) k ∙ ap (λ y. place (f ks) (name y)) (is ∙ ap (λ ws. get_or ws i x) (e ∙ g) ∙ get_or_default zs i x d l))
+
 -- one more class preserves the existing ones
 kept : (cs : List NodeId) (c x : NodeId) → x.0 < length cs → class_in cs x ≡ class_in (cs ++ c ∷ []) x
 kept cs c x l = sym (get_or-append cs (c ∷ []) no_class x.0 l)
@@ -41,63 +48,34 @@ shape_kept ks net cs c i ok l h =
     let k = kinds_agree ks net.parts net.nodes i n.width (class_in cs) (class_in (cs ++ c ∷ [])) n.kind o.kind (λ x m. kept cs c x (omega arith)) in
     λ t. record { width = n.width; kind = k t }
 
-pub no_classes : (ks : Known) (net : Net) (ns : List Node) → AreClasses ks net ns []
-no_classes ks net ns = record { inside = λ i l. absurd (omega (arith, l)); known = λ i l. absurd (omega (arith, l)) }
+pub more_classes : (ks : Known) (net : Net) (old new : Numbered) (cs : List NodeId) (c : NodeId) (n : Node) (i : ℕ) → NetOk net → i < length net.nodes → length cs ≡ i
+    → n ≡ get_or net.nodes i n → AreClasses ks net old cs → Extends old new → Has new (shape ks net.parts (class_in cs) n) c.0 → AreClasses ks net new (cs ++ c ∷ [])
+more_classes ks net old new cs c n i ok l z is h grows there j m =
+    let seam : get_or (cs ++ c ∷ []) (length cs) no_class ≡ c = get_or-append_seam cs c [] no_class in
+    let here : n ≡ get_or net.nodes (length cs) no_node = is ∙ get_or_default net.nodes i n no_node l ∙ ap (λ (k : ℕ). get_or net.nodes k no_node) (sym z) in
+    below_more (λ (k : ℕ). Has new (shape ks net.parts (class_in (cs ++ c ∷ [])) (get_or net.nodes k no_node)) (get_or (cs ++ c ∷ []) k no_class).0) (length cs)
+    (λ k q. subst (λ (x : NodeId). Has new (shape ks net.parts (class_in (cs ++ c ∷ [])) (get_or net.nodes k no_node)) x.0) (sym (get_or-append cs (c ∷ []) no_class k q))
+    (subst (λ (s : Node). Has new s (get_or cs k no_class).0) (shape_kept ks net cs c k ok (omega (arith, z)) (omega arith)) (grows _ _ (h k q))))
+    (subst (λ (x : NodeId). Has new (shape ks net.parts (class_in (cs ++ c ∷ [])) (get_or net.nodes (length cs) no_node)) x.0) (sym seam)
+    (subst (λ (s : Node). Has new s c.0) (ap (shape ks net.parts (class_in cs)) here ∙ shape_kept ks net cs c (length cs) ok (omega (arith, z)) (omega arith)) there))
+    j (omega (arith, m, length-append cs (c ∷ [])))
 
-pub more_classes : (ks : Known) (net : Net) (old new : List Node) (cs : List NodeId) (c : NodeId) (n : Node) (i : ℕ) → NetOk net → i < length net.nodes → length cs ≡ i
-    → n ≡ get_or net.nodes i n → AreClasses ks net old cs → Extends old new → c.0 < length new → get_or new c.0 no_node ≡ shape ks net.parts (class_in cs) n
-    → AreClasses ks net new (cs ++ c ∷ [])
-more_classes ks net old new cs c n i ok l z is h grows within there =
-    let last : get_or (cs ++ c ∷ []) (length cs) no_class ≡ c = get_or-append_seam cs c [] no_class in
-    record {
-      inside = λ j m. below_more (λ (k : ℕ). (get_or (cs ++ c ∷ []) k no_class).0 < length new) (length cs)
-          (λ k q. subst (λ (x : NodeId). x.0 < length new) (sym (get_or-append cs (c ∷ []) no_class k q)) (let o = h.inside k q in let g = grows.longer in omega arith))
-          (subst (λ (x : NodeId). x.0 < length new) (sym last) within) j (omega (arith, m, length-append cs (c ∷ [])));
-      known = λ j m. below_more (λ (k : ℕ). get_or new (get_or (cs ++ c ∷ []) k no_class).0 no_node ≡ shape ks net.parts (class_in (cs ++ c ∷ [])) (get_or net.nodes k no_node)) (length cs)
-          (λ k q. ap (λ (x : NodeId). get_or new x.0 no_node) (get_or-append cs (c ∷ []) no_class k q) ∙ grows.same (get_or cs k no_class).0 (h.inside k q) ∙ h.known k q
-          ∙ shape_kept ks net cs c k ok (omega (arith, z)) (omega arith))
-          (ap (λ (x : NodeId). get_or new x.0 no_node) last ∙ there
-          ∙ ap (shape ks net.parts (class_in cs)) (is ∙ get_or_default net.nodes i n no_node l ∙ ap (λ (k : ℕ). get_or net.nodes k no_node) (sym z))
-          ∙ shape_kept ks net cs c (length cs) ok (omega (arith, z)) (omega arith)) j (omega (arith, m, length-append cs (c ∷ [])));
-    }
+pub none_grown : (ks : Known) (net : Net) (t : Numbered) → IsTable t → Grown ks net t t [] 0
+none_grown ks net t h = record { count = refl; within = omega arith; classes_are = λ i l. absurd (omega (arith, l)); extends = λ s i k. k; grown = omega arith; table = h }
 
-pub extends_twice : (ns ms ls : List Node) → Extends ns ms → Extends ms ls → Extends ns ls
-extends_twice ns ms ls p q = record {
-  longer = (let a = p.longer in let b = q.longer in omega arith);
-  same = λ i l. q.same i (let a = p.longer in omega arith) ∙ p.same i l;
-}
-
--- classes are preserved when the table grows
-pub classes_stay : (ks : Known) (net : Net) (old new : List Node) (cs : List NodeId) → AreClasses ks net old cs → Extends old new → AreClasses ks net new cs
-classes_stay ks net old new cs h grows = record {
-  inside = λ i l. (let o = h.inside i l in let g = grows.longer in omega arith);
-  known = λ i l. grows.same (get_or cs i no_class).0 (h.inside i l) ∙ h.known i l;
-}
-
-pub none_grown : (ks : Known) (net : Net) (ns : List Node) → Distinct ns → Grown ks net ns ns [] 0
-none_grown ks net ns d = record {
-  count = refl;
-  within = omega arith;
-  classes_are = no_classes ks net ns;
-  extends = record { longer = omega arith; same = λ i l. refl };
-  grown = omega arith;
-  distinct = d;
-}
-
-pub one_grown : (ks : Known) (net : Net) (start old new nodes : List Node) (cs ds : List NodeId) (c : NodeId) (n s : Node) (i : ℕ) → NetOk net → nodes ≡ net.nodes → i < length nodes → n ≡ get_or nodes i n
-    → Grown ks net start old cs i → s ≡ shape ks net.parts (class_in cs) n → get_or new c.0 no_node ≡ s → c.0 < length new → Extends old new → length new ≤ length old + 1 → Distinct new
-    → ds ≡ cs ++ c ∷ [] → Grown ks net start new ds (i + 1)
-one_grown ks net start old new nodes cs ds c n s i ok e l is h shaped there within grows few d more =
+pub one_grown : (ks : Known) (net : Net) (start old new : Numbered) (nodes : List Node) (cs ds : List NodeId) (c : NodeId) (n s : Node) (i : ℕ) → NetOk net → nodes ≡ net.nodes → i < length nodes
+    → n ≡ get_or nodes i n → Grown ks net start old cs i → s ≡ shape ks net.parts (class_in cs) n → Puts old new s c.0 → ds ≡ cs ++ c ∷ [] → Grown ks net start new ds (i + 1)
+one_grown ks net start old new nodes cs ds c n s i ok e l is h shaped put more =
     let li : i < length net.nodes = subst (λ (ns : List Node). i < length ns) e l in
     let at_i : n ≡ get_or net.nodes i n = subst (λ (ns : List Node). n ≡ get_or ns i n) e is in
     subst (λ (xs : List NodeId). Grown ks net start new xs (i + 1)) (sym more)
     (record {
       count = (let k = h.count in omega (arith, k, length-append cs (c ∷ [])));
       within = omega (arith, li);
-      classes_are = more_classes ks net old new cs c n i ok li h.count at_i h.classes_are grows within (there ∙ shaped);
-      extends = extends_twice start old new h.extends grows;
-      grown = (let k = h.grown in omega (arith, k, few));
-      distinct = d;
+      classes_are = more_classes ks net old new cs c n i ok li h.count at_i h.classes_are put.extends (subst (λ (x : Node). Has new x c.0) shaped put.there);
+      extends = λ r j k. put.extends r j (h.extends r j k);
+      grown = (let k = h.grown in let o = put.count in omega (arith, k, o));
+      table = put.table;
     })
 
 -- a node of the netlist is well-formed there
@@ -118,12 +96,11 @@ few_names net ks ok e = subst AreFew (sym e) (record {
 })
 
 -- and the classes of two netlists in one table determine whether nodes are equivalent
-pub classes_determine : (a b : Net) (ks : Known) (ta tb : List Node) (ca cb : List NodeId) → NetOk a → NetOk b → ks ≡ known_of a → length ca ≡ length a.nodes → length cb ≡ length b.nodes
-    → AreClasses ks a ta ca → AreClasses ks b tb cb → Extends ta tb → Distinct tb → Determines a b ca cb
-classes_determine a b ks ta tb ca cb oka okb e na nb fa fb grows d =
-    let ga : AreClasses (known_of a) a ta ca = subst (λ (k : Known). AreClasses k a ta ca) e fa in
-    let gb : AreClasses (known_of a) b tb cb = subst (λ (k : Known). AreClasses k b tb cb) e fb in
-    determines a b tb ca cb oka okb (classes_stay (known_of a) a ta tb ca ga grows) gb na nb d
+pub classes_determine : (a b : Net) (ks : Known) (ta tb : Numbered) (ca cb : List NodeId) → NetOk a → NetOk b → ks ≡ known_of a
+    → Grown ks a [] ta ca (length a.nodes) → Grown ks b ta tb cb (length b.nodes) → Determines a b ca cb
+classes_determine a b ks ta tb ca cb oka okb e ga gb =
+    determines a b tb ca cb oka okb
+    (λ i l. gb.extends _ _ (subst (λ (k : Known). AreClasses k a ta ca) e ga.classes_are i l)) (subst (λ (k : Known). AreClasses k b tb cb) e gb.classes_are) ga.count gb.count gb.table
 
 abbrev pub listed : List (List ℕ) → List (List ℕ) → List (List ℕ) → Known
 listed regs files samples = record { regs = regs; files = files; samples = samples }

@@ -1,55 +1,66 @@
 -- A table of shapes after one more.
-use Rattle.std.proofs.Common.{◌≡◌, ◌∙◌, ℕ, ◌+◌, ◌<◌, ◌≤◌, ◌++◌, Bool, true, false, cond, not, List, [], ◌∷◌, length, get_or, refl, sym, ap, subst, arith, ⊎_elim, None, Some, length-append}
-use Rattle.std.proofs.{Math.ListN.get_or-append, Math.Seq.get_or-append_seam, lemmas.Bool.cases_lt, lemmas.Bool.false≢true, lemmas.Bool.Decides.Decides-ltb}
-use Rattle.std.proofs.lemmas.List.{Sums.prefix_len-le-length, Sums.passes_at_first, get_or_default, Folds.list_any-from_Any}
-use Rattle.std.specs.{Prelude.if◌then◌else◌, Prelude.nat_lt, List.list_any, List.position_or_len}
-use Rattle.indexmap.specs.IndexSet.{insert_key}
-use Rattle.kp_net.specs.{declared.node.Node.Node, Widths.Distinct, Widths.no_node, inner.Lookup.LacksBelow}
-use Rattle.kp_net.proofs.{Found.is, Found.placed, Found.not_any, Rightness.distinct_more, Same.node_from_eq}
-use Rattle.kp_equiv.specs.inner.Shapes.{Extends}
+use Rattle.std.proofs.Common.{◌≡◌, ◌∙◌, ℕ, ◌+◌, ◌⊎◌, Bool, true, false, cond, [], ◌∷◌, length, refl, sym, ap, arith, ⊎_elim, inl, inr, Option, None, Some}
+use Rattle.std.proofs.lemmas.Bool.{false_from_ne_true}
+use Rattle.std.specs.Map.{lookup}
+use Rattle.kp_net.specs.declared.node.Node.{Node}
+use Rattle.kp_net.proofs.{Found.is, Same.node_from_eq, Same.node_eq_itself}
+use Rattle.kp_equiv.specs.inner.Shapes.{Numbered, Has, IsTable, Puts}
 
-pub record Put (ns : List Node) (n : Node) (new : List Node) (i : ℕ) : Type 0 where
-  pub inside : i < length new
-  pub there : get_or new i no_node ≡ n
-  pub extends : Extends ns new
-  pub count : length new ≤ length ns + 1
-  pub distinct : Distinct new
+pub none_numbered : IsTable []
+none_numbered = record { below = λ s i h. cc h; apart = λ s r i h k. cc h }
 
-pub none_distinct : Distinct []
-none_distinct i j l h e = absurd (omega (arith, h))
-
-extends_same : (ns : List Node) → Extends ns ns
-extends_same ns = record { longer = omega arith; same = λ i l. refl }
-
-extends_more : (ns : List Node) (n : Node) → Extends ns (ns ++ n ∷ [])
-extends_more ns n = record { longer = omega (arith, length-append ns (n ∷ [])); same = λ i l. get_or-append ns (n ∷ []) no_node i l }
-
-pub put : (ns : List Node) (n : Node) (new : List Node) (i : ℕ) → Distinct ns → new ≡ insert_key is ns n → i ≡ position_or_len (is n) ns → Put ns n new i
-put ns n new i d e f = by (nat_lt (position_or_len (is n) ns) (length ns)) refl
+turned : (n q : Node) → is n q ≡ is q n
+turned n q = by (is n q) (is q n) refl refl
   where
-    by : (b : Bool) → nat_lt (position_or_len (is n) ns) (length ns) ≡ b → Put ns n new i
-    by true g =
-        let l : position_or_len (is n) ns < length ns = (Decides-ltb (position_or_len (is n) ns) (length ns)).0 g in
-        let x : Node = get_or ns (position_or_len (is n) ns) no_node in
-        let passes = passes_at_first (is n) ns no_node l in
-        let any : list_any (is n) ns ≡ true = list_any-from_Any (is n) ns (position_or_len (is n) ns, x, l, get_or_default ns (position_or_len (is n) ns) x no_node l, passes) in
-        let same : new ≡ ns = e ∙ ap (λ (b : Bool). if b then ns else ns ++ n ∷ []) any in
-        subst (λ (k : ℕ). Put ns n new k) (sym f)
-        (subst (λ (ms : List Node). Put ns n ms (position_or_len (is n) ns)) (sym same)
-        (record { inside = l; there = sym (node_from_eq n x passes); extends = extends_same ns; count = omega arith; distinct = d }))
-    by false g =
-        let past : position_or_len (is n) ns ≡ length ns = ⊎_elim
-        (λ (h : position_or_len (is n) ns < length ns). absurd (false≢true (sym g ∙ (Decides-ltb (position_or_len (is n) ns) (length ns)).1 h)))
-        (λ (h : length ns ≤ position_or_len (is n) ns). let w = prefix_len-le-length (λ x. not (is n x)) ns in omega arith)
-        (cases_lt (position_or_len (is n) ns) (length ns)) in
-        let lacks : LacksBelow ns n (length ns) = placed n ns None (sym (ap (λ (b : Bool). cond b (Some (position_or_len (is n) ns)) None) g)) in
-        let more : new ≡ ns ++ n ∷ [] = e ∙ ap (λ (b : Bool). if b then ns else ns ++ n ∷ []) (not_any n ns lacks) in
-        subst (λ (k : ℕ). Put ns n new k) (sym (f ∙ past))
-        (subst (λ (ms : List Node). Put ns n ms (length ns)) (sym more)
-        (record {
-          inside = omega (arith, length-append ns (n ∷ []));
-          there = get_or-append_seam ns n [] no_node;
-          extends = extends_more ns n;
-          count = omega (arith, length-append ns (n ∷ []));
-          distinct = distinct_more ns n d lacks;
-        }))
+    by : (a b : Bool) → is n q ≡ a → is q n ≡ b → a ≡ b
+    by true b f g = sym (sym g ∙ ap (is q) (node_from_eq n q f) ∙ node_eq_itself q)
+    by false true f g = sym f ∙ ap (is n) (node_from_eq q n g) ∙ node_eq_itself n
+    by false false f g = refl
+
+-- a shape that is in the table
+pub found : (t : Numbered) (s : Node) (i : ℕ) → IsTable t → lookup (is s) t ≡ Some i → Puts t t s i
+found t s i h e = record { there = e; extends = λ r j k. k; count = omega arith; table = h }
+
+-- and one that isn't
+module _ (old new : Numbered) (n : Node) (i : ℕ) (h : IsTable old) (none : lookup (is n) old ≡ None) (last : i ≡ length old)
+    (put : (q : Node) → lookup (is q) new ≡ cond (is n q) (Some i) (lookup (is q) old)) (more : length new ≡ length old + 1) where
+  has : (q : Node) (j : ℕ) → Has new q j → ((n ≡ q) × (j ≡ i)) ⊎ Has old q j
+  has q j k = by (is n q) refl (sym (put q) ∙ k)
+    where
+      by : (b : Bool) → is n q ≡ b → cond b (Some i) (lookup (is q) old) ≡ Some j → ((n ≡ q) × (j ≡ i)) ⊎ Has old q j
+      by true e f = inl (node_from_eq n q e, cc f)
+      by false e f = inr f
+
+  pub added : Puts old new n i
+  added = record {
+    there = put n ∙ ap (λ b. cond b (Some i) (lookup (is n) old)) (node_eq_itself n);
+    extends = λ q j k. put q ∙ ap (λ b. cond b (Some i) (lookup (is q) old)) (false_from_ne_true (is n q) (λ e. other q j k (node_from_eq n q e))) ∙ k;
+    count = omega (arith, more);
+    table = record {
+      below = λ q j k. ⊎_elim (λ e. omega (arith, e.1, last, more)) (λ o. let l = h.below q j o in omega (arith, l, more)) (has q j k);
+      apart = λ q r j k l. ⊎_elim
+          (λ e. ⊎_elim (λ f. sym e.0 ∙ f.0) (λ o. let m = h.below r j o in absurd (omega (arith, e.1, last, m))) (has r j l))
+          (λ o. ⊎_elim (λ f. let m = h.below q j o in absurd (omega (arith, f.1, last, m))) (λ p. h.apart q r j o p) (has r j l))
+          (has q j k);
+    };
+  }
+    where
+      other : (q : Node) (j : ℕ) → Has old q j → n ≡ q → ⊥
+      other q j k e = let x : None ≡ Some j = sym none ∙ ap (λ (m : Node). lookup (is m) old) e ∙ k in cc
+
+-- some table has the shape
+pub record SomePuts (t : Numbered) (s : Node) : Type 0 where
+  pub new : Numbered
+  pub number : ℕ
+  pub puts : Puts t new s number
+
+pub some_puts : (t : Numbered) (s : Node) → IsTable t → SomePuts t s
+some_puts t s h = by (lookup (is s) t) refl
+  where
+    by : (r : Option ℕ) → lookup (is s) t ≡ r → SomePuts t s
+    by (Some i) e = record { new = t; number = i; puts = found t s i h e }
+    by None e = record {
+      new = (s, length t) ∷ t;
+      number = length t;
+      puts = added t ((s, length t) ∷ t) s (length t) h e refl (λ q. ap (λ b. cond b (Some (length t)) (lookup (is q) t)) (turned q s)) (omega arith);
+    }

@@ -2,3 +2,4 @@
 pub mod Shapes
 pub mod Inputs
 pub mod Meaning
+pub mod Indexed

@@ -1,8 +1,9 @@
 // The classes of the nodes of two netlists.
-ghost use Rattle.std.specs.Prelude.{◌≡◌, ◌+◌, ◌<◌, ◌≤◌, [], length, IfOk, OnOk};
+ghost use Rattle.std.specs.Prelude.{◌≡◌, ◌≤◌, [], length, IfOk};
 ghost use Rattle.kp_net.specs.Parts.{NetOk};
-ghost use Rattle.kp_net.specs.Widths.{Distinct};
-ghost use Rattle.kp_equiv.specs.{Classes.Determines, Named.HasNames, inner.Shapes.known_of, inner.Shapes.AreFew, inner.Shapes.AreClasses, inner.Shapes.Extends};
+ghost use Rattle.kp_equiv.specs.Classes.{Determines};
+ghost use Rattle.kp_equiv.specs.Named.{HasNames};
+ghost use Rattle.kp_equiv.specs.inner.Shapes.{known_of, AreFew, IsTable, Grown};
 
 use crate::classes::Classes;
 use crate::known::Known;
@@ -44,7 +45,6 @@ fn classes_in(
     requires known { known.now ≡ known_of a.now }
     requires few { AreFew known.now }
     requires empty { table.old ≡ [] }
-    requires distinct { Distinct table.old }
     ensures { IfOk result (λ c. Determines a.now b.now c.first.items c.second.items) }
 {
     let first = classes_of_net(alloc, known, a, table)?;
@@ -61,17 +61,13 @@ fn classes_of_net(
 ) -> Result<Vec<NodeId>, NoMemory>
     requires few { AreFew known.now }
     requires room { length table.old ≤ 16777216 }
-    requires distinct { Distinct table.old }
+    requires table { IsTable table.old }
     ensures right { IfOk result (λ _. NetOk net.now) }
-    ensures count { IfOk result (λ v. length v.items ≡ length net.now.nodes) }
-    ensures classes { IfOk result (λ v. AreClasses known.now net.now table.new v.items) }
-    ensures extends { OnOk result (Extends table.old table.new) }
-    ensures grown { OnOk result (length table.new ≤ length table.old + length net.now.nodes) }
-    ensures distinct { OnOk result (Distinct table.new) }
+    ensures classes { IfOk result (λ v. Grown known.now net.now table.old table.new v.items (length net.now.nodes)) }
 {
     let mut classes = Vec::new(alloc);
     for n in net.nodes() {
-        let shape = known.shape(alloc, net, classes.as_slice(), n)?;
+        let shape = known.shape(net, classes.as_slice(), n);
         let class = table.number(shape)?;
         classes.push(class)?;
     }

@@ -60,39 +60,27 @@ impl<'m> Known<'m> {
         })
     }
 
-    /// The shape of a node whose operands have these classes. The only error is out of memory.
-    pub fn shape(
-        &self,
-        alloc: Global,
-        net: &Netlist,
-        classes: &[NodeId],
-        n: &Node,
-    ) -> Result<Node, NoMemory>
+    /// The shape of a node whose operands have these classes.
+    pub fn shape(&self, net: &Netlist, classes: &[NodeId], n: &Node) -> Node
         requires few { AreFew self.now }
         requires right { NodeOk net.now.nodes (length classes.now) n.now }
         requires cell { CellOk net.now.nodes net.now.parts n.now.width n.now.kind }
-        ensures { IfOk result (λ s. s ≡ shape self.now net.now.parts (class_in classes.now) n.now) }
+        ensures { result ≡ shape self.now net.now.parts (class_in classes.now) n.now }
     {
-        let width = n.width;
-        let kind = self.kind(alloc, net, classes, width, &n.kind)?;
-        Ok(Node { width, kind })
+        Node {
+            width: n.width,
+            kind: self.kind(net, classes, n.width, &n.kind),
+        }
     }
 
-    fn kind(
-        &self,
-        alloc: Global,
-        net: &Netlist,
-        classes: &[NodeId],
-        width: u8,
-        kind: &Kind,
-    ) -> Result<Kind, NoMemory>
+    fn kind(&self, net: &Netlist, classes: &[NodeId], width: u8, kind: &Kind) -> Kind
         requires few { AreFew self.now }
         requires right { KindOk net.now.nodes (length classes.now) width kind.now }
         requires cell { CellOk net.now.nodes net.now.parts width kind.now }
-        ensures { IfOk result (λ k. k ≡ shape_kind self.now net.now.parts (class_in classes.now) kind.now) }
+        ensures { result ≡ shape_kind self.now net.now.parts (class_in classes.now) kind.now }
     {
         let parts = net.parts();
-        Ok(match kind {
+        match kind {
             Kind::Const(value) => Kind::Const(*value),
             Kind::Ext => Kind::Ext,
             Kind::Sample(s) => {
@@ -114,9 +102,9 @@ impl<'m> Known<'m> {
                 class_of(classes, *yes),
                 class_of(classes, *no),
             ),
-            Kind::Concat(nodes) => Kind::Concat(joined(alloc, classes, nodes)?),
+            Kind::Concat(nodes) => Kind::Concat(joined(classes, nodes)),
             Kind::Slice(a, hi, lo) => Kind::Slice(class_of(classes, *a), *hi, *lo),
-        })
+        }
     }
 }
 
@@ -131,18 +119,14 @@ fn binary(op: BinOp, a: NodeId, b: NodeId) -> Kind
     }
 }
 
-fn joined(alloc: Global, classes: &[NodeId], nodes: &Operands) -> Result<Operands, NoMemory>
+fn joined(classes: &[NodeId], nodes: &Operands) -> Operands
     requires { All (λ x. x.0 < length classes.now) nodes.now }
-    ensures { IfOk result (λ r. r ≡ map (class_in classes.now) nodes.now) }
+    ensures { result ≡ map (class_in classes.now) nodes.now }
 {
-    let there = classes_in(alloc, classes, nodes.nodes())?;
-    Ok(Operands::new(there.as_slice()))
-}
-
-fn classes_in(alloc: Global, classes: &[NodeId], nodes: &[NodeId]) -> Result<Vec<NodeId>, NoMemory>
-    requires { All (λ x. x.0 < length classes.now) nodes.now }
-    ensures { IfOk result (λ v. v.items ≡ map (class_in classes.now) nodes.now) }
-{
-    let there = nodes.iter().map(|x| class_of(classes, *x)).collect(alloc)?;
-    Ok(there)
+    let parts = nodes.nodes();
+    let mut there = [NodeId(0); 12];
+    for i in 0..parts.len() {
+        there[i] = class_of(classes, parts[i]);
+    }
+    Operands::new(&there[..parts.len()])
 }

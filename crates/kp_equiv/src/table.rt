@@ -1,60 +1,59 @@
 // The shapes of the nodes of two netlists, each once.
-ghost use Rattle.std.specs.Prelude.{◌≡◌, ◌+◌, ◌-◌, ◌<◌, ◌≤◌, ◌^◌, [], length, get_or, IfOk, OnOk};
-ghost use Rattle.kp_net.specs.Widths.{no_node, Distinct};
-ghost use Rattle.kp_equiv.specs.inner.Shapes.{Extends};
+ghost use Rattle.std.specs.Prelude.{◌≡◌, ◌-◌, ◌<◌, ◌^◌, [], length, IfOk};
+ghost use Rattle.kp_equiv.specs.inner.Shapes.{IsTable, Puts};
 
-use indexmap::IndexSet;
 use kp_base::NoMemory;
 use kp_net::{Node, NodeId};
 use std::alloc::Global;
+use std::collections::HashMap;
 use std::marker::Model;
 
-/// Shapes by their numbers, from 0 on, and the number of each, which is looked up in about constant time. No two are equal.
+/// The number of each shape, from 0 on, which is looked up in about constant time. Contracts see the shapes with their numbers.
 pub(crate) struct Table {
-    shapes: IndexSet<Node>,
+    numbers: HashMap<Node, u32>,
 }
 
 impl Drop for Table {
     fn drop(self) {
-        let Table { shapes } = self;
-        drop(shapes);
+        let Table { numbers } = self;
+        drop(numbers);
     }
 }
 
 impl Model for Table {
-    ghost use Rattle.std.specs.Prelude.{List};
-    ghost use Rattle.kp_net.specs.declared.node.Node.{Node};
-    ghost use Rattle.kp_net.specs.Widths.{Distinct};
+    ghost use Rattle.kp_equiv.specs.inner.Shapes.{Numbered};
 
-    ghost Value = { List Node };
+    ghost Value = { Numbered };
 
-    ghost view = { λ t. t.shapes.keys };
-
-    ghost invariant = { λ t. Distinct t.shapes.keys };
+    ghost view = { λ t. t.numbers.entries };
 }
 
 impl Table {
     /// No shapes. Nothing is allocated until one is added.
-    #[tactic(auto, using(crate::proofs::Tables::none_distinct))]
     pub fn new(alloc: Global) -> Table
-        ensures empty { result ≡ [] }
-        ensures distinct { Distinct result }
+        ensures { result ≡ [] }
     {
         Table {
-            shapes: IndexSet::new(alloc),
+            numbers: HashMap::new(alloc),
         }
     }
 
     /// The number of a shape, which is added if it isn't present. The only error is out of memory.
     pub fn number(&mut self, shape: Node) -> Result<NodeId, NoMemory>
-        requires { length self.old < 2 ^ 32 - 1 }
-        ensures inside { IfOk result (λ i. i.0 < length self.new) }
-        ensures there { IfOk result (λ i. get_or self.new i.0 no_node ≡ shape) }
-        ensures extends { OnOk result (Extends self.old self.new) }
-        ensures count { OnOk result (length self.new ≤ length self.old + 1) }
-        ensures distinct { OnOk result (Distinct self.new) }
+        requires room { length self.old < 2 ^ 32 - 1 }
+        requires table { IsTable self.old }
+        ensures { IfOk result (λ i. Puts self.old self.new shape i.0) }
     {
-        let added = self.shapes.insert_full(shape)?;
-        Ok(NodeId(added.0 as u32))
+        match self.numbers.get(&shape).copied() {
+            Some(number) => {
+                drop(shape);
+                Ok(NodeId(number))
+            }
+            None => {
+                let number = self.numbers.len() as u32;
+                self.numbers.insert(shape, number)?;
+                Ok(NodeId(number))
+            }
+        }
     }
 }

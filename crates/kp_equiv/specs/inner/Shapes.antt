@@ -1,9 +1,10 @@
 -- Nodes of two netlists in one table, and the number of each there.
-use Rattle.std.specs.Prelude.{ℕ, ◌+◌, ◌<◌, ◌≤◌, ◌≡◌, min, max, Bool, cond, List, length, map, get_or}
+use Rattle.std.specs.{Prelude.ℕ, Prelude.◌+◌, Prelude.◌<◌, Prelude.◌≤◌, Prelude.◌≡◌, Prelude.min, Prelude.max, Prelude.Bool, Prelude.cond, Prelude.List, Prelude.length, Prelude.map, Prelude.get_or, Prelude.Some, Map.lookup}
 use Rattle.kp_net.specs.declared.node.{NodeId.NodeId, Kind.Kind}
 use Rattle.kp_net.specs.declared.node.Kind.TheVariants.{Const, Ext, Sample, Reg, Word, Not, Binary, Mux, Concat, Slice}
 use Rattle.kp_net.specs.{declared.node.Node.Node, declared.netlist.Parts.Parts, Netlist.Net, Parts.no_port, Parts.no_reg, Parts.no_file}
-use Rattle.kp_net.specs.Widths.{Distinct, no_node}
+use Rattle.kp_net.specs.Widths.{no_node}
+use Rattle.kp_net.specs.contracts.node.NodePartialEq.TheImpl as nodes
 use Rattle.kp_equiv.specs.{Alike.commutes, Classes.place, Classes.no_class, Classes.class_in, Named.reg_names, Named.file_names, Named.sample_names}
 
 -- the names of the first netlist's registers, files and sample ports
@@ -51,21 +52,40 @@ shape_kind ks p m (Slice a hi lo) = Slice (m a) hi lo
 abbrev pub shape : Known → Parts → (NodeId → NodeId) → Node → Node
 shape ks p m n = record { width = n.width; kind = shape_kind ks p m n.kind }
 
--- the table grows at its end
-pub record Extends (old new : List Node) : Type 0 where
-  pub longer : length old ≤ length new
-  pub same : (i : ℕ) → i < length old → get_or new i no_node ≡ get_or old i no_node
+-- shapes with their numbers
+abbrev pub Numbered : Type 0
+Numbered = List (Node × ℕ)
+
+-- a shape has this number
+abbrev pub Has : Numbered → Node → ℕ → Type 0
+Has t s i = lookup (nodes.eq-value.it s) t ≡ Some i
+
+-- no two shapes have the same number, and all numbers are below that of the shapes
+pub record IsTable (t : Numbered) : Type 0 where
+  pub below : (s : Node) (i : ℕ) → Has t s i → i < length t
+  pub apart : (s r : Node) (i : ℕ) → Has t s i → Has t r i → s ≡ r
+
+-- shapes keep their numbers
+abbrev pub Extends : Numbered → Numbered → Type 0
+Extends old new = (s : Node) (i : ℕ) → Has old s i → Has new s i
+
+-- a shape is put into a table, if it isn't there, and has this number
+pub record Puts (old new : Numbered) (s : Node) (i : ℕ) : Type 0 where
+  pub there : Has new s i
+  pub extends : Extends old new
+  pub count : length new ≤ length old + 1
+  pub table : IsTable new
 
 -- each of the first nodes of a netlist has a class, which is the number of its shape in the table
-pub record AreClasses (ks : Known) (net : Net) (shapes : List Node) (classes : List NodeId) : Type 0 where
-  pub inside : (i : ℕ) → i < length classes → (get_or classes i no_class).0 < length shapes
-  pub known : (i : ℕ) → i < length classes → get_or shapes (get_or classes i no_class).0 no_node ≡ shape ks net.parts (class_in classes) (get_or net.nodes i no_node)
+abbrev pub AreClasses : Known → Net → Numbered → List NodeId → Type 0
+AreClasses ks net t classes =
+    (i : ℕ) → i < length classes → Has t (shape ks net.parts (class_in classes) (get_or net.nodes i no_node)) (get_or classes i no_class).0
 
 -- the classes of the first i nodes, in a table that has grown by them
-pub record Grown (ks : Known) (net : Net) (start table : List Node) (classes : List NodeId) (i : ℕ) : Type 0 where
+pub record Grown (ks : Known) (net : Net) (start t : Numbered) (classes : List NodeId) (i : ℕ) : Type 0 where
   pub count : length classes ≡ i
   pub within : i ≤ length net.nodes
-  pub classes_are : AreClasses ks net table classes
-  pub extends : Extends start table
-  pub grown : length table ≤ length start + i
-  pub distinct : Distinct table
+  pub classes_are : AreClasses ks net t classes
+  pub extends : Extends start t
+  pub grown : length t ≤ length start + i
+  pub table : IsTable t

@@ -1,9 +1,10 @@
-use Rattle.std.proofs.Common.{◌∙◌, ap}
-use Rattle.kp_net.specs.Names.{among}
-use Rattle.kp_equiv.proofs.Naming.{any_among}
+use Rattle.std.proofs.Common.{List, ℕ, ap, ◌∙◌}
+use Rattle.std.specs.{Map.lookup, Option.is_some}
+use Rattle.kp_net.specs.Names.{same, among}
+use Rattle.kp_equiv.proofs.Naming.{present}
 use Rattle.kp_equiv.proofs.names.Names.has.Goals as goal
 
 pub returns : goal.returns
 returns c =
-    let keys = c.self.inside.names.keys in
-    c.contains.ensures ∙ any_among keys c.new.result ∙ ap (λ n. among keys n) c.new.ensures ∙ ap (λ ks. among ks c.args.name.now) c.self.view_is
+    c.contains_key.ensures ∙ ap (λ (n : List ℕ). is_some (lookup (same n) c.self.inside.indices.entries)) c.new.ensures
+    ∙ present c.self.inside.indices.entries _ c.args.name.now c.self.invariant ∙ ap (λ (ns : List (List ℕ)). among ns c.args.name.now) c.self.view_is

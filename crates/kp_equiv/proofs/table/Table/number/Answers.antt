@@ -1,28 +1,19 @@
-use Rattle.std.proofs.Common.{◌≡◌, ◌≤◌, ◌+◌, List, length, subst, ap, arith}
-use Rattle.kp_net.specs.declared.node.Node.{Node}
-use Rattle.kp_equiv.specs.inner.Shapes.{Extends}
-use Rattle.kp_equiv.proofs.Tables.{put}
+use Rattle.std.proofs.Common.{◌≡◌, ◌∙◌, ◌+◌, ℕ, Option, None, length, sym, ap, subst}
+use Rattle.std.specs.{Prelude.if◌then◌else◌, Option.is_some, Map.lookup}
+use Rattle.kp_net.proofs.Found.{is}
+use Rattle.kp_equiv.specs.inner.Shapes.{Numbered, Puts, IsTable}
+use Rattle.kp_equiv.proofs.Tables.{found, added}
 use Rattle.kp_equiv.proofs.table.Table.number.Goals as goal
 
-pub overflow_cast-result : goal.overflow_cast-result
-overflow_cast-result c =
-    let p = put c.self.inside.shapes.keys c.args.shape c.insert_full.new.self.keys c.in_ok-added.added.0 c.self.invariant c.in_ok-added.ensures.keys c.in_ok-added.ensures.index in
-    let e : length c.self.inside.shapes.keys ≡ length c.args.self.now = ap length c.self.view_is in
-    omega (arith, p.inside, p.count, e)
+pub returns-in-Some : goal.returns-in-Some
+returns-in-Some c =
+    found c.args.self.now c.args.shape c.in-Some.number c.requires.table
+    (ap (λ (t : Numbered). lookup (is c.args.shape) t) (sym c.self.view_is) ∙ sym (sym c.in-Some.is ∙ c.copied.ensures ∙ c.get.ensures.value))
 
-pub returns : goal.returns
-returns c =
-    let p = put c.self.inside.shapes.keys c.args.shape c.insert_full.new.self.keys c.in_ok-added.added.0 c.self.invariant c.in_ok-added.ensures.keys c.in_ok-added.ensures.index in
-    let new : List Node = c.insert_full.new.self.keys in
-    record {
-      inside = p.inside;
-      there = p.there;
-      extends = subst (λ (ns : List Node). Extends ns new) c.self.view_is p.extends;
-      count = subst (λ (ns : List Node). length new ≤ length ns + 1) c.self.view_is p.count;
-      distinct = p.distinct;
-    }
-
-pub invariant_of-self-2 : goal.invariant_of-self-2
-invariant_of-self-2 c =
-    let p = put c.self.inside.shapes.keys c.args.shape c.insert_full.new.self.keys c.in_ok-added.added.0 c.self.invariant c.in_ok-added.ensures.keys c.in_ok-added.ensures.index in
-    p.distinct
+pub returns-in_ok-insert-in-None : goal.returns-in_ok-insert-in-None
+returns-in_ok-insert-in-None c =
+    let es = c.self.inside.numbers.entries in
+    let none : lookup (is c.args.shape) es ≡ None = sym (sym c.in-None.is ∙ c.copied.ensures ∙ c.get.ensures.value) in
+    subst (λ (t : Numbered). Puts t c.insert.new.self.entries c.args.shape c.len-number.result) c.self.view_is
+    (added es c.insert.new.self.entries c.args.shape c.len-number.result (subst IsTable (sym c.self.view_is) c.requires.table) none c.len-number.ensures.len (λ q. c.in_ok-insert-in-None.ensures.updates.0 q)
+    (c.in_ok-insert-in-None.ensures.len ∙ ap (λ (o : Option ℕ). length es + (if is_some o then 0 else 1)) (c.in_ok-insert-in-None.ensures.old ∙ none)))
