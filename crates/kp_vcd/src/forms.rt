@@ -36,7 +36,12 @@ pub(crate) fn is_name(word: &[u8]) -> bool
 fn are_word(bytes: &[u8]) -> bool
     ensures { result ≡ list_all is_word bytes.now }
 {
-    bytes.iter().all(|byte| is_word(*byte))
+    for byte in bytes {
+        if !is_word(*byte) {
+            return false;
+        }
+    }
+    true
 }
 
 /// True for `$var`, and false for `$upscope`. In place of a meaning, each of these functions returns the number of the rule that the token violates.
@@ -103,7 +108,12 @@ fn is_number(word: &[u8]) -> bool
 fn are_digits(bytes: &[u8]) -> bool
     ensures { result ≡ list_all (λ c. is_digit c 10) bytes.now }
 {
-    bytes.iter().all(|byte| char::from(*byte).is_digit(10))
+    for byte in bytes {
+        if !char::from(*byte).is_digit(10) {
+            return false;
+        }
+    }
+    true
 }
 
 // Whether a number has a leading zero that it doesn't need.
@@ -222,7 +232,12 @@ fn are_bits(bytes: &[u8]) -> bool
 fn all_bits(bytes: &[u8]) -> bool
     ensures { result ≡ list_all is_bit bytes.now }
 {
-    bytes.iter().all(|byte| is_bit(*byte))
+    for byte in bytes {
+        if !is_bit(*byte) {
+            return false;
+        }
+    }
+    true
 }
 
 // The value that bits denote; over 64 of them are no value.

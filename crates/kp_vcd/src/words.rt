@@ -114,7 +114,7 @@ impl<'a> Words<'a> {
 fn is_layout(byte: u8) -> bool
     ensures { result ≡ is_layout byte }
 {
-    matches!(byte, b' ' | b'\t' | b'\r' | b'\n')
+    byte == b' ' || byte == b'\t' || byte == b'\r' || byte == b'\n'
 }
 
 // The number of layout bytes at the front.
