@@ -151,7 +151,7 @@ impl<'t> Help<'t> {
             Help::Compare => "compare it, as `x == 8'h00`, or take a bit, as `x[0]`",
             Help::AddressWords { .. } =>
                 "the number is the width of an address: for {} words write `[{}]`",
-            Help::EmptyStage(_) => "an empty stage is written too: `stage {} { }`",
+            Help::EmptyStage(_) => "an empty stage is written too: `stage {} {}`",
             Help::PutIt(_) =>
                 "write `put {} = ..;` in the stage that computes it, or remove the declaration",
             Help::OnePut =>
@@ -183,7 +183,7 @@ impl<'t> Help<'t> {
         }
     }
 
-    // The terms of the line.
+    // The terms of the line. A term for which it has no place isn't written.
     fn terms(&self) -> Terms<'t> {
         match self {
             Help::ReadRegister(name)
@@ -196,11 +196,11 @@ impl<'t> Help<'t> {
             | Help::WithNumber(name)
             | Help::PutIt(name)
             | Help::OneAim(name)
+            | Help::OneSet(name)
             | Help::OneResult(name)
-            | Help::SetOnlyIn { name, .. } => Terms::One(Term::Word(*name)),
-            Help::OneSet(name) => Terms::Two(Term::Word(*name), Term::Word(*name)),
+            | Help::SetOnlyIn { name, .. } => Terms::Two(Term::Word(*name), Term::Word(*name)),
             Help::KnownThere(stage) | Help::EmptyStage(stage) | Help::SameStage(stage) => {
-                Terms::One(Term::Number(*stage as u64))
+                Terms::Two(Term::Number(*stage as u64), Term::Text("{ }"))
             }
             _ => self.other_terms(),
         }
@@ -237,11 +237,19 @@ impl<'t> Help<'t> {
 }
 
 fn through_pipe(name: Word<'_>, stage: usize, width: Option<u8>) -> Terms<'_> {
-    let (name, stage) = (Term::Word(name), Term::Number(stage as u64));
+    let stage = stage as u64;
     match width {
-        Some(width) => Terms::Three(Term::Number(width as u64), name, stage),
-        None => Terms::Two(name, stage),
+        Some(width) => wide_pipe(width, name, stage),
+        None => Terms::Two(Term::Word(name), Term::Number(stage)),
     }
+}
+
+fn wide_pipe(width: u8, name: Word<'_>, stage: u64) -> Terms<'_> {
+    Terms::Three(
+        Term::Number(width as u64),
+        Term::Word(name),
+        Term::Number(stage),
+    )
 }
 
 // A number of bits, and the literal of this width and this value.
@@ -268,9 +276,13 @@ fn write_lines<W: fmt::Write>(f: &mut fmt::Formatter<W>, lines: &[Option<u32>; 4
     let mut before = " line ";
     for line in lines {
         if let Some(line) = line {
-            write!(f, "{before}{line}")?;
+            write_line(f, before, *line)?;
             before = " or line ";
         }
     }
     f.write_str(" says so")
+}
+
+fn write_line<W: fmt::Write>(f: &mut fmt::Formatter<W>, before: &str, line: u32) -> fmt::Result {
+    write!(f, "{before}{line}")
 }

@@ -16,9 +16,9 @@ pub enum Kind {
     Local,
 }
 
-impl fmt::Display for Kind {
-    fn fmt<W: fmt::Write>(&self, f: &mut fmt::Formatter<W>) -> fmt::Result {
-        f.write_str(match self {
+impl Kind {
+    fn text(self) -> &'static str {
+        match self {
             Kind::Register => "register",
             Kind::File => "file",
             Kind::Pipe => "pipe",
@@ -29,7 +29,13 @@ impl fmt::Display for Kind {
             Kind::Parameter => "parameter",
             Kind::Read => "name given by `read`",
             Kind::Local => "name given by `let`",
-        })
+        }
+    }
+}
+
+impl fmt::Display for Kind {
+    fn fmt<W: fmt::Write>(&self, f: &mut fmt::Formatter<W>) -> fmt::Result {
+        f.write_str(self.text())
     }
 }
 
@@ -63,11 +69,9 @@ impl Wanted {
             _ => false,
         }
     }
-}
 
-impl fmt::Display for Wanted {
-    fn fmt<W: fmt::Write>(&self, f: &mut fmt::Formatter<W>) -> fmt::Result {
-        f.write_str(match self {
+    fn text(self) -> &'static str {
+        match self {
             Wanted::Value => "a pipe, a sample, or a name of this stage",
             Wanted::Parameter => "a parameter of the function",
             Wanted::Register => "a register",
@@ -76,6 +80,12 @@ impl fmt::Display for Wanted {
             Wanted::Output => "a result",
             Wanted::Hint => "a hint",
             Wanted::Function => "a function",
-        })
+        }
+    }
+}
+
+impl fmt::Display for Wanted {
+    fn fmt<W: fmt::Write>(&self, f: &mut fmt::Formatter<W>) -> fmt::Result {
+        f.write_str(self.text())
     }
 }

@@ -59,42 +59,74 @@ pub enum Terms<'t> {
 }
 
 impl<'t> Terms<'t> {
-    // The terms, and none after the last.
-    fn listed(&self) -> [Option<&Term<'t>>; 5] {
-        match self {
-            Terms::None => [None, None, None, None, None],
-            Terms::One(a) => [Some(a), None, None, None, None],
-            Terms::Two(a, b) => [Some(a), Some(b), None, None, None],
-            Terms::Three(a, b, c) => [Some(a), Some(b), Some(c), None, None],
-            Terms::Four(a, b, c, d) => [Some(a), Some(b), Some(c), Some(d), None],
-            Terms::Five(a, b, c, d, e) => [Some(a), Some(b), Some(c), Some(d), Some(e)],
+    // The term of this number, counted from 0.
+    fn get(&self, number: usize) -> Option<&Term<'t>> {
+        match number {
+            0 => self.first(),
+            1 => self.second(),
+            _ => self.later(number),
         }
+    }
+
+    fn first(&self) -> Option<&Term<'t>> {
+        Some(match self {
+            Terms::None => return None,
+            Terms::One(term)
+            | Terms::Two(term, _)
+            | Terms::Three(term, _, _)
+            | Terms::Four(term, _, _, _)
+            | Terms::Five(term, _, _, _, _) => term,
+        })
+    }
+
+    fn second(&self) -> Option<&Term<'t>> {
+        Some(match self {
+            Terms::None | Terms::One(_) => return None,
+            Terms::Two(_, term)
+            | Terms::Three(_, term, _)
+            | Terms::Four(_, term, _, _)
+            | Terms::Five(_, term, _, _, _) => term,
+        })
+    }
+
+    // One after the second.
+    fn later(&self, number: usize) -> Option<&Term<'t>> {
+        Some(match (self, number) {
+            (Terms::Three(_, _, term), 2)
+            | (Terms::Four(_, _, term, _), 2)
+            | (Terms::Five(_, _, term, _, _), 2)
+            | (Terms::Four(_, _, _, term), 3)
+            | (Terms::Five(_, _, _, term, _), 3)
+            | (Terms::Five(_, _, _, _, term), 4) => term,
+            _ => return None,
+        })
     }
 }
 
-/// Writes a sentence: a text with the terms in the place of each `{}` in it, in order. Nothing is written for a `{}` after the
-/// last term.
+/// Writes a sentence: a text with the terms in the place of each `{}` in it, in order. The text is ASCII, and has no other braces. Nothing is written for
+/// a `{}` after the last term, and no term after the last `{}`.
 pub fn write_phrase<W: fmt::Write>(
     f: &mut fmt::Formatter<W>,
     text: &str,
     terms: &Terms<'_>,
 ) -> fmt::Result {
-    let listed = terms.listed();
-    for (number, piece) in text.split("{}").enumerate() {
-        if number > 0 {
-            write_term(f, listed.get(number - 1))?;
+    let mut number = 0usize;
+    for byte in text.as_bytes() {
+        match *byte {
+            b'{' => {
+                write_term(f, terms.get(number))?;
+                number = number.saturating_add(1);
+            }
+            b'}' => {}
+            byte => f.write_char(char::from(byte))?,
         }
-        f.write_str(piece)?;
     }
     Ok(())
 }
 
-fn write_term<W: fmt::Write>(
-    f: &mut fmt::Formatter<W>,
-    term: Option<&Option<&Term<'_>>>,
-) -> fmt::Result {
+fn write_term<W: fmt::Write>(f: &mut fmt::Formatter<W>, term: Option<&Term<'_>>) -> fmt::Result {
     match term {
-        Some(Some(term)) => term.fmt(f),
-        _ => Ok(()),
+        Some(term) => term.fmt(f),
+        None => Ok(()),
     }
 }
