@@ -1,6 +1,6 @@
 // The report: for each finding a line with the file, the place and the rule, the excerpt at the place, and lines of help.
-ghost use Rattle.std.specs.Prelude.{OnOk};
-ghost use Rattle.kp_view_findings.specs.Messages.{AppendsMessage};
+ghost use Rattle.std.specs.Prelude.{◌≡◌, ◌++◌, OnOk};
+ghost use Rattle.kp_view_findings.specs.Messages.{AppendsCaution, AppendsExcerpt, AppendsFinding, AppendsMessage, AppendsShown, Grows, gap};
 ghost use Rattle.kp_view_message.specs.Texts.{message_text};
 
 use crate::finding::{Caution, Finding};
@@ -18,14 +18,13 @@ pub fn write_message(
     place: Place,
     message: Message<'_>,
 ) -> Result<(), NoMemory>
-    ensures { OnOk result (AppendsMessage out.old.items out.new.items (message_text message.entry)) }
+    ensures line { OnOk result (AppendsMessage out.old.items out.new.items (message_text message.entry)) }
+    ensures shown { OnOk result (AppendsShown text.now place out.old.items out.new.items) }
 {
     let line = message.to_string(alloc)?;
-    let mut rest = Vec::new(alloc);
-    write_rest(alloc, &mut rest, text, place, &message.helps())?;
     out.extend_from_slice(line.as_bytes())?;
     out.push(b'\n')?;
-    out.extend_from_slice(rest.as_slice())?;
+    write_excerpt(alloc, out, text, place, &message.helps())?;
     Ok(())
 }
 
@@ -36,14 +35,17 @@ pub fn write_finding(
     text: &[u8],
     file: &[u8],
     finding: &Finding<'_>,
-) -> Result<(), NoMemory> {
+) -> Result<(), NoMemory>
+    ensures { OnOk result (AppendsFinding text.now file.now finding.now.place (message_text finding.now.message) out.old.items out.new.items) }
+{
     let Place { line, col } = finding.place;
     let number = finding.message.rule();
     let head = format!(in alloc; ":{line}:{col}: error E{number}: ")?;
     out.push(b'\n')?;
     out.extend_from_slice(file)?;
     out.extend_from_slice(head.as_bytes())?;
-    write_message(alloc, out, text, finding.place, finding.message)
+    write_message(alloc, out, text, finding.place, finding.message)?;
+    Ok(())
 }
 
 /// Appends a warning, after an empty line if the report has something already.
@@ -53,34 +55,61 @@ pub fn write_caution(
     text: &[u8],
     file: &[u8],
     caution: &Caution<'_>,
-) -> Result<(), NoMemory> {
-    if !out.is_empty() {
-        out.push(b'\n')?;
-    }
+) -> Result<(), NoMemory>
+    ensures { OnOk result (AppendsCaution text.now file.now caution.now.place out.old.items out.new.items) }
+{
     let Place { line, col } = caution.place;
     let warning = caution.warning;
     let number = warning.number();
     let head = format!(in alloc; ":{line}:{col}: warning W{number}: {warning}\n")?;
+    write_gap(out)?;
     out.extend_from_slice(file)?;
     out.extend_from_slice(head.as_bytes())?;
-    write_rest(alloc, out, text, caution.place, &warning.helps())
+    write_excerpt(alloc, out, text, caution.place, &warning.helps())?;
+    Ok(())
+}
+
+fn write_gap(out: &mut Vec<u8>) -> Result<(), NoMemory>
+    ensures { OnOk result (out.new.items ≡ out.old.items ++ gap out.old.items) }
+{
+    if !out.is_empty() {
+        out.push(b'\n')?;
+    }
+    Ok(())
 }
 
 // The excerpt at a place, and the lines of help.
-fn write_rest(
+#[tactic(auto, using(crate::proofs::Appending::grown))]
+fn write_excerpt(
     alloc: Global,
     out: &mut Vec<u8>,
     text: &[u8],
     place: Place,
     helps: &[Option<Help<'_>>; 3],
-) -> Result<(), NoMemory> {
+) -> Result<(), NoMemory>
+    ensures { OnOk result (AppendsExcerpt text.now place out.old.items out.new.items) }
+{
+    let [first, second, third] = helps;
     let excerpt = Excerpt::at(text, place);
     excerpt.write(alloc, out)?;
-    for help in helps {
-        if let Some(help) = help {
-            let line = format!(in alloc; "{help}")?;
-            excerpt.write_help(alloc, out, line.as_str())?;
-        }
-    }
+    write_help(alloc, out, &excerpt, first)?;
+    write_help(alloc, out, &excerpt, second)?;
+    write_help(alloc, out, &excerpt, third)?;
+    Ok(())
+}
+
+fn write_help(
+    alloc: Global,
+    out: &mut Vec<u8>,
+    excerpt: &Excerpt<'_>,
+    help: &Option<Help<'_>>,
+) -> Result<(), NoMemory>
+    ensures { OnOk result (Grows out.old.items out.new.items) }
+{
+    let Some(help) = help else {
+        return Ok(());
+    };
+    let line = help.to_string(alloc)?;
+    excerpt.write_help(alloc, out, line.as_str())?;
     Ok(())
 }
