@@ -8,6 +8,7 @@ mod program;
 mod program_fault;
 mod script;
 mod script_fault;
+mod sentence;
 mod tokens;
 
 pub use note::write_head;

@@ -1,6 +1,7 @@
 // A way to violate a rule of assembler programs.
 use crate::form::{Form, Operand};
-use kp_view_help::{Term, Terms, Word, write_phrase};
+use crate::sentence::{Help, write_words};
+use kp_view_help::{Term, Word};
 use std::fmt::{self, Display};
 
 /// A token of a line, or its end.
@@ -52,12 +53,11 @@ pub(crate) enum ProgramFault<'t> {
 }
 
 impl<'t> ProgramFault<'t> {
-    // The sentence, in which the terms are printed.
+    // The sentence, in which the words are printed, without the number or the byte that some end with.
     fn text(&self) -> &'static str {
         match self {
-            ProgramFault::NoToken(_) => "no word of a program begins with {}",
-            ProgramFault::LongName(_) =>
-                "a name has at most 64 letters, digits and `_`; this has {}",
+            ProgramFault::NoToken(_) => "no word of a program begins with ",
+            ProgramFault::LongName(_) => "a name has at most 64 letters, digits and `_`; this has ",
             ProgramFault::NoDigits => "decimal digits follow `-`",
             ProgramFault::NoDirective => "the only word that begins with `.` is `.word`",
             ProgramFault::NoMnemonic(_) => "there is no instruction `{}`",
@@ -70,7 +70,7 @@ impl<'t> ProgramFault<'t> {
             ProgramFault::NoRegister(_) =>
                 "there is no register `{}`: the registers are `r0` to `r31`",
             ProgramFault::OutOfRange { .. } => "the number of `{}` is {}, not {}",
-            ProgramFault::LabelAgain { .. } => "the label `{}` is declared already in line {}",
+            ProgramFault::LabelAgain { .. } => "the label `{}` is declared already in line ",
             ProgramFault::LabelNowhere(_) => "the label `{}` is declared nowhere",
             ProgramFault::TooMany =>
                 "a program has at most 1,024 words, and this would be one more",
@@ -78,31 +78,42 @@ impl<'t> ProgramFault<'t> {
         }
     }
 
-    // The terms of the sentence.
-    fn terms(&self) -> Terms<'t> {
+    // The first word that is printed. Branches that call for different texts don't join: they return.
+    fn first(&self) -> Word<'t> {
         match self {
-            ProgramFault::NoToken(byte) => Terms::One(Term::Byte(*byte)),
-            ProgramFault::LongName(length) => Terms::One(Term::Number(*length as u64)),
             ProgramFault::NoMnemonic(word)
             | ProgramFault::Capitals(word)
             | ProgramFault::SecondLabel(word)
             | ProgramFault::NoRegister(word)
-            | ProgramFault::LabelNowhere(word) => Terms::One(Term::Word(*word)),
-            ProgramFault::NoInstruction(found) => found.terms("an instruction"),
-            ProgramFault::WrongOperand { found, wanted, .. } => found.terms(wanted.text()),
-            ProgramFault::OutOfRange {
-                number,
-                mnemonic,
-                kind,
-            } => Terms::Three(
-                Term::Word(*mnemonic),
-                Term::Text(range(*kind)),
-                Term::Word(*number),
-            ),
-            ProgramFault::LabelAgain { name, line } => {
-                Terms::Two(Term::Word(*name), Term::Number(*line as u64))
+            | ProgramFault::LabelNowhere(word)
+            | ProgramFault::LabelAgain { name: word, .. }
+            | ProgramFault::OutOfRange { mnemonic: word, .. } => *word,
+            ProgramFault::NoInstruction(_) => Word(b"an instruction"),
+            ProgramFault::WrongOperand { wanted, .. } => {
+                return Word(wanted.text().as_bytes());
             }
-            _ => Terms::None,
+            _ => Word(b""),
+        }
+    }
+
+    // The second one.
+    fn second(&self) -> Word<'t> {
+        match self {
+            ProgramFault::NoInstruction(found) | ProgramFault::WrongOperand { found, .. } => {
+                found.word()
+            }
+            ProgramFault::OutOfRange { kind, .. } => {
+                return Word(range(*kind).as_bytes());
+            }
+            _ => Word(b""),
+        }
+    }
+
+    // The third one.
+    fn third(&self) -> Word<'t> {
+        match self {
+            ProgramFault::OutOfRange { number, .. } => *number,
+            _ => Word(b""),
         }
     }
 }
@@ -116,18 +127,25 @@ impl<'t> Found<'t> {
         }
     }
 
-    // Its terms.
-    fn terms(&self, wanted: &'static str) -> Terms<'t> {
+    // The token.
+    fn word(&self) -> Word<'t> {
         match self {
-            Found::Token(word) => Terms::Two(Term::Text(wanted), Term::Word(*word)),
-            Found::LineEnd => Terms::One(Term::Text(wanted)),
+            Found::Token(word) => *word,
+            Found::LineEnd => Word(b""),
         }
     }
 }
 
 impl<'t> Display for ProgramFault<'t> {
     fn fmt<W: fmt::Write>(&self, f: &mut fmt::Formatter<W>) -> fmt::Result {
-        write_phrase(f, self.text(), &self.terms())
+        write_words(f, self.text(), self.first(), self.second(), self.third())?;
+        match self {
+            ProgramFault::NoToken(byte) => Term::Byte(*byte).fmt(f),
+            ProgramFault::LongName(number) | ProgramFault::LabelAgain { line: number, .. } => {
+                number.fmt(f)
+            }
+            _ => Ok(()),
+        }
     }
 }
 
@@ -140,64 +158,39 @@ fn range(kind: Operand) -> &'static str {
     }
 }
 
-/// What helps where a rule of assembler programs is violated.
-#[derive(Clone, Copy)]
-pub(crate) enum ProgramHelp<'t> {
-    Comment,
-    OwnLine,
-    Form { mnemonic: Word<'t>, form: Form },
-    TwoHalves,
-    Declare(Word<'t>),
-}
-
 impl<'t> ProgramFault<'t> {
     /// What helps, if anything is known to.
-    pub fn help(&self) -> Option<ProgramHelp<'t>> {
-        Some(match self {
-            ProgramFault::NoToken(b'#' | b'/') => ProgramHelp::Comment,
-            ProgramFault::SecondLabel(_) => ProgramHelp::OwnLine,
-            ProgramFault::WrongOperand { mnemonic, form, .. } => ProgramHelp::Form {
-                mnemonic: *mnemonic,
-                form: *form,
-            },
+    pub fn help(&self) -> Option<Help<'t>> {
+        match self {
+            ProgramFault::NoToken(b'#' | b'/') => Some(Help {
+                text: "a comment begins with `;`",
+                first: Word(b""),
+                second: Word(b""),
+            }),
+            ProgramFault::SecondLabel(_) => Some(Help {
+                text: "write the first label in a line of its own",
+                first: Word(b""),
+                second: Word(b""),
+            }),
+            ProgramFault::WrongOperand { mnemonic, form, .. } => Some(Help {
+                text: "the form is `{}{}`",
+                first: *mnemonic,
+                second: Word(form.text().as_bytes()),
+            }),
             ProgramFault::OutOfRange {
                 kind: Operand::Signed,
                 ..
-            } => ProgramHelp::TwoHalves,
-            ProgramFault::LabelNowhere(name) => ProgramHelp::Declare(*name),
-            _ => return None,
-        })
-    }
-}
-
-impl<'t> ProgramHelp<'t> {
-    // The line, in which the terms are printed.
-    fn text(&self) -> &'static str {
-        match self {
-            ProgramHelp::Comment => "a comment begins with `;`",
-            ProgramHelp::OwnLine => "write the first label in a line of its own",
-            ProgramHelp::Form { .. } => "the form is `{}{}`",
-            ProgramHelp::TwoHalves =>
-                "a number of 32 bits comes in two halves: `lhi r1, 0x1234` and `ori r1, r1, 0x5678`",
-            ProgramHelp::Declare(_) =>
-                "declare it before an instruction or in a line of its own: `{}:`",
+            } => Some(Help {
+                text: "a number of 32 bits comes in two halves: `lhi r1, 0x1234` and `ori r1, r1, 0x5678`",
+                first: Word(b""),
+                second: Word(b""),
+            }),
+            ProgramFault::LabelNowhere(name) => Some(Help {
+                text: "declare it before an instruction or in a line of its own: `{}:`",
+                first: *name,
+                second: Word(b""),
+            }),
+            _ => None,
         }
-    }
-
-    // The terms of the line.
-    fn terms(&self) -> Terms<'t> {
-        match self {
-            ProgramHelp::Form { mnemonic, form } => {
-                Terms::Two(Term::Word(*mnemonic), Term::Text(form.text()))
-            }
-            ProgramHelp::Declare(name) => Terms::One(Term::Word(*name)),
-            _ => Terms::None,
-        }
-    }
-}
-
-impl<'t> Display for ProgramHelp<'t> {
-    fn fmt<W: fmt::Write>(&self, f: &mut fmt::Formatter<W>) -> fmt::Result {
-        write_phrase(f, self.text(), &self.terms())
     }
 }

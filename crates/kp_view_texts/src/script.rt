@@ -88,30 +88,33 @@ fn wrong_register<'t>(
     if next_word(rest).0.is_empty() {
         return wrong_value(decls, last_word(before), word);
     }
-    match decls.iter().find(|decl| named(decl).name.bytes() == word) {
-        Some(decl) => ScriptFault::NoRegister {
-            name: Word(word),
-            kind: kind_of(decl),
-            line: named(decl).at.line,
-        },
-        None => ScriptFault::Undeclared(Word(word)),
+    for decl in decls {
+        if named(decl).name.bytes() == word {
+            return ScriptFault::NoRegister {
+                name: Word(word),
+                kind: kind_of(decl),
+                line: named(decl).at.line,
+            };
+        }
     }
+    ScriptFault::Undeclared(Word(word))
 }
 
-// The last word of a text.
+// The last word of the last line of a text.
 fn last_word(text: &[u8]) -> &[u8] {
-    let blanks = text
-        .iter()
-        .rev()
-        .take_while(|byte| is_blank(**byte))
-        .count();
-    let (front, _blanks) = text.split_at(text.len().saturating_sub(blanks));
-    let word = front
-        .iter()
-        .rev()
-        .take_while(|byte| !is_blank(**byte) && **byte != b'\n')
-        .count();
-    front.split_at(front.len().saturating_sub(word)).1
+    let (mut start, mut end) = (0, 0);
+    for i in 0..text.len() {
+        if text[i] == b'\n' {
+            start = i + 1;
+            end = i + 1;
+        } else if !is_blank(text[i]) {
+            if end != i {
+                start = i;
+            }
+            end = i + 1;
+        }
+    }
+    text.get(start..end).unwrap_or(&[])
 }
 
 // The value of a register that has no such value.

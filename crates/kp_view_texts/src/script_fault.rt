@@ -1,4 +1,5 @@
 // A way to violate a rule of scripts.
+use crate::sentence::write_words;
 use kp_view_help::{Kind, Term, Terms, Word, write_phrase};
 use std::fmt::{self, Display};
 
@@ -104,19 +105,34 @@ impl<'t> ScriptFault<'t> {
         }
     }
 
-    // The terms of the sentence. Branches that pass different texts don't join: they return.
-    fn terms(&self) -> Terms<'t> {
+    // The first word that is printed, in a sentence with words alone. Branches that call for different texts don't join: they return.
+    fn first(&self) -> Word<'t> {
         match self {
             ScriptFault::NoCommand(word)
             | ScriptFault::NoLiteral(word)
             | ScriptFault::ManyCycles(word)
-            | ScriptFault::Undeclared(word) => Terms::One(Term::Word(*word)),
+            | ScriptFault::Undeclared(word) => *word,
+            ScriptFault::Words(verb) | ScriptFault::NoCount { verb, .. } => {
+                return Word(verb.spelling().as_bytes());
+            }
+            _ => Word(b""),
+        }
+    }
+
+    // The second one.
+    fn second(&self) -> Word<'t> {
+        match self {
             ScriptFault::Words(verb) => {
-                return Terms::Two(Term::Text(verb.spelling()), Term::Text(rest(*verb)));
+                return Word(rest(*verb).as_bytes());
             }
-            ScriptFault::NoCount { verb, word } => {
-                return Terms::Two(Term::Text(verb.spelling()), Term::Word(*word));
-            }
+            ScriptFault::NoCount { word, .. } => *word,
+            _ => Word(b""),
+        }
+    }
+
+    // The terms of a sentence with numbers.
+    fn terms(&self) -> Terms<'t> {
+        match self {
             ScriptFault::NoRegister { name, kind, line } => Terms::Three(
                 Term::Word(*name),
                 Term::Kind(*kind),
@@ -137,14 +153,19 @@ impl<'t> ScriptFault<'t> {
             ScriptFault::Value { value, width } => {
                 Terms::Two(Term::Number(*value), Term::Bits(*width))
             }
-            ScriptFault::LargeValue | ScriptFault::Unknown => Terms::None,
+            _ => Terms::None,
         }
     }
 }
 
 impl<'t> Display for ScriptFault<'t> {
     fn fmt<W: fmt::Write>(&self, f: &mut fmt::Formatter<W>) -> fmt::Result {
-        write_phrase(f, self.text(), &self.terms())
+        match self {
+            ScriptFault::NoRegister { .. }
+            | ScriptFault::Width { .. }
+            | ScriptFault::Value { .. } => write_phrase(f, self.text(), &self.terms()),
+            _ => write_words(f, self.text(), self.first(), self.second(), Word(b"")),
+        }
     }
 }
 
@@ -160,63 +181,65 @@ fn rest(verb: Verb) -> &'static str {
 /// What helps where a rule of scripts is violated.
 #[derive(Clone, Copy)]
 pub(crate) enum ScriptHelp {
-    Commands,
-    Example(Verb),
-    Literal { width: u64, value: u64 },
-    Repeat,
+    /// A sentence with an example in it.
+    Line {
+        text: &'static str,
+        example: &'static str,
+    },
+    Literal {
+        width: u64,
+        value: u64,
+    },
 }
 
 impl<'t> ScriptFault<'t> {
     /// What helps, if anything is known to.
     pub fn help(&self) -> Option<ScriptHelp> {
-        Some(match self {
-            ScriptFault::NoCommand(_) => ScriptHelp::Commands,
+        match self {
+            ScriptFault::NoCommand(_) => Some(ScriptHelp::Line {
+                text: "a line is `step N`, `back N`, `until R LIT N`, `show` or `row`, or empty",
+                example: "",
+            }),
             ScriptFault::Words(verb) | ScriptFault::NoCount { verb, .. } => {
-                ScriptHelp::Example(*verb)
+                Some(example_of(*verb))
             }
-            ScriptFault::NoLiteral(_) => ScriptHelp::Example(Verb::Until),
-            ScriptFault::ManyCycles(_) => ScriptHelp::Repeat,
+            ScriptFault::NoLiteral(_) => Some(example_of(Verb::Until)),
+            ScriptFault::ManyCycles(_) => Some(ScriptHelp::Line {
+                text: "write the command in several lines",
+                example: "",
+            }),
             ScriptFault::Width {
                 wanted,
                 value: Some(value),
                 ..
-            } => ScriptHelp::Literal {
+            } => Some(ScriptHelp::Literal {
                 width: *wanted,
                 value: *value,
-            },
-            _ => return None,
-        })
+            }),
+            _ => None,
+        }
     }
 }
 
-impl ScriptHelp {
-    // The line, in which the terms are printed.
-    fn text(&self) -> &'static str {
-        match self {
-            ScriptHelp::Commands =>
-                "a line is `step N`, `back N`, `until R LIT N`, `show` or `row`, or empty",
-            ScriptHelp::Example(_) => "an example is `{}`",
-            ScriptHelp::Literal { .. } => "give the literal {} bits: `{}'d{}`",
-            ScriptHelp::Repeat => "write the command in several lines",
-        }
-    }
-
-    // The terms of the line.
-    fn terms(&self) -> Terms<'static> {
-        match self {
-            ScriptHelp::Example(verb) => Terms::One(Term::Text(verb.example())),
-            ScriptHelp::Literal { width, value } => Terms::Three(
-                Term::Number(*width),
-                Term::Number(*width),
-                Term::Number(*value),
-            ),
-            ScriptHelp::Commands | ScriptHelp::Repeat => Terms::None,
-        }
+// An example of a command.
+fn example_of(verb: Verb) -> ScriptHelp {
+    ScriptHelp::Line {
+        text: "an example is `{}`",
+        example: verb.example(),
     }
 }
 
 impl Display for ScriptHelp {
     fn fmt<W: fmt::Write>(&self, f: &mut fmt::Formatter<W>) -> fmt::Result {
-        write_phrase(f, self.text(), &self.terms())
+        match self {
+            ScriptHelp::Line { text, example } => {
+                write_words(f, text, Word(example.as_bytes()), Word(b""), Word(b""))
+            }
+            ScriptHelp::Literal { width, value } => {
+                let width = Term::Number(*width);
+                let terms = Terms::Three(width, width, Term::Number(*value));
+                write_phrase(f, "give the literal {} bits: `{}'d{}`", &terms)
+            }
+        }
     }
 }

@@ -52,7 +52,7 @@ fn token_length(first: u8, text: &[u8]) -> usize
         return number_length(text);
     }
     match text {
-        [b'-', digits @ ..] => 1 + run_length(digits, |byte| is_digit(byte)),
+        [b'-', digits @ ..] => 1 + digits_length(digits),
         [_, ..] => 1,
         [] => 0,
     }
@@ -68,5 +68,12 @@ fn number_length(text: &[u8]) -> usize
             return 2 + count;
         }
     }
+    digits_length(text)
+}
+
+// The length of the run of decimal digits at the head of a text.
+fn digits_length(text: &[u8]) -> usize
+    ensures { result ≤ length text.now }
+{
     run_length(text, |byte| is_digit(byte))
 }
