@@ -1,6 +1,7 @@
 // Classes of tokens, and how they are written.
 ghost use Rattle.kp_view_verilog_faults.specs.Marks.{IsRead};
 
+use crate::sentence::write_named;
 use kp_view_help::Word;
 use kp_vlog::{Keyword, Mark};
 use std::fmt;
@@ -20,14 +21,8 @@ pub enum Class {
 impl fmt::Display for Class {
     fn fmt<W: fmt::Write>(&self, f: &mut fmt::Formatter<W>) -> fmt::Result {
         match self {
-            Class::Keyword(word) => {
-                let word = Word(word.spelling());
-                write!(f, "`{word}`")
-            }
-            Class::Mark(mark) => {
-                let mark = mark_text(*mark);
-                write!(f, "`{mark}`")
-            }
+            Class::Keyword(word) => write_named(f, "`{}`", Word(word.spelling()), 0),
+            Class::Mark(mark) => write_named(f, "`{}`", Word(mark_text(*mark).as_bytes()), 0),
             Class::Name => f.write_str("a name"),
             Class::Number => f.write_str("a number"),
             Class::Literal => f.write_str("a literal such as 8'h1f"),

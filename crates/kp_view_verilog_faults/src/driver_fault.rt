@@ -1,5 +1,7 @@
 // A violated rule of drivers: V5.
-use kp_view_help::{Term, Terms, Word, write_phrase};
+use crate::help::Help;
+use crate::sentence::write_named;
+use kp_view_help::Word;
 use std::fmt::{self, Display};
 
 /// A violated rule of drivers.
@@ -30,7 +32,7 @@ pub enum DriverFault<'m> {
 }
 
 impl<'m> DriverFault<'m> {
-    // The sentence, in which the terms are printed.
+    // The sentence, in which the name and the line are printed.
     fn text(&self) -> &'static str {
         match self {
             DriverFault::NeverAssigned(_) => "`{}` is assigned nowhere",
@@ -54,8 +56,8 @@ impl<'m> DriverFault<'m> {
         }
     }
 
-    // The terms of the sentence.
-    fn terms(&self) -> Terms<'m> {
+    // The name that is printed.
+    fn name(&self) -> Word<'m> {
         match self {
             DriverFault::NeverAssigned(name)
             | DriverFault::NoValue(name)
@@ -65,99 +67,84 @@ impl<'m> DriverFault<'m> {
             | DriverFault::NoReset(name)
             | DriverFault::NoFill(name)
             | DriverFault::FilledLate(name)
-            | DriverFault::Wide(name) => Terms::One(Term::Word(*name)),
-            DriverFault::AssignedAgain { name, line }
-            | DriverFault::AssignedLate { name, line }
-            | DriverFault::StartedAgain { name, line }
-            | DriverFault::FilledAgain { name, line }
-            | DriverFault::ResetAgain { name, line }
-            | DriverFault::UpdatedAgain { name, line }
-            | DriverFault::OtherStart { name, line } => {
-                Terms::Two(Term::Word(*name), Term::Number(*line as u64))
-            }
-            DriverFault::NoResetForm => Terms::None,
+            | DriverFault::Wide(name)
+            | DriverFault::AssignedAgain { name, .. }
+            | DriverFault::AssignedLate { name, .. }
+            | DriverFault::StartedAgain { name, .. }
+            | DriverFault::FilledAgain { name, .. }
+            | DriverFault::ResetAgain { name, .. }
+            | DriverFault::UpdatedAgain { name, .. }
+            | DriverFault::OtherStart { name, .. } => *name,
+            DriverFault::NoResetForm => Word(b""),
+        }
+    }
+
+    // The line that is printed.
+    fn line(&self) -> usize {
+        match self {
+            DriverFault::AssignedAgain { line, .. }
+            | DriverFault::AssignedLate { line, .. }
+            | DriverFault::StartedAgain { line, .. }
+            | DriverFault::FilledAgain { line, .. }
+            | DriverFault::ResetAgain { line, .. }
+            | DriverFault::UpdatedAgain { line, .. }
+            | DriverFault::OtherStart { line, .. } => *line,
+            _ => 0,
         }
     }
 }
 
 impl<'m> Display for DriverFault<'m> {
     fn fmt<W: fmt::Write>(&self, f: &mut fmt::Formatter<W>) -> fmt::Result {
-        write_phrase(f, self.text(), &self.terms())
+        write_named(f, self.text(), self.name(), self.line() as u64)
     }
-}
-
-/// What helps where a rule of drivers is violated.
-#[derive(Clone, Copy)]
-pub enum DriverHelp<'m> {
-    Assign(Word<'m>),
-    AssignWire(Word<'m>),
-    Start(Word<'m>),
-    Update(Word<'m>),
-    Fill(Word<'m>),
-    Choice,
-    MoveDown,
-    FromRegister,
-    Stages,
-    ResetForm,
 }
 
 impl<'m> DriverFault<'m> {
     /// What helps, if anything is known to.
-    pub fn help(&self) -> Option<DriverHelp<'m>> {
-        Some(match self {
-            DriverFault::NeverAssigned(name) => DriverHelp::Assign(*name),
-            DriverFault::NoValue(name) => DriverHelp::AssignWire(*name),
-            DriverFault::Itself(_) => DriverHelp::FromRegister,
-            DriverFault::NoStart(name) => DriverHelp::Start(*name),
-            DriverFault::NoUpdate(name) => DriverHelp::Update(*name),
-            DriverFault::NoFill(name) => DriverHelp::Fill(*name),
-            DriverFault::UpdatedAgain { .. } | DriverFault::AssignedAgain { .. } => {
-                DriverHelp::Choice
-            }
-            DriverFault::AssignedLate { .. } => DriverHelp::MoveDown,
-            DriverFault::Wide(_) => DriverHelp::Stages,
-            DriverFault::NoResetForm => DriverHelp::ResetForm,
-            _ => return None,
-        })
-    }
-}
-
-impl<'m> DriverHelp<'m> {
-    // The line, in which the terms are printed.
-    fn text(&self) -> &'static str {
+    pub fn help(&self) -> Option<Help<'m>> {
         match self {
-            DriverHelp::Assign(_) => "write `assign {} = ..;`, or remove the declaration",
-            DriverHelp::AssignWire(_) => "write `assign {} = ..;`, with a wire",
-            DriverHelp::Start(_) => "write `{} = ..;` under `initial`",
-            DriverHelp::Update(_) => "write `{} <= ..;` under `always`",
-            DriverHelp::Fill(_) =>
-                "write `for (i = 0; i < ..; i = i + 1) {}[i] = ..;` under `initial`",
-            DriverHelp::Choice => "take one value by a choice: `n1 ? n2 : n3`",
-            DriverHelp::MoveDown =>
-                "the assignments are in the order in which the values are computed: move this one down",
-            DriverHelp::FromRegister =>
-                "a register has the value of the cycle before: `assign n0 = r_X;`",
-            DriverHelp::Stages => "`ext`, `full` and `ue` have a bit for each stage",
-            DriverHelp::ResetForm =>
-                "write `if (rst) begin`, the reset list, `end else begin`, the updates, `end`",
+            DriverFault::NeverAssigned(name) => Some(Help {
+                text: "write `assign {} = ..;`, or remove the declaration",
+                name: *name,
+            }),
+            DriverFault::NoValue(name) => Some(Help {
+                text: "write `assign {} = ..;`, with a wire",
+                name: *name,
+            }),
+            DriverFault::Itself(_) => Some(Help {
+                text: "a register has the value of the cycle before: `assign n0 = r_X;`",
+                name: Word(b""),
+            }),
+            DriverFault::NoStart(name) => Some(Help {
+                text: "write `{} = ..;` under `initial`",
+                name: *name,
+            }),
+            DriverFault::NoUpdate(name) => Some(Help {
+                text: "write `{} <= ..;` under `always`",
+                name: *name,
+            }),
+            DriverFault::NoFill(name) => Some(Help {
+                text: "write `for (i = 0; i < ..; i = i + 1) {}[i] = ..;` under `initial`",
+                name: *name,
+            }),
+            DriverFault::UpdatedAgain { .. } | DriverFault::AssignedAgain { .. } => Some(Help {
+                text: "take one value by a choice: `n1 ? n2 : n3`",
+                name: Word(b""),
+            }),
+            DriverFault::AssignedLate { .. } => Some(Help {
+                text: "the assignments are in the order in which the values are computed: move this one down",
+                name: Word(b""),
+            }),
+            DriverFault::Wide(_) => Some(Help {
+                text: "`ext`, `full` and `ue` have a bit for each stage",
+                name: Word(b""),
+            }),
+            DriverFault::NoResetForm => Some(Help {
+                text: "write `if (rst) begin`, the reset list, `end else begin`, the updates, `end`",
+                name: Word(b""),
+            }),
+            _ => None,
         }
-    }
-
-    // The terms of the line.
-    fn terms(&self) -> Terms<'m> {
-        match self {
-            DriverHelp::Assign(name)
-            | DriverHelp::AssignWire(name)
-            | DriverHelp::Start(name)
-            | DriverHelp::Update(name)
-            | DriverHelp::Fill(name) => Terms::One(Term::Word(*name)),
-            _ => Terms::None,
-        }
-    }
-}
-
-impl<'m> Display for DriverHelp<'m> {
-    fn fmt<W: fmt::Write>(&self, f: &mut fmt::Formatter<W>) -> fmt::Result {
-        write_phrase(f, self.text(), &self.terms())
     }
 }

@@ -5,14 +5,17 @@
 
 mod class;
 mod driver_fault;
+mod help;
 mod name_fault;
 mod other_fault;
 mod reading_fault;
+mod sentence;
 mod width_fault;
 
 pub use class::{Class, mark_text};
-pub use driver_fault::{DriverFault, DriverHelp};
-pub use name_fault::{Form, Kind, NameFault, NameHelp, Wanted};
+pub use driver_fault::DriverFault;
+pub use help::Help;
+pub use name_fault::{Form, Kind, NameFault, Wanted};
 pub use other_fault::{OtherFault, OtherHelp};
-pub use reading_fault::{Expected, ReadingFault, ReadingHelp};
+pub use reading_fault::{Expected, ReadingFault};
 pub use width_fault::{Side, WidthFault, WidthHelp};

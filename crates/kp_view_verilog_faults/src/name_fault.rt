@@ -1,5 +1,7 @@
 // A violated rule of names: V3.
-use kp_view_help::{Term, Terms, Word, write_phrase};
+use crate::help::Help;
+use crate::sentence::write_named;
+use kp_view_help::Word;
 use std::fmt::{self, Display};
 
 /// What a name denotes.
@@ -14,14 +16,15 @@ pub enum Kind {
 }
 
 impl Kind {
+    // What is said of a name in a line that denotes it.
     fn text(self) -> &'static str {
         match self {
-            Kind::Register => "a register",
-            Kind::File => "a file",
-            Kind::Integer => "the integer",
-            Kind::Wire => "a wire",
-            Kind::Sample => "the port of a sample",
-            Kind::Port => "a port",
+            Kind::Register => "`{}` is a register (line {})",
+            Kind::File => "`{}` is a file (line {})",
+            Kind::Integer => "`{}` is the integer (line {})",
+            Kind::Wire => "`{}` is a wire (line {})",
+            Kind::Sample => "`{}` is the port of a sample (line {})",
+            Kind::Port => "`{}` is a port (line {})",
         }
     }
 }
@@ -42,15 +45,23 @@ pub enum Wanted {
 }
 
 impl Wanted {
+    // The end of a sentence that says what is wanted, in which the port is printed.
     fn text(self) -> &'static str {
         match self {
-            Wanted::Register => "a register",
-            Wanted::File => "a file",
-            Wanted::Integer => "the integer `i`",
-            Wanted::Wire => "a wire",
-            Wanted::Port(name) => name,
-            Wanted::WireOrOutput => "a wire or an output",
-            Wanted::Source => "a register, a sample or `ext`",
+            Wanted::Register => "; a register is wanted here",
+            Wanted::File => "; a file is wanted here",
+            Wanted::Integer => "; the integer `i` is wanted here",
+            Wanted::Wire => "; a wire is wanted here",
+            Wanted::Port(_) => "; `{}` is wanted here",
+            Wanted::WireOrOutput => "; a wire or an output is wanted here",
+            Wanted::Source => "; a register, a sample or `ext` is wanted here",
+        }
+    }
+
+    fn port(self) -> Word<'static> {
+        match self {
+            Wanted::Port(name) => Word(name.as_bytes()),
+            _ => Word(b""),
         }
     }
 }
@@ -116,114 +127,86 @@ pub enum NameFault<'m> {
 }
 
 impl<'m> NameFault<'m> {
-    // The sentence, in which the terms are printed.
+    // The first part of the sentence, in which the name and the line are printed.
     fn text(&self) -> &'static str {
         match self {
             NameFault::WrongForm(form) => form.text(),
-            NameFault::Port { .. } => "this port is `{}`, not `{}`",
+            NameFault::Port { .. } => "this port is `{}`, not `",
             NameFault::Again { .. } => "`{}` is declared already in line {}",
-            NameFault::Undeclared {
-                wanted: Wanted::Port(_),
-                ..
-            } => "`{}` is declared nowhere; `{}` is wanted here",
-            NameFault::Undeclared { .. } => "`{}` is declared nowhere; {} is wanted here",
+            NameFault::Undeclared { .. } => "`{}` is declared nowhere",
             NameFault::Below { .. } => "`{}` is declared only in line {}, after this use",
-            NameFault::WrongKind {
-                wanted: Wanted::Port(_),
-                ..
-            } => "`{}` is {} (line {}); `{}` is wanted here",
-            NameFault::WrongKind { .. } => "`{}` is {} (line {}); {} is wanted here",
+            NameFault::WrongKind { kind, .. } => kind.text(),
             NameFault::NoWire(_) => "the output `{}` takes a wire alone",
             NameFault::NoPort(_) => "the module has no port `{}`",
         }
     }
 
-    // The terms of the sentence.
-    fn terms(&self) -> Terms<'m> {
+    // The name that is printed in it. Branches that call for different texts don't join: they return.
+    fn name(&self) -> Word<'m> {
         match self {
-            NameFault::WrongForm(_) => Terms::None,
-            NameFault::NoWire(name) | NameFault::NoPort(name) => Terms::One(Term::Word(*name)),
-            NameFault::Again { name, line } | NameFault::Below { name, line } => {
-                Terms::Two(Term::Word(*name), Term::Number(*line as u64))
+            NameFault::WrongForm(_) => Word(b""),
+            NameFault::Port { wanted, .. } => {
+                return Word(wanted.as_bytes());
             }
-            NameFault::Port { name, wanted } => {
-                Terms::Two(Term::Text(*wanted), Term::Word(*name))
-            }
-            NameFault::Undeclared { name, wanted } => {
-                Terms::Two(Term::Word(*name), Term::Text(wanted.text()))
-            }
-            NameFault::WrongKind {
-                name,
-                kind,
-                line,
-                wanted,
-            } => Terms::Four(
-                Term::Word(*name),
-                Term::Text(kind.text()),
-                Term::Number(*line as u64),
-                Term::Text(wanted.text()),
-            ),
+            NameFault::Again { name, .. }
+            | NameFault::Undeclared { name, .. }
+            | NameFault::Below { name, .. }
+            | NameFault::WrongKind { name, .. }
+            | NameFault::NoWire(name)
+            | NameFault::NoPort(name) => *name,
+        }
+    }
+
+    // The line that is printed in it.
+    fn line(&self) -> usize {
+        match self {
+            NameFault::Again { line, .. }
+            | NameFault::Below { line, .. }
+            | NameFault::WrongKind { line, .. } => *line,
+            _ => 0,
         }
     }
 }
 
 impl<'m> Display for NameFault<'m> {
     fn fmt<W: fmt::Write>(&self, f: &mut fmt::Formatter<W>) -> fmt::Result {
-        write_phrase(f, self.text(), &self.terms())
+        write_named(f, self.text(), self.name(), self.line() as u64)?;
+        match self {
+            NameFault::Port { name, .. } => write_named(f, "{}`", *name, 0),
+            NameFault::Undeclared { wanted, .. } | NameFault::WrongKind { wanted, .. } => {
+                write_named(f, wanted.text(), wanted.port(), 0)
+            }
+            _ => Ok(()),
+        }
     }
-}
-
-/// What helps where a rule of names is violated.
-#[derive(Clone, Copy)]
-pub enum NameHelp<'m> {
-    Ports,
-    MoveUp,
-    Itself(Word<'m>),
-    WireFirst(Word<'m>),
 }
 
 impl<'m> NameFault<'m> {
     /// What helps, if anything is known to.
-    pub fn help(&self) -> Option<NameHelp<'m>> {
-        Some(match self {
-            NameFault::Port { .. } | NameFault::NoPort(_) => NameHelp::Ports,
-            NameFault::Below { .. } => NameHelp::MoveUp,
+    pub fn help(&self) -> Option<Help<'m>> {
+        match self {
+            NameFault::Port { .. } | NameFault::NoPort(_) => Some(Help {
+                text: "the ports are `clk`, then `rst` if there is one, `ext`, those of the samples, `full`, `ue` and `back`",
+                name: Word(b""),
+            }),
+            NameFault::Below { .. } => Some(Help {
+                text: "a name is declared before it is used: move the declaration up",
+                name: Word(b""),
+            }),
             NameFault::WrongKind {
                 name,
                 kind: Kind::Wire,
                 wanted: Wanted::Source,
                 ..
-            } => NameHelp::Itself(*name),
-            NameFault::NoWire(name) => NameHelp::WireFirst(*name),
-            _ => return None,
-        })
-    }
-}
-
-impl<'m> NameHelp<'m> {
-    // The line, in which the terms are printed.
-    fn text(&self) -> &'static str {
-        match self {
-            NameHelp::Ports =>
-                "the ports are `clk`, then `rst` if there is one, `ext`, those of the samples, `full`, `ue` and `back`",
-            NameHelp::MoveUp => "a name is declared before it is used: move the declaration up",
-            NameHelp::Itself(_) => "no wire has the value of another wire alone: use `{}` itself",
-            NameHelp::WireFirst(_) =>
-                "assign the value to a wire, as `assign n0 = ..;`, and then write `assign {} = n0;`",
+            } => Some(Help {
+                text: "no wire has the value of another wire alone: use `{}` itself",
+                name: *name,
+            }),
+            NameFault::NoWire(name) => Some(Help {
+                text: "assign the value to a wire, as `assign n0 = ..;`, and then write `assign {} = n0;`",
+                name: *name,
+            }),
+            _ => None,
         }
-    }
-
-    // The terms of the line.
-    fn terms(&self) -> Terms<'m> {
-        match self {
-            NameHelp::Itself(name) | NameHelp::WireFirst(name) => Terms::One(Term::Word(*name)),
-            NameHelp::Ports | NameHelp::MoveUp => Terms::None,
-        }
-    }
-}
-
-impl<'m> Display for NameHelp<'m> {
-    fn fmt<W: fmt::Write>(&self, f: &mut fmt::Formatter<W>) -> fmt::Result {
-        write_phrase(f, self.text(), &self.terms())
     }
 }

@@ -1,6 +1,7 @@
 // Why a text is no module of the subset: V1 and V2.
 use crate::class::Class;
-use kp_view_help::{FoundToken, Term, Terms, write_phrase};
+use crate::help::Help;
+use kp_view_help::{FoundToken, Term, Word};
 use std::fmt::{self, Display};
 
 /// Why a text is no module of the subset.
@@ -33,9 +34,9 @@ impl<'t> Display for Expected<'t> {
         if count == 0 {
             return f.write_str("the end of the text");
         }
-        for (i, class) in self.0.iter().enumerate() {
-            let before = separator(i, count);
-            write!(f, "{before}{class}")?;
+        for i in 0..count {
+            f.write_str(separator(i, count))?;
+            self.0[i].fmt(f)?;
         }
         Ok(())
     }
@@ -53,67 +54,54 @@ fn separator(index: usize, count: usize) -> &'static str {
 }
 
 impl<'t> ReadingFault<'t> {
-    // The sentence, in which the terms are printed. Where a token is unexpected, the message has a list in it and is printed apart.
+    // The sentence, or what is before the term that it ends with.
     fn text(&self) -> &'static str {
         match self {
-            ReadingFault::NoToken(_) => "no word of the subset begins with {}",
-            ReadingFault::LongName(_) => "a name has at most 70 bytes; this has {}",
+            ReadingFault::NoToken(_) => "no word of the subset begins with ",
+            ReadingFault::LongName(_) => "a name has at most 70 bytes; this has ",
             ReadingFault::OpenComment => "no `*/` closes this comment",
             ReadingFault::NoNumber => "neither a number below 2^64 nor a literal such as 8'h1f",
             ReadingFault::Unexpected { .. } => "expected ",
-            ReadingFault::NoModule(_) => "no module continues with {}",
+            ReadingFault::NoModule(_) => "no module continues with ",
             ReadingFault::Unknown => "this violates a rule (docs/VERILOG.md)",
-        }
-    }
-
-    // The terms of the sentence.
-    fn terms(&self) -> Terms<'t> {
-        match self {
-            ReadingFault::NoToken(byte) => Terms::One(Term::Byte(*byte)),
-            ReadingFault::LongName(length) => Terms::One(Term::Number(*length as u64)),
-            ReadingFault::NoModule(found) => Terms::One(Term::Found(*found)),
-            _ => Terms::None,
         }
     }
 }
 
 impl<'t> Display for ReadingFault<'t> {
     fn fmt<W: fmt::Write>(&self, f: &mut fmt::Formatter<W>) -> fmt::Result {
+        f.write_str(self.text())?;
         match self {
+            ReadingFault::NoToken(byte) => Term::Byte(*byte).fmt(f),
+            ReadingFault::LongName(length) => length.fmt(f),
+            ReadingFault::NoModule(found) => found.fmt(f),
             ReadingFault::Unexpected { found, expected } => {
-                write!(f, "expected {expected}, found {found}")
+                expected.fmt(f)?;
+                f.write_str(", found ")?;
+                found.fmt(f)
             }
-            _ => { write_phrase(f, self.text(), &self.terms()) }
+            _ => Ok(()),
         }
     }
-}
-
-/// What helps where a text is no module of the subset.
-#[derive(Clone, Copy)]
-pub enum ReadingHelp {
-    Directive,
-    Not,
-    NoArithmetic,
 }
 
 impl<'t> ReadingFault<'t> {
     /// What helps, if anything is known to.
-    pub fn help(&self) -> Option<ReadingHelp> {
+    pub fn help(&self) -> Option<Help<'t>> {
         match self {
-            ReadingFault::NoToken(b'`') => Some(ReadingHelp::Directive),
-            ReadingFault::NoToken(b'!') => Some(ReadingHelp::Not),
-            ReadingFault::NoToken(b'/' | b'%') => Some(ReadingHelp::NoArithmetic),
+            ReadingFault::NoToken(b'`') => Some(Help {
+                text: "the subset has no compiler directives: remove the line",
+                name: Word(b""),
+            }),
+            ReadingFault::NoToken(b'!') => Some(Help {
+                text: "the subset has `~`, and no `!`",
+                name: Word(b""),
+            }),
+            ReadingFault::NoToken(b'/' | b'%') => Some(Help {
+                text: "the subset has no division and no remainder",
+                name: Word(b""),
+            }),
             _ => None,
         }
-    }
-}
-
-impl Display for ReadingHelp {
-    fn fmt<W: fmt::Write>(&self, f: &mut fmt::Formatter<W>) -> fmt::Result {
-        f.write_str(match self {
-            ReadingHelp::Directive => "the subset has no compiler directives: remove the line",
-            ReadingHelp::Not => "the subset has `~`, and no `!`",
-            ReadingHelp::NoArithmetic => "the subset has no division and no remainder",
-        })
     }
 }

@@ -1,5 +1,6 @@
 // A violated rule of widths: V4.
 use crate::class::mark_text;
+use crate::sentence::{write_bits, write_named, write_numbers};
 use kp_bits::BinOp;
 use kp_view_help::{Term, Terms, Word, write_phrase};
 use kp_vlog::Mark;
@@ -15,12 +16,8 @@ pub struct Side<'m> {
 
 impl<'m> Display for Side<'m> {
     fn fmt<W: fmt::Write>(&self, f: &mut fmt::Formatter<W>) -> fmt::Result {
-        let terms = Terms::Three(
-            Term::Word(self.name),
-            Term::Number(self.line as u64),
-            Term::Bits(self.width),
-        );
-        write_phrase(f, "`{}` (line {}) has {}", &terms)
+        write_named(f, "`{}` (line {})", self.name, self.line as u64)?;
+        write_bits(f, " has ", self.width)
     }
 }
 
@@ -94,7 +91,7 @@ pub enum WidthFault<'m> {
 }
 
 impl<'m> WidthFault<'m> {
-    // The sentence, up to the names that some end with, in which the terms are printed.
+    // The first part of the sentence, in which the name and the number are printed.
     fn text(&self) -> &'static str {
         match self {
             WidthFault::Range => "a range is `[h:0]`, where h is 63 at most",
@@ -103,99 +100,151 @@ impl<'m> WidthFault<'m> {
             WidthFault::Words =>
                 "the words of a file are `[0:w]`, where w + 1 is 2, 4, 8 or another power of 2 up to 65,536",
             WidthFault::Files => "a module has at most 16 files",
-            WidthFault::Value { .. } => "`{}` (line {}) has {}, and this value has {}",
             WidthFault::Operands { .. } =>
                 "the target and the operands of `{}` have different widths: ",
             WidthFault::Compared { .. } => "the operands of `{}` have different widths: ",
-            WidthFault::Comparison { .. } => "`{}` (line {}) has {}, and `{}` gives 1 bit",
             WidthFault::Shifted { .. } =>
                 "the target and the left operand of `{}` have different widths: ",
             WidthFault::Test(_) => "a test has 1 bit; ",
             WidthFault::Branches { .. } => "the target and the branches have different widths: ",
-            WidthFault::Slice { high, low, .. } if *high < *low =>
-                "the high number is written first: `[{}:{}]`",
-            WidthFault::Slice { .. } => "bits {} to {} of {}: the bits are numbered {} to 0",
-            WidthFault::Address { .. } => "an address of `{}` has {}; ",
-            WidthFault::LiteralWidth(_) => "a literal has 1 to 64 bits, not {}",
-            WidthFault::LiteralValue { .. } => "{} doesn't fit {}",
-            WidthFault::Index { .. } =>
-                "the words of `{}` are numbered 0 to {}, and {} isn't one of them",
+            WidthFault::Address { .. } => "an address of `{}` has ",
+            WidthFault::LiteralWidth(_) => "a literal has 1 to 64 bits, not ",
+            WidthFault::Index { .. } => "the words of `{}` are numbered 0 to {}, and ",
             WidthFault::Loop { .. } => "the `for` of `{}` goes over all its {} words",
+            WidthFault::Value { .. }
+            | WidthFault::Comparison { .. }
+            | WidthFault::Slice { .. }
+            | WidthFault::LiteralValue { .. } => "",
         }
     }
 
-    // The terms of the sentence.
-    fn terms(&self) -> Terms<'m> {
+    // The name that is printed in it. Branches that call for different texts don't join: they return.
+    fn name(&self) -> Word<'m> {
         match self {
+            WidthFault::StallRange(name) => *name,
             WidthFault::Operands { op, .. }
             | WidthFault::Compared { op, .. }
-            | WidthFault::Shifted { op, .. } => Terms::One(Term::Text(spelling(*op))),
-            WidthFault::Value { target, found } => { of_target(*target, Term::Bits(*found)) }
-            WidthFault::Comparison { op, target } => {
-                of_target(*target, Term::Text(spelling(*op)))
+            | WidthFault::Shifted { op, .. } => {
+                return Word(spelling(*op).as_bytes());
             }
-            WidthFault::Slice { high, low, a } => slice(*high, *low, a.width),
-            WidthFault::StallRange(name) => Terms::One(Term::Word(*name)),
-            WidthFault::Address { file, wanted, .. } => {
-                Terms::Two(Term::Word(*file), Term::Bits(*wanted))
-            }
-            WidthFault::LiteralWidth(width) => Terms::One(Term::Number(*width)),
-            WidthFault::LiteralValue { value, width } => {
-                Terms::Two(Term::Number(*value), Term::Bits(*width))
-            }
-            WidthFault::Index { file, words, found } => Terms::Three(
-                Term::Word(*file),
-                Term::Number(words.saturating_sub(1)),
-                Term::Number(*found),
-            ),
-            WidthFault::Loop { file, words } => {
-                Terms::Two(Term::Word(*file), Term::Number(*words))
-            }
-            _ => Terms::None,
+            WidthFault::Address { file, .. }
+            | WidthFault::Index { file, .. }
+            | WidthFault::Loop { file, .. } => *file,
+            _ => Word(b""),
         }
     }
-}
 
-// The terms of a sentence that begins with a target, and one more.
-fn of_target<'m>(target: Side<'m>, last: Term<'m>) -> Terms<'m> {
-    Terms::Four(
-        Term::Word(target.name),
-        Term::Number(target.line as u64),
-        Term::Bits(target.width),
-        last,
-    )
-}
-
-// The terms of the sentence for the bits of a slice, of a name with this width.
-fn slice<'m>(high: u64, low: u64, width: u64) -> Terms<'m> {
-    if high < low {
-        Terms::Two(Term::Number(low), Term::Number(high))
-    } else {
-        let last = Term::Number(width.saturating_sub(1));
-        Terms::Four(
-            Term::Number(high),
-            Term::Number(low),
-            Term::Bits(width),
-            last,
-        )
+    // The number that is printed in it.
+    fn number(&self) -> u64 {
+        match self {
+            WidthFault::Index { words, .. } => words.saturating_sub(1),
+            WidthFault::Loop { words, .. } => *words,
+            _ => 0,
+        }
     }
 }
 
 impl<'m> Display for WidthFault<'m> {
     fn fmt<W: fmt::Write>(&self, f: &mut fmt::Formatter<W>) -> fmt::Result {
-        write_phrase(f, self.text(), &self.terms())?;
+        write_named(f, self.text(), self.name(), self.number())?;
         match self {
+            WidthFault::Value { target, found } => {
+                write_side(f, *target, ", and this value has ", *found)
+            }
             WidthFault::Operands { a, b, target, .. } | WidthFault::Branches { a, b, target } => {
-                target.fmt(f)?;
-                f.write_str(", ")?;
-                write_two(f, *a, *b)
+                write_three(f, *target, *a, *b)
             }
             WidthFault::Compared { a, b, .. } => write_two(f, *a, *b),
+            WidthFault::Comparison { op, target } => write_test(f, *op, *target),
             WidthFault::Shifted { a, target, .. } => write_two(f, *target, *a),
-            WidthFault::Test(side) | WidthFault::Address { address: side, .. } => side.fmt(f),
+            WidthFault::Test(side) => side.fmt(f),
+            WidthFault::Slice { high, low, a } => write_slice(f, *high, *low, a.width),
+            WidthFault::Address {
+                address,
+                wanted,
+                ..
+            } => write_address(f, *address, *wanted),
+            WidthFault::LiteralWidth(width) => width.fmt(f),
+            WidthFault::LiteralValue { value, width } => write_literal(f, *value, *width),
+            WidthFault::Index { found, .. } => {
+                write_numbers(f, "{} isn't one of them", *found, 0)
+            }
             _ => Ok(()),
         }
     }
+}
+
+// A name with its width, a text, and a number of bits.
+fn write_side<W: fmt::Write>(
+    f: &mut fmt::Formatter<W>,
+    side: Side<'_>,
+    text: &str,
+    count: u64,
+) -> fmt::Result {
+    side.fmt(f)?;
+    write_bits(f, text, count)
+}
+
+fn write_three<W: fmt::Write>(
+    f: &mut fmt::Formatter<W>,
+    target: Side<'_>,
+    a: Side<'_>,
+    b: Side<'_>,
+) -> fmt::Result {
+    target.fmt(f)?;
+    f.write_str(", ")?;
+    write_two(f, a, b)
+}
+
+// The target of a comparison, and the operator.
+fn write_test<W: fmt::Write>(
+    f: &mut fmt::Formatter<W>,
+    op: BinOp,
+    target: Side<'_>,
+) -> fmt::Result {
+    target.fmt(f)?;
+    write_named(
+        f,
+        ", and `{}` gives 1 bit",
+        Word(spelling(op).as_bytes()),
+        0,
+    )
+}
+
+// The width that is wanted of an address, and the address.
+fn write_address<W: fmt::Write>(
+    f: &mut fmt::Formatter<W>,
+    address: Side<'_>,
+    wanted: u64,
+) -> fmt::Result {
+    write_bits(f, "", wanted)?;
+    f.write_str("; ")?;
+    address.fmt(f)
+}
+
+fn write_literal<W: fmt::Write>(f: &mut fmt::Formatter<W>, value: u64, width: u64) -> fmt::Result {
+    value.fmt(f)?;
+    write_bits(f, " doesn't fit ", width)
+}
+
+// The sentence for the bits of a slice, of a name with this width.
+fn write_slice<W: fmt::Write>(
+    f: &mut fmt::Formatter<W>,
+    high: u64,
+    low: u64,
+    width: u64,
+) -> fmt::Result {
+    if high < low {
+        return write_numbers(f, "the high number is written first: `[{}:{}]`", low, high);
+    }
+    write_numbers(f, "bits {} to {}", high, low)?;
+    write_bits(f, " of ", width)?;
+    write_numbers(
+        f,
+        ": the bits are numbered {} to 0",
+        width.saturating_sub(1),
+        0,
+    )
 }
 
 fn write_two<W: fmt::Write>(f: &mut fmt::Formatter<W>, a: Side<'_>, b: Side<'_>) -> fmt::Result {
