@@ -4,3 +4,4 @@ pub mod Accounts
 pub mod Names
 pub mod Fetches
 pub mod Steps
+pub mod InOrder

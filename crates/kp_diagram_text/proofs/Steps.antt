@@ -1,24 +1,13 @@
 -- The steps of the loops that write a diagram.
-use Rattle.std.proofs.Common.{◌≡◌, ◌∙◌, ℕ, suc, ◌+◌, ◌-◌, ◌<◌, ◌≤◌, Bool, true, false, cond, List, [], ◌∷◌, ◌++◌, length, get_or, take, drop, Option, Some, None, refl, ap, ap₂, sym, subst, arith, replicate, decimal}
+use Rattle.std.proofs.Common.{◌≡◌, ◌∙◌, ℕ, suc, ◌+◌, ◌-◌, ◌<◌, ◌≤◌, Bool, true, false, cond, List, [], ◌∷◌, ◌++◌, length, get_or, take, drop, Option, Some, None, refl, ap, ap₂, sym, arith, replicate, decimal}
 use Rattle.std.proofs.lemmas.List.{replicate-append-replicate}
-use Rattle.std.{proofs.Common.Err, specs.Io.KnownBytes.Appends}
-use Rattle.kp_base.{proofs.Bytes.writes_next, specs.Bytes.AppendsPart}
 use Rattle.kp_base.specs.declared.row.Row as masks
-use Rattle.kp_base.specs.inner.Bytes.{WrittenUpTo}
 use Rattle.kp_pipeline.specs.Rows.{counts}
 use Rattle.kp_pipeline.specs.Diagram.{Fetch, Mark, account, cells_from, diagram, fetches_from, fetches_next, mark, next_place}
 use Rattle.kp_sched.{specs.Rows.row_seen, specs.Rows.rows_seen, proofs.Counting.seen_length}
 use Rattle.kp_diagram_text.specs.Text.{account_text, cells_text, column, cycle_numbers, diagram_text, head, in_column, legend, line_at, lines_text, sign, spaces, stage_name}
 use Rattle.kp_diagram_text.proofs.Fetches.{cells_step, fetch_of, fetches_end, fetches_step, last_cells, no_cells, split}
 use Rattle.kp_diagram_text.specs.{declared.chart.Chart.Chart, Charts.ext_of, Charts.figure_of, Charts.names_of, Charts.rows_of}
-
--- what is left is the same text
-pub left_is : (whole rest same : List ℕ) (a b : Option (List ℕ)) → rest ≡ same → WrittenUpTo whole rest a b → WrittenUpTo whole same a b
-left_is whole rest same a b e written = subst (λ (text : List ℕ). WrittenUpTo whole text a b) e written
-
--- a part of a text after one that was appended
-pub part_after : (a b c : Option (List ℕ)) (before text : List ℕ) → Appends a b before → AppendsPart b c text → AppendsPart a c (before ++ text)
-part_after a b c before text appended part = writes_next {T = ℕ} {E = ℕ} a b c before text (Err 0) appended part
 
 -- THE TEXT of a chart, from its parts.
 pub text_is : (c : Chart) (width : ℕ) → width ≡ column (names_of c) c.stages (length c.rows.now)

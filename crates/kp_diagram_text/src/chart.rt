@@ -5,9 +5,10 @@ ghost use Rattle.kp_base.specs.Bytes.{Writes};
 ghost use Rattle.kp_base.specs.Causes.{HasCause};
 ghost use Rattle.kp_diagram_text.specs.Charts.{IsDrawable, are_names as are_names_for, is_name as is_a_name, names_of};
 ghost use Rattle.kp_diagram_text.specs.Text.{column, longest, stage_name};
-ghost use Rattle.kp_diagram_text.specs.inner.Pieces.{piece_text};
+ghost use Rattle.kp_diagram_text.specs.inner.{Pieces.piece_text, Writing.Wrote};
 
 use crate::pieces::{Piece, write_piece};
+use crate::writing::Writing;
 use itoa::Buffer;
 use kp_base::{Row, Sink, SinkFault, word_length};
 
@@ -57,13 +58,24 @@ impl<'a> Chart<'a> {
         }
     }
 
+    /// Writes the name of stage k as a part of a text.
+    pub fn put_name<K: Sink>(&self, k: u8, writing: &mut Writing, sink: &mut K)
+        requires { IsDrawable self.now }
+        ensures { Wrote (K.held sink.old) (K.faults sink.old) writing.old (K.held sink.new) (K.faults sink.new) writing.new (stage_name (names_of self.now) k) }
+    {
+        write_piece(writing, sink, self.name(k))
+    }
+
     /// Writes the name of stage k. A fault comes only from the sink, which then has a prefix of the name.
+    #[tactic(auto, using(crate::proofs::InOrder::ended_text, crate::proofs::InOrder::ended_cause))]
     pub fn write_name<K: Sink>(&self, k: u8, sink: &mut K) -> Result<(), SinkFault>
         requires { IsDrawable self.now }
         ensures text { Writes (K.held sink.old) (K.held sink.new) (stage_name (names_of self.now) k) result }
         ensures cause { HasCause (K.faults sink.old) (K.faults sink.new) result }
     {
-        write_piece(sink, self.name(k))
+        let mut writing = Writing::begin();
+        self.put_name(k, &mut writing, sink);
+        writing.end()
     }
 
     // The name of stage k as a piece of a text.

@@ -1,12 +1,11 @@
 // Pieces of a text.
 ghost use Rattle.std.specs.Prelude.{◌≡◌, ◌+◌, ◌≤◌, ◌++◌, length, flat_map, if◌then◌else◌, ◌==◌};
-ghost use Rattle.kp_base.specs.Bytes.{Writes};
-ghost use Rattle.kp_base.specs.Causes.{HasCause};
 ghost use Rattle.kp_diagram_text.specs.Text.{counted as counted_text, in_column, spaces};
-ghost use Rattle.kp_diagram_text.specs.inner.Pieces.{piece_text};
+ghost use Rattle.kp_diagram_text.specs.inner.{Pieces.piece_text, Writing.Wrote};
 
+use crate::writing::Writing;
 use itoa::Buffer;
-use kp_base::{Sink, SinkFault, write_all};
+use kp_base::Sink;
 
 /// A piece of a text.
 #[derive(Clone, Copy)]
@@ -18,58 +17,54 @@ pub(crate) enum Piece<'a> {
     Spaces(usize),
 }
 
-// Appends the pieces in order, or a prefix of their concatenation if the sink fails.
-pub(crate) fn write_parts<K: Sink>(sink: &mut K, pieces: &[Piece<'_>]) -> Result<(), SinkFault>
-    ensures text { Writes (K.held sink.old) (K.held sink.new) (flat_map piece_text pieces.now) result }
-    ensures cause { HasCause (K.faults sink.old) (K.faults sink.new) result }
+// Writes the pieces in order.
+#[tactic(auto, using(crate::proofs::InOrder::each_more, crate::proofs::InOrder::each_all, crate::proofs::InOrder::wrote_none))]
+pub(crate) fn write_parts<K: Sink>(writing: &mut Writing, sink: &mut K, pieces: &[Piece<'_>])
+    ensures { Wrote (K.held sink.old) (K.faults sink.old) writing.old (K.held sink.new) (K.faults sink.new) writing.new (flat_map piece_text pieces.now) }
 {
     for piece in pieces {
-        write_piece(sink, *piece)?;
+        write_piece(writing, sink, *piece);
     }
-    Ok(())
 }
 
-pub(crate) fn write_piece<K: Sink>(sink: &mut K, piece: Piece<'_>) -> Result<(), SinkFault>
-    ensures text { Writes (K.held sink.old) (K.held sink.new) (piece_text piece.entry) result }
-    ensures cause { HasCause (K.faults sink.old) (K.faults sink.new) result }
+pub(crate) fn write_piece<K: Sink>(writing: &mut Writing, sink: &mut K, piece: Piece<'_>)
+    ensures { Wrote (K.held sink.old) (K.faults sink.old) writing.old (K.held sink.new) (K.faults sink.new) writing.new (piece_text piece.entry) }
 {
     match piece {
-        Piece::Text(text) => write_all(sink, text),
+        Piece::Text(text) => writing.put(sink, text),
         Piece::Number(number) => {
             let mut buffer = Buffer::new();
-            write_all(sink, buffer.format(number).as_bytes())
+            writing.put(sink, buffer.format(number).as_bytes())
         }
         Piece::Column(width, number) => {
             let mut buffer = Buffer::new();
-            write_column(width, buffer.format(number).as_bytes(), sink)
+            write_column(width, buffer.format(number).as_bytes(), writing, sink)
         }
-        Piece::Spaces(count) => write_spaces(count, sink),
+        Piece::Spaces(count) => write_spaces(count, writing, sink),
     }
 }
 
 // A text at the right end of a column.
-fn write_column<K: Sink>(width: usize, text: &[u8], sink: &mut K) -> Result<(), SinkFault>
-    ensures text { Writes (K.held sink.old) (K.held sink.new) (in_column width text.now) result }
-    ensures cause { HasCause (K.faults sink.old) (K.faults sink.new) result }
+fn write_column<K: Sink>(width: usize, text: &[u8], writing: &mut Writing, sink: &mut K)
+    ensures { Wrote (K.held sink.old) (K.faults sink.old) writing.old (K.held sink.new) (K.faults sink.new) writing.new (in_column width text.now) }
 {
     let room = width.saturating_sub(text.len());
-    write_spaces(room, sink)?;
-    write_all(sink, text)
+    write_spaces(room, writing, sink);
+    writing.put(sink, text)
 }
 
 // `count` spaces.
-fn write_spaces<K: Sink>(count: usize, sink: &mut K) -> Result<(), SinkFault>
-    ensures text { Writes (K.held sink.old) (K.held sink.new) (spaces count) result }
-    ensures cause { HasCause (K.faults sink.old) (K.faults sink.new) result }
+#[tactic(auto, using(crate::proofs::InOrder::up_none))]
+fn write_spaces<K: Sink>(count: usize, writing: &mut Writing, sink: &mut K)
+    ensures { Wrote (K.held sink.old) (K.faults sink.old) writing.old (K.held sink.new) (K.faults sink.new) writing.new (spaces count) }
 {
     let blank = [b' '; 64];
     let mut left = count;
     while left > 0 {
         let here = left.min(64);
-        write_all(sink, &blank[..here])?;
+        writing.put(sink, &blank[..here]);
         left -= here;
     }
-    Ok(())
 }
 
 // One text for a count of 1, and another for any other.

@@ -4,6 +4,7 @@ ghost use Rattle.kp_base.specs.Bytes.{Writes};
 ghost use Rattle.kp_base.specs.Causes.{HasCause};
 ghost use Rattle.kp_pipeline.specs.Diagram.{account, diagram};
 ghost use Rattle.kp_diagram_text.specs.Charts.{IsDrawable, ext_of, figure_of, names_of, rows_of};
+ghost use Rattle.kp_diagram_text.specs.inner.Writing.{Wrote};
 ghost use Rattle.kp_diagram_text.specs.Text.{account_text, cycle_numbers, diagram_text, head, legend as legend_text, lines_text, title};
 
 use crate::account::account_of;
@@ -11,7 +12,8 @@ use crate::chart::Chart;
 use crate::lines::write_lines;
 use crate::pieces::{Piece, counted, write_parts, write_piece};
 use crate::summary::write_account;
-use kp_base::{Sink, SinkFault, write_all};
+use crate::writing::Writing;
+use kp_base::{Sink, SinkFault};
 
 /// Writes the diagram of a chart as text: a line for each fetch, and the account below. A fault comes only from the sink, which then has a
 /// prefix of the text.
@@ -20,51 +22,41 @@ pub fn write_text<K: Sink>(chart: &Chart<'_>, sink: &mut K) -> Result<(), SinkFa
     ensures text { Writes (K.held sink.old) (K.held sink.new) (diagram_text (figure_of chart.now)) result }
     ensures cause { HasCause (K.faults sink.old) (K.faults sink.new) result }
 {
-    write_all_parts(chart, chart.width(), sink)
+    let mut writing = Writing::begin();
+    write_all_parts(chart, chart.width(), &mut writing, sink);
+    writing.end()
 }
 
-fn write_all_parts<K: Sink>(chart: &Chart<'_>, width: usize, sink: &mut K) -> Result<(), SinkFault>
+fn write_all_parts<K: Sink>(chart: &Chart<'_>, width: usize, writing: &mut Writing, sink: &mut K)
     requires drawable { IsDrawable chart.now }
     requires width { width ≤ 42 }
-    ensures text { Writes (K.held sink.old) (K.held sink.new)
+    ensures { Wrote (K.held sink.old) (K.faults sink.old) writing.old (K.held sink.new) (K.faults sink.new) writing.new
         (head chart.now.name.now chart.now.stages (length chart.now.rows.now) width
         ++ (lines_text width (names_of chart.now) (diagram chart.now.stages (ext_of chart.now) (rows_of chart.now))
-        ++ (legend_text ++ account_text (length chart.now.rows.now) (account (chart.now.stages - 1) (ext_of chart.now) (rows_of chart.now))))) result }
-    ensures cause { HasCause (K.faults sink.old) (K.faults sink.new) result }
+        ++ (legend_text ++ account_text (length chart.now.rows.now) (account (chart.now.stages - 1) (ext_of chart.now) (rows_of chart.now))))) }
 {
-    write_head(chart, width, sink)?;
-    write_lines(chart, width, sink)?;
-    write_legend(sink)?;
-    write_account(chart.rows.len() as u64, account_of(chart), sink)
+    let count = chart.rows.len();
+    write_title(chart.name, chart.stages, count as u64, writing, sink);
+    write_numbers(count, width, writing, sink);
+    writing.put(sink, b"\n");
+    write_lines(chart, width, writing, sink);
+    write_legend(writing, sink);
+    write_account(count as u64, account_of(chart), writing, sink)
 }
 
 #[tactic(auto, unfolding(crate::specs::Text::legend))]
-fn write_legend<K: Sink>(sink: &mut K) -> Result<(), SinkFault>
-    ensures text { Writes (K.held sink.old) (K.held sink.new) legend_text result }
-    ensures cause { HasCause (K.faults sink.old) (K.faults sink.new) result }
+fn write_legend<K: Sink>(writing: &mut Writing, sink: &mut K)
+    ensures { Wrote (K.held sink.old) (K.faults sink.old) writing.old (K.held sink.new) (K.faults sink.new) writing.new legend_text }
 {
-    write_all(
+    writing.put(
         sink,
         b"\n* waits for a value   - waits for the stage ahead   ! held from outside   x squashed\n\n",
     )
 }
 
-// The first line, and the line of the cycles' numbers.
-fn write_head<K: Sink>(chart: &Chart<'_>, width: usize, sink: &mut K) -> Result<(), SinkFault>
-    ensures text { Writes (K.held sink.old) (K.held sink.new)
-        (head chart.now.name.now chart.now.stages (length chart.now.rows.now) width) result }
-    ensures cause { HasCause (K.faults sink.old) (K.faults sink.new) result }
-{
-    let count = chart.rows.len();
-    write_title(chart.name, chart.stages, count as u64, sink)?;
-    write_numbers(count, width, sink)?;
-    write_all(sink, b"\n")
-}
-
 #[tactic(auto, unfolding(crate::specs::Text::title, crate::specs::Text::size_text))]
-fn write_title<K: Sink>(name: &[u8], stages: u8, count: u64, sink: &mut K) -> Result<(), SinkFault>
-    ensures text { Writes (K.held sink.old) (K.held sink.new) (title name.now stages count) result }
-    ensures cause { HasCause (K.faults sink.old) (K.faults sink.new) result }
+fn write_title<K: Sink>(name: &[u8], stages: u8, count: u64, writing: &mut Writing, sink: &mut K)
+    ensures { Wrote (K.held sink.old) (K.faults sink.old) writing.old (K.held sink.new) (K.faults sink.new) writing.new (title name.now stages count) }
 {
     let pieces = [
         Piece::Text(name),
@@ -75,15 +67,14 @@ fn write_title<K: Sink>(name: &[u8], stages: u8, count: u64, sink: &mut K) -> Re
         Piece::Text(counted(count, b" cycle", b" cycles")),
         Piece::Text(b"\n\ninstruction "),
     ];
-    write_parts(sink, &pieces)
+    write_parts(writing, sink, &pieces)
 }
 
-fn write_numbers<K: Sink>(count: usize, width: usize, sink: &mut K) -> Result<(), SinkFault>
-    ensures text { Writes (K.held sink.old) (K.held sink.new) (cycle_numbers width 0 count) result }
-    ensures cause { HasCause (K.faults sink.old) (K.faults sink.new) result }
+#[tactic(auto, using(crate::proofs::InOrder::up_none))]
+fn write_numbers<K: Sink>(count: usize, width: usize, writing: &mut Writing, sink: &mut K)
+    ensures { Wrote (K.held sink.old) (K.faults sink.old) writing.old (K.held sink.new) (K.faults sink.new) writing.new (cycle_numbers width 0 count) }
 {
     for cycle in 0..count {
-        write_piece(sink, Piece::Column(width, cycle as u64))?;
+        write_piece(writing, sink, Piece::Column(width, cycle as u64));
     }
-    Ok(())
 }

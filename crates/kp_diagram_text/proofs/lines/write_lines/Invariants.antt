@@ -1,18 +1,17 @@
-use Rattle.std.proofs.Common.{◌≡◌, ◌≤◌, drop, take}
-use Rattle.kp_base.specs.inner.Bytes.{WrittenUpTo}
-use Rattle.kp_pipeline.specs.{Rows.counts, Diagram.diagram, Diagram.fetches_from}
+use Rattle.std.proofs.Common.{◌≡◌, drop, take}
+use Rattle.kp_pipeline.specs.Rows.{counts}
 use Rattle.kp_sched.specs.{Monitors.HasSeen, Rows.rows_seen}
-use Rattle.kp_diagram_text.specs.{Charts.ext_of, Charts.names_of, Charts.rows_of, Text.lines_text}
+use Rattle.kp_pipeline.specs.Diagram.{diagram, fetches_from}
+use Rattle.kp_diagram_text.specs.{Charts.ext_of, Charts.names_of, Charts.rows_of, Text.lines_text, inner.Writing.WroteUpTo}
 use Rattle.kp_diagram_text.proofs.lines.write_lines.Given as goal
 
 abbrev pub invariant-loop-cycle : goal.invariant-loop-cycle
 invariant-loop-cycle g l = record {
-  text : WrittenUpTo
+  text : WroteUpTo
       (lines_text l.width (names_of l.chart) (diagram l.chart.stages (ext_of l.chart) (rows_of l.chart)))
       (lines_text l.width (names_of l.chart) (fetches_from l.chart.stages (ext_of l.chart) l.cycle
       (counts l.chart.stages (rows_seen l.chart.stages (take l.cycle l.chart.rows.now)) l.cycle) l.enters (rows_seen l.chart.stages (drop l.cycle l.chart.rows.now))))
-      (g.K.Sink.held l.initial.sink) (g.K.Sink.held l.sink);
-  later : g.K.Sink.faults l.initial.sink ≤ g.K.Sink.faults l.sink;
+      (g.K.Sink.held l.initial.sink) (g.K.Sink.faults l.initial.sink) l.initial.writing (g.K.Sink.held l.sink) (g.K.Sink.faults l.sink) l.writing;
   stages : l.monitor.stages ≡ l.chart.stages;
   seen : HasSeen l.monitor (take l.cycle l.chart.rows.now);
 }

@@ -1,9 +1,8 @@
-use Rattle.std.proofs.{Common.sym, Common.subst, lemmas.Result.err_from_is_err_and}
-use Rattle.kp_base.{specs.Bytes.AppendsPart, proofs.Bytes.part_next, proofs.Pieces.flat_map_split}
-use Rattle.kp_diagram_text.specs.inner.Pieces.{piece_text}
+use Rattle.std.proofs.lemmas.List.{get_or_default}
+use Rattle.kp_diagram_text.{specs.inner.Pieces.piece_text, proofs.InOrder.each_more}
 use Rattle.kp_diagram_text.proofs.pieces.write_parts.Goals as goal
 
-pub returns-in_err-write_piece-clause-text : goal.returns-in_err-write_piece-clause-text
-returns-in_err-write_piece-clause-text g c =
-    let exit = err_from_is_err_and c.from_residual.result c.from_residual.ensures.1 in
-    rw exit.1 (subst (AppendsPart _ _) (sym (flat_map_split piece_text c.args.pieces.now c.loop-piece.piece-index _ c.loop-piece-test.true)) (part_next _ _ _ _ _ _ c.loop-piece.invariant.0 c.in_err-write_piece.ensures.text))
+pub loop-piece-preserved : goal.loop-piece-preserved
+loop-piece-preserved g c =
+    each_more piece_text c.args.pieces.now c.loop-piece.piece-index _ _ _ _ _ _ _ _ _ _ c.loop-piece-test.true
+    (get_or_default c.args.pieces.now c.loop-piece.piece-index _ _ c.loop-piece-test.true) c.loop-piece.invariant c.write_piece.ensures

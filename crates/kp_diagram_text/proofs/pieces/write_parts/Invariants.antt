@@ -1,8 +1,8 @@
-use Rattle.std.{proofs.Common.◌≤◌, proofs.Common.take, specs.Prelude.flat_map, specs.Io.KnownBytes.Appends}
-use Rattle.kp_diagram_text.specs.inner.Pieces.{piece_text}
+use Rattle.std.{proofs.Common.take, specs.Prelude.flat_map}
+use Rattle.kp_diagram_text.specs.inner.{Pieces.piece_text, Writing.Wrote}
 use Rattle.kp_diagram_text.proofs.pieces.write_parts.Given as goal
 
 abbrev pub invariant-loop-piece : goal.invariant-loop-piece
 invariant-loop-piece g l =
-    Appends (g.K.Sink.held l.initial.sink) (g.K.Sink.held l.sink) (flat_map piece_text (take l.piece-index l.pieces))
-    × (g.K.Sink.faults l.initial.sink ≤ g.K.Sink.faults l.sink)
+    Wrote (g.K.Sink.held l.initial.sink) (g.K.Sink.faults l.initial.sink) l.initial.writing (g.K.Sink.held l.sink) (g.K.Sink.faults l.sink) l.writing
+    (flat_map piece_text (take l.piece-index l.pieces))

@@ -1,7 +1,7 @@
-use Rattle.std.proofs.Common.{◌≡◌, ◌≢◌, ◌∙◌, ℕ, ◌==◌, List, [], ◌++◌, ap, decimal, subst, sym, ne_eqb}
+use Rattle.std.proofs.Common.{◌≡◌, ◌≢◌, ◌∙◌, ℕ, ◌==◌, List, [], ◌++◌, ap, decimal, sym, ne_eqb}
 use Rattle.std.{specs.Prelude.codes, proofs.lemmas.Bool.cond-false}
-use Rattle.kp_base.specs.Bytes.{Writes}
 use Rattle.kp_diagram_text.specs.Text.{counted, in_column, lost_line, lost_words}
+use Rattle.kp_diagram_text.proofs.InOrder.{wrote_as}
 use Rattle.kp_diagram_text.proofs.summary.write_lost.Goals as goal
 
 lost_is : (count : ℕ) (words cause : List ℕ) → count ≢ 0 → words ≡ counted count (codes " cycle  lost to ") (codes " cycles lost to ")
@@ -11,8 +11,5 @@ lost_is count words cause some is =
     ap (λ (w : List ℕ). in_column 5 (decimal count) ++ (w ++ (cause ++ codes "\n"))) is
     ∙ sym (cond-false (count == 0) [] (in_column 5 (decimal count) ++ lost_words count cause) (ne_eqb count 0 some))
 
-pub returns-clause-text : goal.returns-clause-text
-returns-clause-text g c =
-    subst (λ (text : List ℕ). Writes (g.K.Sink.held c.args.sink.now) (g.K.Sink.held c.write_parts.new.sink) text c.write_parts.result)
-    (lost_is c.args.count _ c.args.cause.now c.if-count-eq0.false c.counted.ensures)
-    c.write_parts.ensures.text
+pub returns : goal.returns
+returns g c = wrote_as _ _ _ _ _ _ _ _ (lost_is c.args.count _ c.args.cause.now c.if-count-eq0.false c.counted.ensures) c.write_parts.ensures

@@ -1,7 +1,7 @@
-use Rattle.std.proofs.Common.{◌≡◌, ◌≢◌, ◌∙◌, ℕ, ◌/◌, ◌%◌, ◌==◌, List, [], ◌++◌, ap, append_assoc, cond, decimal, ltb, subst, sym, ne_eqb}
+use Rattle.std.proofs.Common.{◌≡◌, ◌≢◌, ◌∙◌, ℕ, ◌/◌, ◌%◌, ◌==◌, List, [], ◌++◌, ap, append_assoc, cond, decimal, ltb, sym, ne_eqb}
 use Rattle.std.{specs.Prelude.codes, proofs.lemmas.Bool.cond-false}
-use Rattle.kp_base.specs.Bytes.{Writes}
 use Rattle.kp_diagram_text.specs.Text.{hundredths, rate, rate_text}
+use Rattle.kp_diagram_text.proofs.InOrder.{wrote_as}
 use Rattle.kp_diagram_text.proofs.summary.write_rate_line.Goals as goal
 
 split : (a b c : List ℕ) → codes ", " ++ (a ++ (b ++ (c ++ codes " cycles per instruction\n"))) ≡ (codes ", " ++ (((a ++ b) ++ c) ++ codes " cycles per instruction")) ++ codes "\n"
@@ -17,8 +17,5 @@ rate_line_is count retired h p some is point =
     ∙ split (decimal (of / 100)) (cond (ltb (of % 100) 10) (codes ".0") (codes ".")) (decimal (of % 100))
     ∙ ap (λ (t : List ℕ). t ++ codes "\n") (sym (cond-false (retired == 0) [] (codes ", " ++ (rate count retired ++ codes " cycles per instruction")) (ne_eqb retired 0 some)))
 
-pub returns-clause-text : goal.returns-clause-text
-returns-clause-text g c =
-    subst (λ (text : List ℕ). Writes (g.K.Sink.held c.args.sink.now) (g.K.Sink.held c.write_parts.new.sink) text c.write_parts.result)
-    (rate_line_is c.args.count c.args.retired _ _ c.if-retired-eq0.false c.rounded-hundredths.ensures c.point.ensures)
-    c.write_parts.ensures.text
+pub returns : goal.returns
+returns g c = wrote_as _ _ _ _ _ _ _ _ (rate_line_is c.args.count c.args.retired _ _ c.if-retired-eq0.false c.rounded-hundredths.ensures c.point.ensures) c.write_parts.ensures

@@ -1,7 +1,7 @@
-use Rattle.std.proofs.Common.{◌≡◌, ◌∙◌, ℕ, List, ◌++◌, ap₂, append_assoc, decimal, subst}
+use Rattle.std.proofs.Common.{◌≡◌, ◌∙◌, ℕ, List, ◌++◌, ap₂, append_assoc, decimal}
 use Rattle.std.specs.Prelude.{codes}
-use Rattle.kp_base.specs.Bytes.{Writes}
 use Rattle.kp_diagram_text.specs.Text.{counted, size_text, title}
+use Rattle.kp_diagram_text.proofs.InOrder.{wrote_as}
 use Rattle.kp_diagram_text.proofs.text.write_title.Goals as goal
 
 split : (name a b c : List ℕ) → name ++ (codes ": " ++ (a ++ (codes " stages, " ++ (b ++ (c ++ codes "\n\ninstruction ")))))
@@ -15,8 +15,5 @@ title_is name words k n count same is =
     ap₂ (λ (j : ℕ) (w : List ℕ). name ++ (codes ": " ++ (decimal j ++ (codes " stages, " ++ (decimal count ++ (w ++ codes "\n\ninstruction ")))))) same is
     ∙ split name (decimal n) (decimal count) (counted count (codes " cycle") (codes " cycles"))
 
-pub returns-clause-text : goal.returns-clause-text
-returns-clause-text g c =
-    subst (λ (text : List ℕ). Writes (g.K.Sink.held c.args.sink.now) (g.K.Sink.held c.write_parts.new.sink) text c.write_parts.result)
-    (title_is c.args.name.now _ _ c.args.stages c.args.count c.from.ensures c.counted.ensures)
-    c.write_parts.ensures.text
+pub returns : goal.returns
+returns g c = wrote_as _ _ _ _ _ _ _ _ (title_is c.args.name.now _ _ c.args.stages c.args.count c.from.ensures c.counted.ensures) c.write_parts.ensures
