@@ -2,3 +2,4 @@
 pub mod Targets
 pub mod Boards
 pub mod Differing
+pub mod Pieces

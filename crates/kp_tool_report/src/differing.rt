@@ -8,11 +8,11 @@ ghost use Rattle.kp_tool_report.specs.States.{targets_in};
 ghost use Rattle.kp_tool_report.specs.Texts.{word_named, cycle_differing, values_differing};
 ghost use Rattle.kp_tool_report.specs.inner.Differing.{differing_text};
 
+use crate::pieces::{Piece, put_pieces};
 use crate::runs::write_rows;
 use crate::states::targets_in;
-use itoa::Buffer;
 use kp_ast::Decl;
-use kp_base::{Sink, SinkFault, write_all, write_pieces};
+use kp_base::{Sink, SinkFault, write_all};
 use kp_bits::Bits;
 use kp_run::{Board, Difference};
 
@@ -58,13 +58,12 @@ fn write_cycle<K: Sink>(cycle: u32, sink: &mut K) -> Result<(), SinkFault>
     ensures text { Writes (K.held sink.old) (K.held sink.new) (cycle_differing cycle) result }
     ensures cause { HasCause (K.faults sink.old) (K.faults sink.new) result }
 {
-    let mut digits = Buffer::new();
     let pieces = [
-        b"differs ".as_slice(),
-        digits.format(cycle).as_bytes(),
-        b" ".as_slice(),
+        Piece::Text(b"differs "),
+        Piece::Count(cycle),
+        Piece::Text(b" "),
     ];
-    write_pieces(sink, &pieces)
+    put_pieces(sink, &pieces)
 }
 
 #[tactic(auto, unfolding(crate::specs::Texts::values_differing))]
@@ -72,17 +71,14 @@ fn write_both<K: Sink>(found: Bits, due: Bits, sink: &mut K) -> Result<(), SinkF
     ensures text { Writes (K.held sink.old) (K.held sink.new) (values_differing found due) result }
     ensures cause { HasCause (K.faults sink.old) (K.faults sink.new) result }
 {
-    let (mut one, mut other) = ([0; 20], [0; 20]);
-    let length = found.spell(&mut one);
-    let more = due.spell(&mut other);
     let pieces = [
-        b" ".as_slice(),
-        &one[..length],
-        b" ".as_slice(),
-        &other[..more],
-        b"\n".as_slice(),
+        Piece::Text(b" "),
+        Piece::Value(found),
+        Piece::Text(b" "),
+        Piece::Value(due),
+        Piece::Text(b"\n"),
     ];
-    write_pieces(sink, &pieces)
+    put_pieces(sink, &pieces)
 }
 
 // The name of target number `target`, with the address if it is a file.
@@ -120,14 +116,13 @@ fn write_name<K: Sink>(decl: &Decl, address: u32, sink: &mut K) -> Result<(), Si
             if width.value == 0 {
                 return write_all(sink, name.name.bytes());
             }
-            let mut digits = Buffer::new();
             let pieces = [
-                name.name.bytes(),
-                b"[".as_slice(),
-                digits.format(address).as_bytes(),
-                b"]".as_slice(),
+                Piece::Text(name.name.bytes()),
+                Piece::Text(b"["),
+                Piece::Count(address),
+                Piece::Text(b"]"),
             ];
-            write_pieces(sink, &pieces)
+            put_pieces(sink, &pieces)
         }
         _ => Ok(()),
     }

@@ -13,11 +13,11 @@ ghost use Rattle.kp_tool_report.specs.States.{lines_of_words, lines_of, state_li
 ghost use Rattle.kp_tool_report.specs.inner.Boards.{behind, rest_text, board_text};
 ghost use Rattle.kp_tool_report.specs.inner.Targets.{StandsAt, HasWords, IsSmall};
 
+use crate::pieces::{Piece, put_pieces};
 use crate::states::targets_in;
 use crate::values::{write_register, write_word};
-use itoa::Buffer;
 use kp_ast::Decl;
-use kp_base::{Row, Sink, SinkFault, write_all, write_pieces};
+use kp_base::{Row, Sink, SinkFault, write_all};
 use kp_run::Board;
 use kp_sched::{Monitor, row_line};
 
@@ -107,9 +107,8 @@ fn write_one<K: Sink>(count: u64, sink: &mut K) -> Result<(), SinkFault>
     ensures text { Writes (K.held sink.old) (K.held sink.new) (number_behind count) result }
     ensures cause { HasCause (K.faults sink.old) (K.faults sink.new) result }
 {
-    let mut digits = Buffer::new();
-    let pieces = [b" ".as_slice(), digits.format(count).as_bytes()];
-    write_pieces(sink, &pieces)
+    let pieces = [Piece::Text(b" "), Piece::Number(count)];
+    put_pieces(sink, &pieces)
 }
 
 // The values of the targets, in the order of declaration.

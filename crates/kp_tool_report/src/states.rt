@@ -10,10 +10,10 @@ ghost use Rattle.kp_tool_report.specs.States.{no_counts, lines_of_words, lines_o
 ghost use Rattle.kp_tool_report.specs.Texts.{after_line};
 ghost use Rattle.kp_tool_report.specs.inner.Targets.{StandsAt, HasWords, IsSmall};
 
+use crate::pieces::{Piece, put_pieces};
 use crate::values::{write_register, write_word};
-use itoa::Buffer;
 use kp_ast::Decl;
-use kp_base::{Sink, SinkFault, write_pieces};
+use kp_base::{Sink, SinkFault};
 use kp_seq::SeqMachine;
 use kp_stage::Design;
 
@@ -40,13 +40,12 @@ fn write_count<K: Sink>(count: u32, sink: &mut K) -> Result<(), SinkFault>
     ensures text { Writes (K.held sink.old) (K.held sink.new) (after_line count) result }
     ensures cause { HasCause (K.faults sink.old) (K.faults sink.new) result }
 {
-    let mut digits = Buffer::new();
     let pieces = [
-        b"after ".as_slice(),
-        digits.format(count).as_bytes(),
-        b"\n".as_slice(),
+        Piece::Text(b"after "),
+        Piece::Count(count),
+        Piece::Text(b"\n"),
     ];
-    write_pieces(sink, &pieces)
+    put_pieces(sink, &pieces)
 }
 
 // Each register and file in the order of declaration.
