@@ -1,5 +1,5 @@
 // Pieces of a text.
-ghost use Rattle.std.specs.Prelude.{◌≡◌, ◌+◌, ◌≤◌, ◌++◌, length, flat_map, if◌then◌else◌, ◌==◌};
+ghost use Rattle.std.specs.Prelude.{◌≡◌, flat_map};
 ghost use Rattle.kp_diagram_text.specs.Text.{counted as counted_text, in_column, spaces};
 ghost use Rattle.kp_diagram_text.specs.inner.{Pieces.piece_text, Writing.Wrote};
 

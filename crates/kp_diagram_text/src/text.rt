@@ -1,5 +1,5 @@
 // The diagram as text.
-ghost use Rattle.std.specs.Prelude.{◌≡◌, ◌++◌, ◌-◌, ◌≤◌, length};
+ghost use Rattle.std.specs.Prelude.{◌++◌, ◌-◌, ◌≤◌, length};
 ghost use Rattle.kp_base.specs.Bytes.{Writes};
 ghost use Rattle.kp_base.specs.Causes.{HasCause};
 ghost use Rattle.kp_pipeline.specs.Diagram.{account, diagram};
