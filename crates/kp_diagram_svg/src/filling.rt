@@ -1,12 +1,12 @@
 // A text with holes that numbers fill.
 ghost use Rattle.std.specs.Prelude.{◌≡◌, ◌≤◌, ◌++◌, length, decimal, flat_map};
-ghost use Rattle.kp_base.specs.Bytes.{Writes};
-ghost use Rattle.kp_base.specs.Causes.{HasCause};
+ghost use Rattle.kp_diagram_text.specs.inner.Writing.{Wrote};
 ghost use Rattle.kp_diagram_svg.specs.Filling.{filled, hole_in, is_text as is_text_byte};
 ghost use Rattle.kp_diagram_svg.specs.inner.Templates.{template_text};
 
 use itoa::Buffer;
-use kp_base::{Sink, SinkFault, run_length, write_all};
+use kp_base::{Sink, run_length};
+use kp_diagram_text::Writing;
 
 /// A text with holes, its bytes `@`, and the numbers that fill them.
 #[derive(Clone, Copy)]
@@ -16,36 +16,37 @@ pub(crate) struct Template<'t, 'n> {
 }
 
 /// Writes these texts in order, with their numbers.
+#[tactic(auto, using(kp_diagram_text::proofs::InOrder::each_more, kp_diagram_text::proofs::InOrder::each_all, kp_diagram_text::proofs::InOrder::wrote_none))]
 pub(crate) fn write_templates<K: Sink>(
     templates: &[Template<'_, '_>],
+    writing: &mut Writing,
     sink: &mut K,
-) -> Result<(), SinkFault>
-    ensures text { Writes (K.held sink.old) (K.held sink.new) (flat_map template_text templates.now) result }
-    ensures cause { HasCause (K.faults sink.old) (K.faults sink.new) result }
+)
+    ensures { Wrote (K.held sink.old) (K.faults sink.old) writing.old (K.held sink.new) (K.faults sink.new) writing.new (flat_map template_text templates.now) }
 {
     for template in templates {
-        write_filled(template.text, template.numbers, sink)?;
+        write_filled(template.text, template.numbers, writing, sink);
     }
-    Ok(())
 }
 
 /// Writes a text with these numbers in the places of its bytes `@`.
+#[tactic(auto, using(kp_diagram_text::proofs::InOrder::up_none))]
 pub(crate) fn write_filled<K: Sink>(
     text: &[u8],
     numbers: &[u64],
+    writing: &mut Writing,
     sink: &mut K,
-) -> Result<(), SinkFault>
-    ensures text { Writes (K.held sink.old) (K.held sink.new) (filled text.now numbers.now) result }
-    ensures cause { HasCause (K.faults sink.old) (K.faults sink.new) result }
+)
+    ensures { Wrote (K.held sink.old) (K.faults sink.old) writing.old (K.held sink.new) (K.faults sink.new) writing.new (filled text.now numbers.now) }
 {
     let mut at = 0;
     for index in 0..numbers.len() {
         let rest = &text[at..];
         let before = hole(rest);
-        write_number(&rest[..before], numbers[index], sink)?;
+        write_number(&rest[..before], numbers[index], writing, sink);
         at = (at + before + 1).min(text.len());
     }
-    write_all(sink, &text[at..])
+    writing.put(sink, &text[at..])
 }
 
 // The number of bytes before the first hole.
@@ -63,12 +64,11 @@ fn is_text(byte: u8) -> bool
 }
 
 // The text before a hole, and the number that fills it.
-#[tactic(auto, using(kp_base::proofs::Bytes::writes_next, kp_base::proofs::Bytes::part_more))]
-fn write_number<K: Sink>(before: &[u8], number: u64, sink: &mut K) -> Result<(), SinkFault>
-    ensures text { Writes (K.held sink.old) (K.held sink.new) (before.now ++ decimal number) result }
-    ensures cause { HasCause (K.faults sink.old) (K.faults sink.new) result }
+#[tactic(auto, using(kp_diagram_text::proofs::InOrder::wrote_next))]
+fn write_number<K: Sink>(before: &[u8], number: u64, writing: &mut Writing, sink: &mut K)
+    ensures { Wrote (K.held sink.old) (K.faults sink.old) writing.old (K.held sink.new) (K.faults sink.new) writing.new (before.now ++ decimal number) }
 {
-    write_all(sink, before)?;
+    writing.put(sink, before);
     let mut digits = Buffer::new();
-    write_all(sink, digits.format(number).as_bytes())
+    writing.put(sink, digits.format(number).as_bytes())
 }

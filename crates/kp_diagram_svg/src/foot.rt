@@ -1,14 +1,13 @@
 // The foot of a picture: the legend and the account.
 ghost use Rattle.std.specs.Prelude.{◌≤◌};
-ghost use Rattle.kp_base.specs.Bytes.{Writes};
-ghost use Rattle.kp_base.specs.Causes.{HasCause};
+ghost use Rattle.kp_diagram_text.specs.inner.Writing.{Wrote};
 ghost use Rattle.kp_diagram_text.specs.Losses.{account_shown};
 ghost use Rattle.kp_diagram_svg.specs.Foot.{foot, rate_shown};
 ghost use Rattle.kp_diagram_svg.specs.inner.Templates.{table};
 
 use crate::filling::{Template, write_templates};
-use kp_base::{Sink, SinkFault, write_all};
-use kp_diagram_text::{Account, write_rate};
+use kp_base::Sink;
+use kp_diagram_text::{Account, Writing, put_rate};
 
 /// Writes the foot of a picture with cells of this half width, and this many cycles and rows.
 pub(crate) fn write_foot<K: Sink>(
@@ -16,18 +15,19 @@ pub(crate) fn write_foot<K: Sink>(
     cycles: u64,
     rows: u64,
     account: Account,
+    writing: &mut Writing,
     sink: &mut K,
-) -> Result<(), SinkFault>
+)
     requires half { half ≤ 46 }
     requires rows { rows ≤ 1000 }
     requires cycles { cycles ≤ 1000 }
     requires retired { account.retired ≤ 1000 }
-    ensures text { Writes (K.held sink.old) (K.held sink.new) (foot half cycles rows (account_shown account)) result }
-    ensures cause { HasCause (K.faults sink.old) (K.faults sink.new) result }
+    ensures { Wrote (K.held sink.old) (K.faults sink.old) writing.old (K.held sink.new) (K.faults sink.new) writing.new
+        (foot half cycles rows (account_shown account)) }
 {
-    write_table(half, 28 * rows + 105, cycles, account, sink)?;
-    write_rate_shown(cycles, account.retired, sink)?;
-    write_all(sink, b"</text></g>\n</svg>\n")
+    write_table(half, 28 * rows + 105, cycles, account, writing, sink);
+    write_rate_shown(cycles, account.retired, writing, sink);
+    writing.put(sink, b"</text></g>\n</svg>\n")
 }
 
 // The legend and the account, up to the cycles per instruction.
@@ -36,11 +36,12 @@ fn write_table<K: Sink>(
     y: u64,
     cycles: u64,
     account: Account,
+    writing: &mut Writing,
     sink: &mut K,
-) -> Result<(), SinkFault>
+)
     requires { half ≤ 46 }
-    ensures text { Writes (K.held sink.old) (K.held sink.new) (table half y cycles (account_shown account)) result }
-    ensures cause { HasCause (K.faults sink.old) (K.faults sink.new) result }
+    ensures { Wrote (K.held sink.old) (K.faults sink.old) writing.old (K.held sink.new) (K.faults sink.new) writing.new
+        (table half y cycles (account_shown account)) }
 {
     let looks = [half + 16, y];
     let words = [2 * half + 26, y];
@@ -73,17 +74,16 @@ fn write_table<K: Sink>(
             numbers: &spent,
         },
     ];
-    write_templates(&templates, sink)
+    write_templates(&templates, writing, sink)
 }
 
-fn write_rate_shown<K: Sink>(cycles: u64, retired: u64, sink: &mut K) -> Result<(), SinkFault>
+fn write_rate_shown<K: Sink>(cycles: u64, retired: u64, writing: &mut Writing, sink: &mut K)
     requires cycles { cycles ≤ 1000 }
     requires retired { retired ≤ 1000 }
-    ensures text { Writes (K.held sink.old) (K.held sink.new) (rate_shown cycles retired) result }
-    ensures cause { HasCause (K.faults sink.old) (K.faults sink.new) result }
+    ensures { Wrote (K.held sink.old) (K.faults sink.old) writing.old (K.held sink.new) (K.faults sink.new) writing.new (rate_shown cycles retired) }
 {
     if retired == 0 {
-        return write_all(sink, b"-");
+        return writing.put(sink, b"-");
     }
-    write_rate(cycles, retired, sink)
+    put_rate(cycles, retired, writing, sink)
 }

@@ -1,14 +1,14 @@
 // The head of a picture: its size, its title and its headline.
 ghost use Rattle.std.specs.Prelude.{◌≡◌, ◌≤◌};
-ghost use Rattle.kp_base.specs.Bytes.{Writes};
-ghost use Rattle.kp_base.specs.Causes.{HasCause};
+ghost use Rattle.kp_diagram_text.specs.inner.Writing.{Wrote};
 ghost use Rattle.kp_diagram_svg.specs.Sizes.{height_of, width_of};
 ghost use Rattle.kp_diagram_svg.specs.Symbols.{head};
 ghost use Rattle.kp_diagram_svg.specs.inner.Templates.{counted as counted_text, titles};
 
 use crate::filling::{Template, write_templates};
 use crate::symbols::{write_shapes, write_stages};
-use kp_base::{Sink, SinkFault};
+use kp_base::Sink;
+use kp_diagram_text::Writing;
 
 /// Writes the head of a picture of a machine of this name, with cells of this half width, and this many cycles and rows.
 pub(crate) fn write_head<K: Sink>(
@@ -17,20 +17,29 @@ pub(crate) fn write_head<K: Sink>(
     half: u64,
     cycles: u64,
     rows: u64,
+    writing: &mut Writing,
     sink: &mut K,
-) -> Result<(), SinkFault>
+)
     requires half { 14 ≤ half }
     requires few { half ≤ 46 }
     requires cycles { cycles ≤ 1000 }
     requires rows { rows ≤ 1000 }
-    ensures text { Writes (K.held sink.old) (K.held sink.new) (head name.now stages half cycles rows) result }
-    ensures cause { HasCause (K.faults sink.old) (K.faults sink.new) result }
+    ensures { Wrote (K.held sink.old) (K.faults sink.old) writing.old (K.held sink.new) (K.faults sink.new) writing.new
+        (head name.now stages half cycles rows) }
 {
     let width = width(half, cycles);
     let height = height(rows);
-    write_title(name, u64::from(stages), cycles, width, height, sink)?;
-    write_stages(sink)?;
-    write_shapes(half, cycles, rows, sink)
+    write_title(
+        name,
+        u64::from(stages),
+        cycles,
+        width,
+        height,
+        writing,
+        sink,
+    );
+    write_stages(writing, sink);
+    write_shapes(half, cycles, rows, writing, sink)
 }
 
 fn width(half: u64, cycles: u64) -> u64
@@ -55,10 +64,11 @@ fn write_title<K: Sink>(
     cycles: u64,
     width: u64,
     height: u64,
+    writing: &mut Writing,
     sink: &mut K,
-) -> Result<(), SinkFault>
-    ensures text { Writes (K.held sink.old) (K.held sink.new) (titles name.now stages cycles width height) result }
-    ensures cause { HasCause (K.faults sink.old) (K.faults sink.new) result }
+)
+    ensures { Wrote (K.held sink.old) (K.faults sink.old) writing.old (K.held sink.new) (K.faults sink.new) writing.new
+        (titles name.now stages cycles width height) }
 {
     let size = [width, height, width, height];
     let counts = [stages, cycles];
@@ -93,7 +103,7 @@ fn write_title<K: Sink>(
             numbers: &counts,
         },
     ];
-    write_templates(&templates, sink)
+    write_templates(&templates, writing, sink)
 }
 
 // What is written after the name in a caption.

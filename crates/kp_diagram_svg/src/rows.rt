@@ -1,7 +1,6 @@
 // The rows of a picture, one for each fetch.
 ghost use Rattle.std.specs.Prelude.{◌≡◌, ◌+◌, ◌≤◌, cond, length, [], drop, Some};
-ghost use Rattle.kp_base.specs.Bytes.{Writes};
-ghost use Rattle.kp_base.specs.Causes.{HasCause};
+ghost use Rattle.kp_diagram_text.specs.inner.Writing.{Wrote};
 ghost use Rattle.kp_sched.specs.Rows.{rows_seen};
 ghost use Rattle.kp_pipeline.specs.Diagram.{cells_from, diagram};
 ghost use Rattle.kp_diagram_text.specs.Charts.{IsDrawable, ext_of, names_of, rows_of};
@@ -9,33 +8,29 @@ ghost use Rattle.kp_diagram_svg.specs.Rows.{row_start, row_text, rows_text};
 
 use crate::cells::write_cells;
 use crate::filling::write_filled;
-use kp_base::{Sink, SinkFault, write_all};
-use kp_diagram_text::{Chart, fetches_next};
+use kp_base::Sink;
+use kp_diagram_text::{Chart, Writing, fetches_next};
 use kp_sched::Monitor;
 
 /// Writes a row for each fetch, in the order in which the instructions enter stage 0.
-pub(crate) fn write_rows<K: Sink>(
-    chart: &Chart<'_>,
-    half: u64,
-    sink: &mut K,
-) -> Result<(), SinkFault>
+#[tactic(auto, using(kp_diagram_text::proofs::InOrder::up_none))]
+pub(crate) fn write_rows<K: Sink>(chart: &Chart<'_>, half: u64, writing: &mut Writing, sink: &mut K)
     requires drawable { IsDrawable chart.now }
     requires few { length chart.now.rows.now ≤ 1000 }
     requires half { half ≤ 46 }
-    ensures text { Writes (K.held sink.old) (K.held sink.new) (rows_text half (names_of chart.now) 0 (diagram chart.now.stages (ext_of chart.now) (rows_of chart.now))) result }
-    ensures cause { HasCause (K.faults sink.old) (K.faults sink.new) result }
+    ensures { Wrote (K.held sink.old) (K.faults sink.old) writing.old (K.held sink.new) (K.faults sink.new) writing.new
+        (rows_text half (names_of chart.now) 0 (diagram chart.now.stages (ext_of chart.now) (rows_of chart.now))) }
 {
     let mut monitor = Monitor::open(chart.stages);
     let (mut enters, mut i) = (true, 0);
     for cycle in 0..chart.rows.len() {
         let number = monitor.count(0);
-        write_fetch(chart, half, enters, i, number, cycle, sink)?;
+        write_fetch(chart, half, enters, i, number, cycle, writing, sink);
         i = row_after(i, enters);
         let row = chart.rows[cycle];
         enters = fetches_next(chart.stages, row);
         monitor.cycle(row);
     }
-    Ok(())
 }
 
 /// The number of rows.
@@ -62,6 +57,7 @@ fn row_after(i: u64, enters: bool) -> u64
 }
 
 // The row of a fetch, if an instruction enters in this cycle.
+#[tactic(auto, using(kp_diagram_text::proofs::InOrder::wrote_none))]
 fn write_fetch<K: Sink>(
     chart: &Chart<'_>,
     half: u64,
@@ -69,19 +65,18 @@ fn write_fetch<K: Sink>(
     i: u64,
     number: u64,
     cycle: usize,
+    writing: &mut Writing,
     sink: &mut K,
-) -> Result<(), SinkFault>
+)
     requires drawable { IsDrawable chart.now }
     requires few { length chart.now.rows.now ≤ 1000 }
     requires half { half ≤ 46 }
     requires row { i ≤ 1000 }
-    ensures text { Writes (K.held sink.old) (K.held sink.new) (cond enters (row_text half (names_of chart.now) i number (cells_from chart.now.stages (ext_of chart.now) cycle (rows_seen chart.now.stages (drop cycle chart.now.rows.now)) (Some 0))) []) result }
-    ensures cause { HasCause (K.faults sink.old) (K.faults sink.new) result }
+    ensures { Wrote (K.held sink.old) (K.faults sink.old) writing.old (K.held sink.new) (K.faults sink.new) writing.new
+        (cond enters (row_text half (names_of chart.now) i number (cells_from chart.now.stages (ext_of chart.now) cycle (rows_seen chart.now.stages (drop cycle chart.now.rows.now)) (Some 0))) []) }
 {
     if enters {
-        write_row(chart, half, i, number, cycle, sink)
-    } else {
-        Ok(())
+        write_row(chart, half, i, number, cycle, writing, sink)
     }
 }
 
@@ -91,28 +86,28 @@ fn write_row<K: Sink>(
     i: u64,
     number: u64,
     cycle: usize,
+    writing: &mut Writing,
     sink: &mut K,
-) -> Result<(), SinkFault>
+)
     requires drawable { IsDrawable chart.now }
     requires few { length chart.now.rows.now ≤ 1000 }
     requires half { half ≤ 46 }
     requires row { i ≤ 1000 }
-    ensures text { Writes (K.held sink.old) (K.held sink.new) (row_text half (names_of chart.now) i number (cells_from chart.now.stages (ext_of chart.now) cycle (rows_seen chart.now.stages (drop cycle chart.now.rows.now)) (Some 0))) result }
-    ensures cause { HasCause (K.faults sink.old) (K.faults sink.new) result }
+    ensures { Wrote (K.held sink.old) (K.faults sink.old) writing.old (K.held sink.new) (K.faults sink.new) writing.new
+        (row_text half (names_of chart.now) i number (cells_from chart.now.stages (ext_of chart.now) cycle (rows_seen chart.now.stages (drop cycle chart.now.rows.now)) (Some 0))) }
 {
-    write_row_start(i, number, sink)?;
-    write_cells(chart, half, number, cycle, sink)?;
-    write_all(sink, b"</g>\n")
+    write_row_start(i, number, writing, sink);
+    write_cells(chart, half, number, cycle, writing, sink);
+    writing.put(sink, b"</g>\n")
 }
 
 #[tactic(auto, unfolding(crate::specs::Rows::row_start))]
-fn write_row_start<K: Sink>(i: u64, number: u64, sink: &mut K) -> Result<(), SinkFault>
+fn write_row_start<K: Sink>(i: u64, number: u64, writing: &mut Writing, sink: &mut K)
     requires { i ≤ 1000 }
-    ensures text { Writes (K.held sink.old) (K.held sink.new) (row_start i number) result }
-    ensures cause { HasCause (K.faults sink.old) (K.faults sink.new) result }
+    ensures { Wrote (K.held sink.old) (K.faults sink.old) writing.old (K.held sink.new) (K.faults sink.new) writing.new (row_start i number) }
 {
     let numbers = [28 * i + 93, number];
     let text =
         b"<g transform='translate(100,@)'><use xlink:href='#line'/><text x='-10' text-anchor='end'>@</text>\n";
-    write_filled(text, &numbers, sink)
+    write_filled(text, &numbers, writing, sink)
 }

@@ -1,39 +1,43 @@
 // The shapes that the cells of a picture consist of.
 ghost use Rattle.std.specs.Prelude.{◌≤◌, ◌++◌};
-ghost use Rattle.kp_base.specs.Bytes.{Writes};
-ghost use Rattle.kp_base.specs.Causes.{HasCause};
+ghost use Rattle.kp_diagram_text.specs.inner.Writing.{Wrote};
 ghost use Rattle.kp_diagram_svg.specs.Symbols.{grid, shapes, stages};
 
 use crate::filling::{Template, write_templates};
-use kp_base::{Sink, SinkFault, write_pieces};
+use kp_base::Sink;
+use kp_diagram_text::Writing;
 
 /// Writes the hatching, and the colours of the stages.
-pub(crate) fn write_stages<K: Sink>(sink: &mut K) -> Result<(), SinkFault>
-    ensures text { Writes (K.held sink.old) (K.held sink.new) stages result }
-    ensures cause { HasCause (K.faults sink.old) (K.faults sink.new) result }
+pub(crate) fn write_stages<K: Sink>(writing: &mut Writing, sink: &mut K)
+    ensures { Wrote (K.held sink.old) (K.faults sink.old) writing.old (K.held sink.new) (K.faults sink.new) writing.new stages }
 {
-    let pieces = [
+    writing.put(
+        sink,
         b"</text>\n\
 <text x='100' y='48' text-anchor='start'>cycle</text>\n\
 <text x='90' y='66' text-anchor='end'>instruction</text>\n\
 <defs>\n\
 <pattern id='diagonal' width='5' height='5' patternUnits='userSpaceOnUse' patternTransform='rotate(45)'><rect width='2' height='5' fill='#b35c00'/></pattern>\n\
-<pattern id='level' width='5' height='5' patternUnits='userSpaceOnUse'><rect width='5' height='2' fill='#31475e'/></pattern>\n"
-            .as_slice(),
+<pattern id='level' width='5' height='5' patternUnits='userSpaceOnUse'><rect width='5' height='2' fill='#31475e'/></pattern>\n",
+    );
+    writing.put(
+        sink,
         b"<g id='s0' fill='#cfe3f7'><use xlink:href='#box'/></g>\n\
 <g id='s1' fill='#d7efd3'><use xlink:href='#box'/></g>\n\
 <g id='s2' fill='#fdebc1'><use xlink:href='#box'/></g>\n\
 <g id='s3' fill='#e6dcf3'><use xlink:href='#box'/></g>\n\
 <g id='s4' fill='#f9d9d0'><use xlink:href='#box'/></g>\n\
 <g id='s5' fill='#d5eff0'><use xlink:href='#box'/></g>\n",
+    );
+    writing.put(
+        sink,
         b"<g id='s6' fill='#eee6d4'><use xlink:href='#box'/></g>\n\
 <g id='s7' fill='#e3e7ee'><use xlink:href='#box'/></g>\n\
 <g id='s8' fill='#dff0c8'><use xlink:href='#box'/></g>\n\
 <g id='s9' fill='#f6dcec'><use xlink:href='#box'/></g>\n\
 <g id='s10' fill='#dfe0fb'><use xlink:href='#box'/></g>\n\
 <g id='s11' fill='#e8e8e8'><use xlink:href='#box'/></g>\n",
-    ];
-    write_pieces(sink, &pieces)
+    )
 }
 
 /// Writes the shapes of cells of this half width, and the grid.
@@ -41,14 +45,14 @@ pub(crate) fn write_shapes<K: Sink>(
     half: u64,
     cycles: u64,
     rows: u64,
+    writing: &mut Writing,
     sink: &mut K,
-) -> Result<(), SinkFault>
+)
     requires half { 14 ≤ half }
     requires few { half ≤ 46 }
     requires cycles { cycles ≤ 1000 }
     requires rows { rows ≤ 1000 }
-    ensures text { Writes (K.held sink.old) (K.held sink.new) (shapes half ++ grid half cycles rows) result }
-    ensures cause { HasCause (K.faults sink.old) (K.faults sink.new) result }
+    ensures { Wrote (K.held sink.old) (K.faults sink.old) writing.old (K.held sink.new) (K.faults sink.new) writing.new (shapes half ++ grid half cycles rows) }
 {
     let (inner, middle, mark) = (half - 6, half - 13, half - 11);
     let boxes = [half, 2 * half, inner, 2 * inner];
@@ -94,5 +98,5 @@ pub(crate) fn write_shapes<K: Sink>(
             numbers: &grid,
         },
     ];
-    write_templates(&templates, sink)
+    write_templates(&templates, writing, sink)
 }

@@ -1,6 +1,6 @@
 use Rattle.std.proofs.Common.{◌≡◌, ◌≤◌, drop, take}
-use Rattle.kp_base.specs.inner.Bytes.{WrittenUpTo}
-use Rattle.kp_pipeline.specs.{Rows.counts, Diagram.diagram, Diagram.fetches_from}
+use Rattle.kp_diagram_text.specs.inner.Writing.{WroteUpTo}
+use Rattle.kp_pipeline.specs.Rows.{counts}
 use Rattle.kp_sched.specs.{Monitors.HasSeen, Rows.rows_seen}
 use Rattle.kp_diagram_text.specs.Charts.{ext_of, names_of, rows_of}
 use Rattle.kp_diagram_svg.specs.Rows.{rows_text}
@@ -8,12 +8,11 @@ use Rattle.kp_diagram_svg.proofs.rows.write_rows.Given as goal
 
 abbrev pub invariant-loop-cycle : goal.invariant-loop-cycle
 invariant-loop-cycle g l = record {
-  text : WrittenUpTo
+  text : WroteUpTo
       (rows_text l.half (names_of l.chart) 0 (diagram l.chart.stages (ext_of l.chart) (rows_of l.chart)))
       (rows_text l.half (names_of l.chart) l.i (fetches_from l.chart.stages (ext_of l.chart) l.cycle
       (counts l.chart.stages (rows_seen l.chart.stages (take l.cycle l.chart.rows.now)) l.cycle) l.enters (rows_seen l.chart.stages (drop l.cycle l.chart.rows.now))))
-      (g.K.Sink.held l.initial.sink) (g.K.Sink.held l.sink);
-  later : g.K.Sink.faults l.initial.sink ≤ g.K.Sink.faults l.sink;
+      (g.K.Sink.held l.initial.sink) (g.K.Sink.faults l.initial.sink) l.initial.writing (g.K.Sink.held l.sink) (g.K.Sink.faults l.sink) l.writing;
   few : l.i ≤ l.cycle;
   stages : l.monitor.stages ≡ l.chart.stages;
   seen : HasSeen l.monitor (take l.cycle l.chart.rows.now);

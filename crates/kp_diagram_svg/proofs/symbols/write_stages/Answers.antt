@@ -1,6 +1,9 @@
+use Rattle.std.proofs.Common.{◌++◌}
+use Rattle.kp_diagram_text.proofs.InOrder.{wrote_next}
 use Rattle.kp_diagram_svg.specs.Symbols.{hatching, first_stages, last_stages}
 use Rattle.kp_diagram_svg.proofs.symbols.write_stages.Goals as goal
 
-pub returns-clause-text : goal.returns-clause-text
+pub returns : goal.returns
 unfolding hatching first_stages last_stages
-returns-clause-text g c = rw c.as_slice.ensures at c.write_pieces.ensures.text
+returns g c =
+    wrote_next _ _ _ _ _ _ _ _ _ hatching (first_stages ++ last_stages) c.put.ensures (wrote_next _ _ _ _ _ _ _ _ _ first_stages last_stages c.put-2.ensures c.put-3.ensures)
