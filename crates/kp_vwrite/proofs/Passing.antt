@@ -1,10 +1,9 @@
 -- Texts that pass through a buffer in order.
-use Rattle.std.proofs.Common.{◌≡◌, ◌∙◌, ℕ, ◌+◌, ◌≤◌, ◌<◌, List, [], ◌∷◌, ◌++◌, length, get_or, drop, sym, ap, subst, append_assoc, append-nil, Ok, Err}
-use Rattle.std.proofs.lemmas.{List.drop_more, List.drop_all}
-use Rattle.std.{proofs.KnownBytes.Appends-trans, specs.declared.option.Option.Option}
-use Rattle.std.specs.{declared.result.Result.Result, Io.KnownBytes.Appends}
-use Rattle.kp_base.{specs.Bytes.AppendsPart, specs.Bytes.Writes, proofs.Bytes.writes_next}
-use Rattle.kp_vwrite.specs.inner.Passing.{Passes, Stops, Sends}
+use Rattle.std.proofs.Common.{◌≡◌, ◌∙◌, ℕ, suc, ◌+◌, ◌≤◌, ◌<◌, List, [], ◌∷◌, ◌++◌, length, get_or, take, refl, sym, ap, subst, append_assoc, append-nil, arith, cond, None, Some, Ok, Err}
+use Rattle.std.proofs.{lemmas.List.take_all, lemmas.List.take_more, lemmas.List.length-take-le, KnownBytes.Appends-nil, KnownBytes.Appends-trans}
+use Rattle.std.specs.{Prelude.flat_map, Prelude.is_err, declared.option.Option.Option, declared.result.Result.Result, Io.KnownBytes.Appends}
+use Rattle.kp_base.{specs.Bytes.AppendsPart, specs.Bytes.Writes, specs.Causes.HasCause, specs.Causes.Rose, proofs.Bytes.writes_next}
+use Rattle.kp_vwrite.specs.inner.Passing.{Passes, Stops, Sends, Wrote, Ends}
 
 -- the sink failed before it had the contents of the buffer
 pub stops_flushed : (a b : Option (List ℕ)) (page text : List ℕ) → AppendsPart a b page → Stops a page b text
@@ -59,44 +58,69 @@ stops_more a b p text more x = record {
   split = sym (append_assoc p text more) ∙ ap (λ (t : List ℕ). t ++ more) x.split ∙ append_assoc x.sent x.lost more;
 }
 
-pub sends_next : {T E : Type 0} (a b c : Option (List ℕ)) (p q r t1 t2 : List ℕ) (result : Result T E) → Passes a p b q t1 → Sends b q c r t2 result → Sends a p c r (t1 ++ t2) result
-sends_next a b c p q r t1 t2 (Ok value) x y = passes_next a b c p q r t1 t2 x y
-sends_next a b c p q r t1 t2 (Err error) x y = stops_next a b c p q t1 t2 x y
+-- Texts that a writer writes in order. The first one may be empty.
+pub wrote_none : (a : Option (List ℕ)) (n : ℕ) (p : Option (List ℕ)) → Wrote a n p a n p []
+wrote_none a n None = record { is = (refl, refl) }
+wrote_none a n (Some p) = record { is = (record { sent = []; appended = Appends-nil a; split = append-nil p }, omega arith) }
 
--- a text passed completely up to this rest of it
-pub record PassedUpTo (whole rest : List ℕ) (old : Option (List ℕ)) (page : List ℕ) (new : Option (List ℕ)) (kept : List ℕ) : Type 0 where
-  pub done : List ℕ
-  pub split : whole ≡ done ++ rest
-  pub passed : Passes old page new kept done
+pub wrote_next : (a b c : Option (List ℕ)) (n m k : ℕ) (p q r : Option (List ℕ)) (t u : List ℕ) → Wrote a n p b m q t → Wrote b m q c k r u → Wrote a n p c k r (t ++ u)
+wrote_next a b c n m k None None None t u x y = record { is = (y.is.0 ∙ x.is.0, y.is.1 ∙ x.is.1) }
+wrote_next a b c n m k None None (Some r) t u x y = absurd y.is
+wrote_next a b c n m k None (Some q) r t u x y = absurd x.is
+wrote_next a b c n m k (Some p) None None t u x y =
+    record { is = (subst (λ (new : Option (List ℕ)). Stops a p new (t ++ u)) (sym y.is.0) (stops_more a b p t u x.is.0), subst (λ (j : ℕ). (n ≤ j) × Rose n j) (sym y.is.1) x.is.1) }
+wrote_next a b c n m k (Some p) None (Some r) t u x y = absurd y.is
+wrote_next a b c n m k (Some p) (Some q) None t u x y = record { is = (stops_next a b c p q t u x.is.0 y.is.0, (omega (arith, x.is.1, y.is.1.0), omega (arith, x.is.1, y.is.1.1))) }
+wrote_next a b c n m k (Some p) (Some q) (Some r) t u x y = record { is = (passes_next a b c p q r t u x.is.0 y.is.0, omega (arith, x.is.1, y.is.1)) }
 
--- Lines of a list, written in order.
+-- a piece that was put through the buffer
+pub wrote_piece : {T E : Type 0} (a b : Option (List ℕ)) (n m : ℕ) (p q : List ℕ) (t : List ℕ) (result : Result T E) → Sends a p b q t result → HasCause n m result
+    → Wrote a n (Some p) b m (cond (is_err result) None (Some q)) t
+wrote_piece a b n m p q t (Ok value) sent cause = record { is = (sent, cause.later) }
+wrote_piece a b n m p q t (Err error) sent cause = record { is = (sent, (cause.later, cause.failed)) }
+
+-- The texts of the items of a list, up to one of them.
 module _ {X : Type 0} (f : ℕ → List X → List ℕ) (line : ℕ → X → List ℕ) (more : (j : ℕ) (x : X) (xs : List X) → f j (x ∷ xs) ≡ line j x ++ f (j + 1) xs) (none : (j : ℕ) → f j [] ≡ []) where
-  next_line : (all : List X) (i : ℕ) (x : X) → i < length all → x ≡ get_or all i x → f i (drop i all) ≡ line i x ++ f (i + 1) (drop (i + 1) all)
-  next_line all i x h e = ap (f i) (drop_more all i x h) ∙ more i (get_or all i x) (drop (i + 1) all) ∙ ap (λ y. line i y ++ f (i + 1) (drop (i + 1) all)) (sym e)
+  push : (j : ℕ) (xs : List X) (x : X) → f j (xs ++ x ∷ []) ≡ f j xs ++ line (j + length xs) x
+  push j [] x =
+      let e : j + 0 ≡ j = omega arith in
+      rw (none j, e) (more j x [] ∙ ap (λ t. line j x ++ t) (none (j + 1)) ∙ append-nil (line j x))
+  push j (y ∷ xs) x =
+      let e : j + 1 + length xs ≡ j + suc (length xs) = omega arith in
+      more j y (xs ++ x ∷ []) ∙ ap (λ t. line j y ++ t) (push (j + 1) xs x ∙ ap (λ i. f (j + 1) xs ++ line i x) e)
+      ∙ sym (append_assoc (line j y) (f (j + 1) xs) (line (j + suc (length xs)) x)) ∙ ap (λ t. t ++ line (j + suc (length xs)) x) (sym (more j y xs))
 
-  pub line_passed : (all : List X) (i : ℕ) (x : X) (a b c : Option (List ℕ)) (p q r : List ℕ) → i < length all → x ≡ get_or all i x → PassedUpTo (f 0 all) (f i (drop i all)) a p b q
-      → Passes b q c r (line i x) → PassedUpTo (f 0 all) (f (i + 1) (drop (i + 1) all)) a p c r
-  line_passed all i x a b c p q r h e w now = record {
-    done = w.done ++ line i x;
-    split = w.split ∙ ap (λ (t : List ℕ). w.done ++ t) (next_line all i x h e) ∙ sym (append_assoc w.done (line i x) (f (i + 1) (drop (i + 1) all)));
-    passed = passes_next a b c p q r w.done (line i x) w.passed now;
-  }
+  pub each_at : (xs : List X) (i : ℕ) (x : X) (a b c : Option (List ℕ)) (n m k : ℕ) (p q r : Option (List ℕ)) → i < length xs → x ≡ get_or xs i x
+      → Wrote a n p b m q (f 0 (take i xs)) → Wrote b m q c k r (line i x) → Wrote a n p c k r (f 0 (take (i + 1) xs))
+  each_at xs i x a b c n m k p q r h is before now =
+      let long : length (take i xs) ≡ i = length-take-le i xs (omega arith) in
+      let from_0 : 0 + i ≡ i = omega arith in
+      rw (take_more xs i x h, ← is, push 0 (take i xs) x, long, from_0) (wrote_next a b c n m k p q r _ _ before now)
 
-  pub line_stopped : (all : List X) (i : ℕ) (x : X) (a b c : Option (List ℕ)) (p q : List ℕ) → i < length all → x ≡ get_or all i x → PassedUpTo (f 0 all) (f i (drop i all)) a p b q
-      → Stops b q c (line i x) → Stops a p c (f 0 all)
-  line_stopped all i x a b c p q h e w now =
-      subst (Stops a p c) (sym (w.split ∙ ap (λ (t : List ℕ). w.done ++ t) (next_line all i x h e)))
-      (stops_next a b c p q w.done (line i x ++ f (i + 1) (drop (i + 1) all)) w.passed (stops_more b c q (line i x) (f (i + 1) (drop (i + 1) all)) now))
+pub each_more : {X : Type 0} (f : X → List ℕ) (xs : List X) (i : ℕ) (x : X) (a b c : Option (List ℕ)) (n m k : ℕ) (p q r : Option (List ℕ)) → i < length xs → x ≡ get_or xs i x
+    → Wrote a n p b m q (flat_map f (take i xs)) → Wrote b m q c k r (f x) → Wrote a n p c k r (flat_map f (take (i + 1) xs))
+each_more f = each_at (λ _. flat_map f) (λ _. f) (λ _ _ _. refl) (λ _. refl)
 
-  pub lines_end : (all : List X) (i : ℕ) (a b : Option (List ℕ)) (p q : List ℕ) → length all ≤ i → PassedUpTo (f 0 all) (f i (drop i all)) a p b q → Passes a p b q (f 0 all)
-  lines_end all i a b p q h w =
-      let e : f 0 all ≡ w.done = w.split ∙ ap (λ xs. w.done ++ f i xs) (drop_all i all h) ∙ ap (λ t. w.done ++ t) (none i) ∙ append-nil w.done in
-      subst (Passes a p b q) (sym e) w.passed
+pub each_all : {X : Type 0} (f : X → List ℕ) (xs : List X) (i : ℕ) (a b : Option (List ℕ)) (n m : ℕ) (p q : Option (List ℕ)) → length xs ≤ i
+    → Wrote a n p b m q (flat_map f (take i xs)) → Wrote a n p b m q (flat_map f xs)
+each_all f xs i a b n m p q h written = rw (take_all i xs h) at written
 
--- a text that started with an empty buffer follows what the sink contained once the buffer is flushed
-pub flushed : {T E : Type 0} (a b c : Option (List ℕ)) (page kept text : List ℕ) (result : Result T E) → page ≡ [] → Passes a page b kept text → Writes b c kept result → Writes a c text result
-flushed a b c page kept text result empty passed written =
-    subst (λ (t : List ℕ). Writes a c t result) (sym (ap (λ (t : List ℕ). t ++ text) (sym empty) ∙ passed.split)) (writes_next a b c passed.sent kept result passed.appended written)
+caused : {T E : Type 0} (n m k : ℕ) (result : Result T E) → n ≤ m → HasCause m k result → HasCause n k result
+caused n m k (Ok value) h cause = record { later = omega (arith, h, cause.later); failed = cause.failed }
+caused n m k (Err error) h cause = record { later = omega (arith, h, cause.later); failed = omega (arith, h, cause.failed) }
 
-pub cut_short : (a b : Option (List ℕ)) (page text : List ℕ) → page ≡ [] → Stops a page b text → AppendsPart a b text
-cut_short a b page text empty stopped = (stopped.sent, stopped.lost, ap (λ (t : List ℕ). t ++ text) (sym empty) ∙ stopped.split, stopped.appended)
+-- what a writer wrote, once it has ended
+pub ended : {T E : Type 0} (a b c : Option (List ℕ)) (n m k : ℕ) (p q : Option (List ℕ)) (text : List ℕ) (result : Result T E) → p ≡ Some [] → Wrote a n p b m q text → Ends b m q c k result
+    → Writes a c text result × HasCause n k result
+ended a b c n m k None q text result empty x y = cc
+ended a b c n m k (Some p) None text (Ok value) empty x y = cc y.0
+ended a b c n m k (Some p) None text (Err error) empty x y =
+    let start : p ≡ [] = cc in (
+      rw y.1.0 (x.is.0.sent, x.is.0.lost, ap (λ (t : List ℕ). t ++ text) (sym start) ∙ x.is.0.split, x.is.0.appended),
+      rw y.1.1 (record { later = x.is.1.0; failed = x.is.1.1 }),
+    )
+ended a b c n m k (Some p) (Some q) text result empty x y =
+    let start : p ≡ [] = cc in (
+      subst (λ (t : List ℕ). Writes a c t result) (sym (ap (λ (t : List ℕ). t ++ text) (sym start) ∙ x.is.0.split)) (writes_next a b c x.is.0.sent q result x.is.0.appended y.0),
+      caused n m k result x.is.1 y.1,
+    )

@@ -1,14 +1,13 @@
 // The line with the module's name and its ports, and the declarations of registers and files.
 ghost use Rattle.std.specs.Prelude.{◌≡◌, ◌<◌, ◌≤◌, ◌^◌, All, length};
-ghost use Rattle.kp_base.specs.Causes.{HasCause};
 ghost use Rattle.kp_net.specs.Widths.{wide};
 ghost use Rattle.kp_net.specs.Parts.{PortOk};
-ghost use Rattle.kp_vwrite.specs.inner.Passing.{Sends};
-ghost use Rattle.kp_vwrite.specs.inner.Texts.{reset_text, start_text, ranged_text, samples_text, outputs_text, header_text, regs_text, file_text, files_text, integer_text, cells_text, FileSafe};
+ghost use Rattle.kp_vwrite.specs.inner.Passing.{Wrote};
+ghost use Rattle.kp_vwrite.specs.inner.Texts.{reset_text, start_text, ranged_text, samples_text, outputs_text, header_text, regs_text, file_text, files_text, integer_text, FileSafe};
 
-use crate::page::{Page, put};
+use crate::page::Writer;
 use crate::pieces::{Piece, put_pieces};
-use kp_base::{Sink, SinkFault};
+use kp_base::Sink;
 use kp_net::{NetFile, NetReg, Netlist, NodeId, Parts, Port};
 
 // The port of the reset, if there is one.
@@ -23,10 +22,9 @@ fn reset_piece(parts: &Parts) -> &[u8]
 }
 
 // Up to the port of the stalls.
-fn write_start<K: Sink>(parts: &Parts, page: &mut Page, sink: &mut K) -> Result<(), SinkFault>
+fn write_start<K: Sink>(parts: &Parts, out: &mut Writer, sink: &mut K)
     requires { 1 ≤ parts.now.ext }
-    ensures text { Sends (K.held sink.old) page.old (K.held sink.new) page.new (start_text parts.now) result }
-    ensures cause { HasCause (K.faults sink.old) (K.faults sink.new) result }
+    ensures { Wrote (K.held sink.old) (K.faults sink.old) out.old (K.held sink.new) (K.faults sink.new) out.new (start_text parts.now) }
 {
     let pieces = [
         Piece::Text(b"module "),
@@ -36,7 +34,7 @@ fn write_start<K: Sink>(parts: &Parts, page: &mut Page, sink: &mut K) -> Result<
         Piece::Numbered(b"input wire [", u64::from(parts.ext - 1)),
         Piece::Text(b":0] ext, "),
     ];
-    put_pieces(page, sink, &pieces)
+    put_pieces(out, sink, &pieces)
 }
 
 // A name with the range of its bits.
@@ -45,12 +43,12 @@ fn write_ranged<'a, K: Sink>(
     width: u8,
     name: &'a [u8],
     end: &'a [u8],
-    page: &mut Page,
+    out: &mut Writer,
     sink: &mut K,
-) -> Result<(), SinkFault>
+)
     requires { 1 ≤ width }
-    ensures text { Sends (K.held sink.old) page.old (K.held sink.new) page.new (ranged_text front.now width name.now end.now) result }
-    ensures cause { HasCause (K.faults sink.old) (K.faults sink.new) result }
+    ensures { Wrote (K.held sink.old) (K.faults sink.old) out.old (K.held sink.new) (K.faults sink.new) out.new
+        (ranged_text front.now width name.now end.now) }
 {
     let pieces = [
         Piece::Numbered(front, u64::from(width - 1)),
@@ -58,13 +56,13 @@ fn write_ranged<'a, K: Sink>(
         Piece::Text(name),
         Piece::Text(end),
     ];
-    put_pieces(page, sink, &pieces)
+    put_pieces(out, sink, &pieces)
 }
 
-fn write_samples<K: Sink>(ports: &[Port], page: &mut Page, sink: &mut K) -> Result<(), SinkFault>
+#[tactic(auto, using(crate::proofs::Passing::each_more, crate::proofs::Passing::each_all, crate::proofs::Passing::wrote_none))]
+fn write_samples<K: Sink>(ports: &[Port], out: &mut Writer, sink: &mut K)
     requires { All PortOk ports.now }
-    ensures text { Sends (K.held sink.old) page.old (K.held sink.new) page.new (samples_text ports.now) result }
-    ensures cause { HasCause (K.faults sink.old) (K.faults sink.new) result }
+    ensures { Wrote (K.held sink.old) (K.faults sink.old) out.old (K.held sink.new) (K.faults sink.new) out.new (samples_text ports.now) }
 {
     for port in ports {
         write_ranged(
@@ -72,11 +70,10 @@ fn write_samples<K: Sink>(ports: &[Port], page: &mut Page, sink: &mut K) -> Resu
             port.width,
             port.name.bytes(),
             b", ",
-            page,
+            out,
             sink,
-        )?;
+        );
     }
-    Ok(())
 }
 
 // The width of a node.
@@ -89,18 +86,11 @@ fn width_of(net: &Netlist, id: NodeId) -> u8
     net.nodes()[id.0 as usize].width
 }
 
-fn write_outputs<K: Sink>(
-    full: u8,
-    ue: u8,
-    back: u8,
-    page: &mut Page,
-    sink: &mut K,
-) -> Result<(), SinkFault>
+fn write_outputs<K: Sink>(full: u8, ue: u8, back: u8, out: &mut Writer, sink: &mut K)
     requires full { 1 ≤ full }
     requires ue { 1 ≤ ue }
     requires back { 1 ≤ back }
-    ensures text { Sends (K.held sink.old) page.old (K.held sink.new) page.new (outputs_text full ue back) result }
-    ensures cause { HasCause (K.faults sink.old) (K.faults sink.new) result }
+    ensures { Wrote (K.held sink.old) (K.faults sink.old) out.old (K.held sink.new) (K.faults sink.new) out.new (outputs_text full ue back) }
 {
     let pieces = [
         Piece::Numbered(b"output wire [", u64::from(full - 1)),
@@ -108,26 +98,26 @@ fn write_outputs<K: Sink>(
         Piece::Numbered(b":0] ue, output wire [", u64::from(back - 1)),
         Piece::Text(b":0] back);\n"),
     ];
-    put_pieces(page, sink, &pieces)
+    put_pieces(out, sink, &pieces)
 }
 
-/// Writes the line with the module's name and its ports. A fault comes only from the sink.
-pub fn write_header<K: Sink>(net: &Netlist, page: &mut Page, sink: &mut K) -> Result<(), SinkFault>
-    ensures text { Sends (K.held sink.old) page.old (K.held sink.new) page.new (header_text net.now.nodes net.now.parts) result }
-    ensures cause { HasCause (K.faults sink.old) (K.faults sink.new) result }
+/// Writes the line with the module's name and its ports.
+pub fn write_header<K: Sink>(net: &Netlist, out: &mut Writer, sink: &mut K)
+    ensures { Wrote (K.held sink.old) (K.faults sink.old) out.old (K.held sink.new) (K.faults sink.new) out.new
+        (header_text net.now.nodes net.now.parts) }
 {
     let parts = net.parts();
     let full = width_of(net, parts.full);
     let ue = width_of(net, parts.ue);
     let back = width_of(net, parts.back);
-    write_start(parts, page, sink)?;
-    write_samples(parts.samples.as_slice(), page, sink)?;
-    write_outputs(full, ue, back, page, sink)
+    write_start(parts, out, sink);
+    write_samples(parts.samples.as_slice(), out, sink);
+    write_outputs(full, ue, back, out, sink)
 }
 
-fn write_regs<K: Sink>(regs: &[NetReg], page: &mut Page, sink: &mut K) -> Result<(), SinkFault>
-    ensures text { Sends (K.held sink.old) page.old (K.held sink.new) page.new (regs_text regs.now) result }
-    ensures cause { HasCause (K.faults sink.old) (K.faults sink.new) result }
+#[tactic(auto, using(crate::proofs::Passing::each_more, crate::proofs::Passing::each_all, crate::proofs::Passing::wrote_none))]
+pub fn write_regs<K: Sink>(regs: &[NetReg], out: &mut Writer, sink: &mut K)
+    ensures { Wrote (K.held sink.old) (K.faults sink.old) out.old (K.held sink.new) (K.faults sink.new) out.new (regs_text regs.now) }
 {
     for reg in regs {
         write_ranged(
@@ -135,11 +125,10 @@ fn write_regs<K: Sink>(regs: &[NetReg], page: &mut Page, sink: &mut K) -> Result
             reg.start.width(),
             reg.name.bytes(),
             b";\n",
-            page,
+            out,
             sink,
-        )?;
+        );
     }
-    Ok(())
 }
 
 /// The number of words that an address of this width selects from.
@@ -151,10 +140,9 @@ pub fn word_count(address_width: u8) -> u32
     1 << address_width
 }
 
-fn write_file<K: Sink>(file: &NetFile, page: &mut Page, sink: &mut K) -> Result<(), SinkFault>
+fn write_file<K: Sink>(file: &NetFile, out: &mut Writer, sink: &mut K)
     requires { FileSafe file.now }
-    ensures text { Sends (K.held sink.old) page.old (K.held sink.new) page.new (file_text file.now) result }
-    ensures cause { HasCause (K.faults sink.old) (K.faults sink.new) result }
+    ensures { Wrote (K.held sink.old) (K.faults sink.old) out.old (K.held sink.new) (K.faults sink.new) out.new (file_text file.now) }
 {
     let last = word_count(file.address_width) - 1;
     let pieces = [
@@ -164,39 +152,26 @@ fn write_file<K: Sink>(file: &NetFile, page: &mut Page, sink: &mut K) -> Result<
         Piece::Numbered(b" [0:", u64::from(last)),
         Piece::Text(b"];\n"),
     ];
-    put_pieces(page, sink, &pieces)
+    put_pieces(out, sink, &pieces)
 }
 
-fn write_files<K: Sink>(files: &[NetFile], page: &mut Page, sink: &mut K) -> Result<(), SinkFault>
+#[tactic(auto, using(crate::proofs::Passing::each_more, crate::proofs::Passing::each_all, crate::proofs::Passing::wrote_none))]
+pub fn write_files<K: Sink>(files: &[NetFile], out: &mut Writer, sink: &mut K)
     requires { All FileSafe files.now }
-    ensures text { Sends (K.held sink.old) page.old (K.held sink.new) page.new (files_text files.now) result }
-    ensures cause { HasCause (K.faults sink.old) (K.faults sink.new) result }
+    ensures { Wrote (K.held sink.old) (K.faults sink.old) out.old (K.held sink.new) (K.faults sink.new) out.new (files_text files.now) }
 {
     for file in files {
-        write_file(file, page, sink)?;
+        write_file(file, out, sink);
     }
-    Ok(())
 }
 
 #[tactic(auto, unfolding(crate::specs::inner::Texts::integer_text))]
-fn write_integer<K: Sink>(files: &[NetFile], page: &mut Page, sink: &mut K) -> Result<(), SinkFault>
-    ensures text { Sends (K.held sink.old) page.old (K.held sink.new) page.new (integer_text files.now) result }
-    ensures cause { HasCause (K.faults sink.old) (K.faults sink.new) result }
+pub fn write_integer<K: Sink>(files: &[NetFile], out: &mut Writer, sink: &mut K)
+    ensures { Wrote (K.held sink.old) (K.faults sink.old) out.old (K.held sink.new) (K.faults sink.new) out.new (integer_text files.now) }
 {
     if let [_, ..] = files {
-        put(page, sink, b"  integer i;\n")
+        out.put(sink, b"  integer i;\n")
     } else {
-        put(page, sink, b"")
+        out.put(sink, b"")
     }
-}
-
-/// Writes the declarations of the registers and of the files. A fault comes only from the sink.
-pub fn write_cells<K: Sink>(parts: &Parts, page: &mut Page, sink: &mut K) -> Result<(), SinkFault>
-    requires { All FileSafe parts.now.files }
-    ensures text { Sends (K.held sink.old) page.old (K.held sink.new) page.new (cells_text parts.now) result }
-    ensures cause { HasCause (K.faults sink.old) (K.faults sink.new) result }
-{
-    write_regs(parts.regs.as_slice(), page, sink)?;
-    write_files(parts.files.as_slice(), page, sink)?;
-    write_integer(parts.files.as_slice(), page, sink)
 }

@@ -1,35 +1,15 @@
 // The nodes, and the outputs.
 ghost use Rattle.std.specs.Prelude.{◌≡◌, ◌<◌, ◌≤◌, flat_map, length, get_or};
-ghost use Rattle.kp_base.specs.Causes.{HasCause};
 ghost use Rattle.kp_net.specs.Parts.{no_port, no_reg, no_file};
 ghost use Rattle.kp_vlog.specs.Canon.{sign};
-ghost use Rattle.kp_vwrite.specs.inner.Passing.{Sends};
-ghost use Rattle.kp_vwrite.specs.inner.Texts.{piece_text, front_text, right_text, parts_text, joined_text, node_text, nodes_text, outs_text, KindSafe, NodeSafe, AllSafe};
+ghost use Rattle.kp_vwrite.specs.inner.Passing.{Wrote};
+ghost use Rattle.kp_vwrite.specs.inner.Texts.{piece_text, right_text, parts_text, joined_text, node_text, nodes_text, outs_text, KindSafe, NodeSafe, AllSafe};
 
-use crate::page::{Page, put, put_fixed};
+use crate::page::Writer;
 use crate::pieces::{Piece, put_numbered, put_pieces, word_of};
-use kp_base::{Sink, SinkFault};
+use kp_base::Sink;
 use kp_bits::BinOp;
 use kp_net::{Kind, NetFile, NetReg, Node, NodeId, Parts, Port};
-
-fn write_front<K: Sink>(
-    number: usize,
-    node: &Node,
-    page: &mut Page,
-    sink: &mut K,
-) -> Result<(), SinkFault>
-    requires { 1 ≤ node.now.width }
-    ensures text { Sends (K.held sink.old) page.old (K.held sink.new) page.new (front_text number node.now) result }
-    ensures cause { HasCause (K.faults sink.old) (K.faults sink.new) result }
-{
-    let pieces = [
-        Piece::Numbered(b"  wire [", u64::from(node.width - 1)),
-        Piece::Numbered(b":0] n", number as u64),
-        Piece::Numbered(b";\n  assign n", number as u64),
-        Piece::Text(b" = "),
-    ];
-    put_pieces(page, sink, &pieces)
-}
 
 fn sign_of<'a>(op: BinOp) -> &'a [u8]
     ensures { result.now ≡ sign op }
@@ -48,31 +28,25 @@ fn sign_of<'a>(op: BinOp) -> &'a [u8]
     }
 }
 
-fn write_parts<K: Sink>(parts: &[NodeId], page: &mut Page, sink: &mut K) -> Result<(), SinkFault>
-    ensures text { Sends (K.held sink.old) page.old (K.held sink.new) page.new (parts_text parts.now) result }
-    ensures cause { HasCause (K.faults sink.old) (K.faults sink.new) result }
+#[tactic(auto, using(crate::proofs::Passing::each_more, crate::proofs::Passing::each_all, crate::proofs::Passing::wrote_none))]
+fn write_parts<K: Sink>(parts: &[NodeId], out: &mut Writer, sink: &mut K)
+    ensures { Wrote (K.held sink.old) (K.faults sink.old) out.old (K.held sink.new) (K.faults sink.new) out.new (parts_text parts.now) }
 {
     for part in parts {
-        put_numbered(page, sink, b", n", part.0 as u64)?;
+        put_numbered(out, sink, b", n", part.0 as u64);
     }
-    Ok(())
 }
 
-/// Writes the concatenation of nodes, as `{n1, n2}`. A fault comes only from the sink.
-pub fn write_joined<K: Sink>(
-    parts: &[NodeId],
-    page: &mut Page,
-    sink: &mut K,
-) -> Result<(), SinkFault>
-    ensures text { Sends (K.held sink.old) page.old (K.held sink.new) page.new (joined_text parts.now) result }
-    ensures cause { HasCause (K.faults sink.old) (K.faults sink.new) result }
+/// Writes the concatenation of nodes, as `{n1, n2}`.
+pub fn write_joined<K: Sink>(parts: &[NodeId], out: &mut Writer, sink: &mut K)
+    ensures { Wrote (K.held sink.old) (K.faults sink.old) out.old (K.held sink.new) (K.faults sink.new) out.new (joined_text parts.now) }
 {
     match parts {
-        [] => put_fixed(page, sink, b"{}"),
+        [] => out.put_fixed(sink, b"{}"),
         [first, rest @ ..] => {
-            put_numbered(page, sink, b"{n", first.0 as u64)?;
-            write_parts(rest, page, sink)?;
-            put_fixed(page, sink, b"}")
+            put_numbered(out, sink, b"{n", first.0 as u64);
+            write_parts(rest, out, sink);
+            out.put_fixed(sink, b"}")
         }
     }
 }
@@ -168,42 +142,35 @@ fn right<'a>(parts: &'a Parts, width: u8, kind: &'a Kind) -> [Piece<'a>; 4]
     }
 }
 
-fn write_node<K: Sink>(
-    parts: &Parts,
-    number: usize,
-    node: &Node,
-    page: &mut Page,
-    sink: &mut K,
-) -> Result<(), SinkFault>
+fn write_node<K: Sink>(parts: &Parts, number: usize, node: &Node, out: &mut Writer, sink: &mut K)
     requires { NodeSafe parts.now node.now }
-    ensures text { Sends (K.held sink.old) page.old (K.held sink.new) page.new (node_text parts.now number node.now) result }
-    ensures cause { HasCause (K.faults sink.old) (K.faults sink.new) result }
+    ensures { Wrote (K.held sink.old) (K.faults sink.old) out.old (K.held sink.new) (K.faults sink.new) out.new
+        (node_text parts.now number node.now) }
 {
-    write_front(number, node, page, sink)?;
-    put_pieces(page, sink, &right(parts, node.width, &node.kind))
+    let front = [
+        Piece::Numbered(b"  wire [", u64::from(node.width - 1)),
+        Piece::Numbered(b":0] n", number as u64),
+        Piece::Numbered(b";\n  assign n", number as u64),
+        Piece::Text(b" = "),
+    ];
+    put_pieces(out, sink, &front);
+    put_pieces(out, sink, &right(parts, node.width, &node.kind))
 }
 
-/// Writes the wires with their assignments. A fault comes only from the sink.
-pub fn write_nodes<K: Sink>(
-    parts: &Parts,
-    nodes: &[Node],
-    page: &mut Page,
-    sink: &mut K,
-) -> Result<(), SinkFault>
+/// Writes the wires with their assignments.
+#[tactic(auto, using(crate::proofs::Passing::wrote_none))]
+pub fn write_nodes<K: Sink>(parts: &Parts, nodes: &[Node], out: &mut Writer, sink: &mut K)
     requires { AllSafe parts.now nodes.now }
-    ensures text { Sends (K.held sink.old) page.old (K.held sink.new) page.new (nodes_text parts.now 0 nodes.now) result }
-    ensures cause { HasCause (K.faults sink.old) (K.faults sink.new) result }
+    ensures { Wrote (K.held sink.old) (K.faults sink.old) out.old (K.held sink.new) (K.faults sink.new) out.new (nodes_text parts.now 0 nodes.now) }
 {
     for (number, node) in nodes.iter().enumerate() {
-        write_node(parts, number, node, page, sink)?;
+        write_node(parts, number, node, out, sink);
     }
-    Ok(())
 }
 
-/// Writes the assignments of the outputs, and the head of the block that follows them. A fault comes only from the sink.
-pub fn write_outs<K: Sink>(parts: &Parts, page: &mut Page, sink: &mut K) -> Result<(), SinkFault>
-    ensures text { Sends (K.held sink.old) page.old (K.held sink.new) page.new (outs_text parts.now) result }
-    ensures cause { HasCause (K.faults sink.old) (K.faults sink.new) result }
+/// Writes the assignments of the outputs, and the head of the block that follows them.
+pub fn write_outs<K: Sink>(parts: &Parts, out: &mut Writer, sink: &mut K)
+    ensures { Wrote (K.held sink.old) (K.faults sink.old) out.old (K.held sink.new) (K.faults sink.new) out.new (outs_text parts.now) }
 {
     let pieces = [
         Piece::Numbered(b"  assign full = n", u64::from(parts.full.0)),
@@ -211,5 +178,5 @@ pub fn write_outs<K: Sink>(parts: &Parts, page: &mut Page, sink: &mut K) -> Resu
         Piece::Numbered(b";\n  assign back = n", u64::from(parts.back.0)),
         Piece::Text(b";\n  initial begin\n"),
     ];
-    put_pieces(page, sink, &pieces)
+    put_pieces(out, sink, &pieces)
 }

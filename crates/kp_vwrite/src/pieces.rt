@@ -1,15 +1,14 @@
 // Pieces of a text.
 ghost use Rattle.std.specs.Prelude.{◌≡◌, flat_map};
-ghost use Rattle.kp_base.specs.Causes.{HasCause};
 ghost use Rattle.kp_bits.specs.Spelling.{spelling};
 ghost use Rattle.kp_bits.specs.Word.{IsWord, word};
-ghost use Rattle.kp_vwrite.specs.inner.Passing.{Sends};
+ghost use Rattle.kp_vwrite.specs.inner.Passing.{Wrote};
 ghost use Rattle.kp_vwrite.specs.inner.Texts.{numbered, piece_text};
 
 use crate::nodes::write_joined;
-use crate::page::{Page, put};
+use crate::page::Writer;
 use itoa::Buffer;
-use kp_base::{Sink, SinkFault};
+use kp_base::Sink;
 use kp_bits::Bits;
 use kp_net::NodeId;
 
@@ -23,19 +22,13 @@ pub enum Piece<'a> {
     Joined(&'a [NodeId]),
 }
 
-/// Appends a text, and a number after it. A fault comes only from the sink.
-pub fn put_numbered<K: Sink>(
-    page: &mut Page,
-    sink: &mut K,
-    front: &[u8],
-    number: u64,
-) -> Result<(), SinkFault>
-    ensures text { Sends (K.held sink.old) page.old (K.held sink.new) page.new (numbered front.now number) result }
-    ensures cause { HasCause (K.faults sink.old) (K.faults sink.new) result }
+/// Appends a text, and a number after it.
+pub fn put_numbered<K: Sink>(out: &mut Writer, sink: &mut K, front: &[u8], number: u64)
+    ensures { Wrote (K.held sink.old) (K.faults sink.old) out.old (K.held sink.new) (K.faults sink.new) out.new (numbered front.now number) }
 {
-    put(page, sink, front)?;
+    out.put(sink, front);
     let mut digits = Buffer::new();
-    put(page, sink, digits.format(number).as_bytes())
+    out.put(sink, digits.format(number).as_bytes())
 }
 
 /// A word of this width and value.
@@ -47,38 +40,31 @@ pub fn word_of(width: u8, value: u64) -> Bits
 }
 
 // A word, such as `8'h0b`.
-fn put_literal<K: Sink>(page: &mut Page, sink: &mut K, value: Bits) -> Result<(), SinkFault>
-    ensures text { Sends (K.held sink.old) page.old (K.held sink.new) page.new (spelling value) result }
-    ensures cause { HasCause (K.faults sink.old) (K.faults sink.new) result }
+fn put_literal<K: Sink>(out: &mut Writer, sink: &mut K, value: Bits)
+    ensures { Wrote (K.held sink.old) (K.faults sink.old) out.old (K.held sink.new) (K.faults sink.new) out.new (spelling value) }
 {
     let mut room = [0; 20];
     let length = value.spell(&mut room);
-    put(page, sink, &room[..length])
+    out.put(sink, &room[..length])
 }
 
-fn put_piece<K: Sink>(page: &mut Page, sink: &mut K, piece: &Piece<'_>) -> Result<(), SinkFault>
-    ensures text { Sends (K.held sink.old) page.old (K.held sink.new) page.new (piece_text piece.now) result }
-    ensures cause { HasCause (K.faults sink.old) (K.faults sink.new) result }
+fn put_piece<K: Sink>(out: &mut Writer, sink: &mut K, piece: &Piece<'_>)
+    ensures { Wrote (K.held sink.old) (K.faults sink.old) out.old (K.held sink.new) (K.faults sink.new) out.new (piece_text piece.now) }
 {
     match piece {
-        Piece::Text(text) => put(page, sink, text),
-        Piece::Numbered(front, number) => put_numbered(page, sink, front, *number),
-        Piece::Literal(value) => put_literal(page, sink, *value),
-        Piece::Joined(nodes) => write_joined(nodes, page, sink),
+        Piece::Text(text) => out.put(sink, text),
+        Piece::Numbered(front, number) => put_numbered(out, sink, front, *number),
+        Piece::Literal(value) => put_literal(out, sink, *value),
+        Piece::Joined(nodes) => write_joined(nodes, out, sink),
     }
 }
 
-/// Appends the pieces in order. A fault comes only from the sink.
-pub fn put_pieces<K: Sink>(
-    page: &mut Page,
-    sink: &mut K,
-    pieces: &[Piece<'_>],
-) -> Result<(), SinkFault>
-    ensures text { Sends (K.held sink.old) page.old (K.held sink.new) page.new (flat_map piece_text pieces.now) result }
-    ensures cause { HasCause (K.faults sink.old) (K.faults sink.new) result }
+/// Appends the pieces in order.
+#[tactic(auto, using(crate::proofs::Passing::each_more, crate::proofs::Passing::each_all, crate::proofs::Passing::wrote_none))]
+pub fn put_pieces<K: Sink>(out: &mut Writer, sink: &mut K, pieces: &[Piece<'_>])
+    ensures { Wrote (K.held sink.old) (K.faults sink.old) out.old (K.held sink.new) (K.faults sink.new) out.new (flat_map piece_text pieces.now) }
 {
     for piece in pieces {
-        put_piece(page, sink, piece)?;
+        put_piece(out, sink, piece);
     }
-    Ok(())
 }

@@ -1,13 +1,12 @@
 // The blocks that set the start values of registers and files, and that update them.
 ghost use Rattle.std.specs.Prelude.{◌<◌, ◌≤◌, ◌^◌, All, true};
-ghost use Rattle.kp_base.specs.Causes.{HasCause};
-ghost use Rattle.kp_vwrite.specs.inner.Passing.{Sends};
-ghost use Rattle.kp_vwrite.specs.inner.Texts.{value_text, values_text, fill_text, word_text, words_text, contents_text, fills_text, state_text, update_text, updates_text, port_text, ports_text, changes_text, body_text, clock_text, FileSafe};
+ghost use Rattle.kp_vwrite.specs.inner.Passing.{Wrote};
+ghost use Rattle.kp_vwrite.specs.inner.Texts.{value_text, values_text, fill_text, word_text, words_text, contents_text, fills_text, update_text, updates_text, port_text, ports_text, changes_text, body_text, FileSafe};
 
 use crate::header::word_count;
-use crate::page::{Page, put, put_fixed};
+use crate::page::Writer;
 use crate::pieces::{Piece, put_pieces, word_of};
-use kp_base::{Sink, SinkFault};
+use kp_base::Sink;
 use kp_net::{NetFile, NetReg, Parts};
 
 // The start value of a register, with this assignment operator.
@@ -15,11 +14,11 @@ fn write_value<'a, K: Sink>(
     margin: &'a [u8],
     sign: &'a [u8],
     reg: &'a NetReg,
-    page: &mut Page,
+    out: &mut Writer,
     sink: &mut K,
-) -> Result<(), SinkFault>
-    ensures text { Sends (K.held sink.old) page.old (K.held sink.new) page.new (value_text margin.now sign.now reg.now) result }
-    ensures cause { HasCause (K.faults sink.old) (K.faults sink.new) result }
+)
+    ensures { Wrote (K.held sink.old) (K.faults sink.old) out.old (K.held sink.new) (K.faults sink.new) out.new
+        (value_text margin.now sign.now reg.now) }
 {
     let pieces = [
         Piece::Text(margin),
@@ -28,30 +27,29 @@ fn write_value<'a, K: Sink>(
         Piece::Literal(reg.start),
         Piece::Text(b";\n"),
     ];
-    put_pieces(page, sink, &pieces)
+    put_pieces(out, sink, &pieces)
 }
 
-fn write_values<K: Sink>(
+#[tactic(auto, using(crate::proofs::Passing::each_more, crate::proofs::Passing::each_all, crate::proofs::Passing::wrote_none))]
+pub fn write_values<K: Sink>(
     margin: &[u8],
     sign: &[u8],
     regs: &[NetReg],
-    page: &mut Page,
+    out: &mut Writer,
     sink: &mut K,
-) -> Result<(), SinkFault>
-    ensures text { Sends (K.held sink.old) page.old (K.held sink.new) page.new (values_text margin.now sign.now regs.now) result }
-    ensures cause { HasCause (K.faults sink.old) (K.faults sink.new) result }
+)
+    ensures { Wrote (K.held sink.old) (K.faults sink.old) out.old (K.held sink.new) (K.faults sink.new) out.new
+        (values_text margin.now sign.now regs.now) }
 {
     for reg in regs {
-        write_value(margin, sign, reg, page, sink)?;
+        write_value(margin, sign, reg, out, sink);
     }
-    Ok(())
 }
 
 // The loop that sets each word of a file to zero.
-fn write_fill<K: Sink>(file: &NetFile, page: &mut Page, sink: &mut K) -> Result<(), SinkFault>
+fn write_fill<K: Sink>(file: &NetFile, out: &mut Writer, sink: &mut K)
     requires { FileSafe file.now }
-    ensures text { Sends (K.held sink.old) page.old (K.held sink.new) page.new (fill_text file.now) result }
-    ensures cause { HasCause (K.faults sink.old) (K.faults sink.new) result }
+    ensures { Wrote (K.held sink.old) (K.faults sink.old) out.old (K.held sink.new) (K.faults sink.new) out.new (fill_text file.now) }
 {
     let zero = word_of(file.width, 0);
     let pieces = [
@@ -65,7 +63,7 @@ fn write_fill<K: Sink>(file: &NetFile, page: &mut Page, sink: &mut K) -> Result<
         Piece::Literal(zero),
         Piece::Text(b";\n"),
     ];
-    put_pieces(page, sink, &pieces)
+    put_pieces(out, sink, &pieces)
 }
 
 #[tactic(auto, unfolding(crate::specs::inner::Texts::word_text, crate::specs::inner::Texts::numbered))]
@@ -74,17 +72,17 @@ fn write_word<K: Sink>(
     width: u8,
     address: usize,
     value: u64,
-    page: &mut Page,
+    out: &mut Writer,
     sink: &mut K,
-) -> Result<(), SinkFault>
+)
     requires positive { 1 ≤ width }
     requires at_most { width ≤ 64 }
     requires fits { value < 2 ^ width }
-    ensures text { Sends (K.held sink.old) page.old (K.held sink.new) page.new (word_text name.now width address value) result }
-    ensures cause { HasCause (K.faults sink.old) (K.faults sink.new) result }
+    ensures { Wrote (K.held sink.old) (K.faults sink.old) out.old (K.held sink.new) (K.faults sink.new) out.new
+        (word_text name.now width address value) }
 {
     if value == 0 {
-        return put(page, sink, b"");
+        return out.put(sink, b"");
     }
     let pieces = [
         Piece::Text(b"    "),
@@ -94,74 +92,49 @@ fn write_word<K: Sink>(
         Piece::Literal(word_of(width, value)),
         Piece::Text(b";\n"),
     ];
-    put_pieces(page, sink, &pieces)
+    put_pieces(out, sink, &pieces)
 }
 
-fn write_words<K: Sink>(
-    name: &[u8],
-    width: u8,
-    words: &[u64],
-    page: &mut Page,
-    sink: &mut K,
-) -> Result<(), SinkFault>
+#[tactic(auto, using(crate::proofs::Passing::wrote_none))]
+fn write_words<K: Sink>(name: &[u8], width: u8, words: &[u64], out: &mut Writer, sink: &mut K)
     requires positive { 1 ≤ width }
     requires at_most { width ≤ 64 }
     requires fit { All (λ v. v < 2 ^ width) words.now }
-    ensures text { Sends (K.held sink.old) page.old (K.held sink.new) page.new (words_text name.now width 0 words.now) result }
-    ensures cause { HasCause (K.faults sink.old) (K.faults sink.new) result }
+    ensures { Wrote (K.held sink.old) (K.faults sink.old) out.old (K.held sink.new) (K.faults sink.new) out.new
+        (words_text name.now width 0 words.now) }
 {
     for (address, word) in words.iter().enumerate() {
-        write_word(name, width, address, *word, page, sink)?;
+        write_word(name, width, address, *word, out, sink);
     }
-    Ok(())
 }
 
-#[tactic(auto, unfolding(crate::specs::inner::Texts::contents_text))]
-fn write_contents<K: Sink>(file: &NetFile, page: &mut Page, sink: &mut K) -> Result<(), SinkFault>
+fn write_contents<K: Sink>(file: &NetFile, out: &mut Writer, sink: &mut K)
     requires { FileSafe file.now }
-    ensures text { Sends (K.held sink.old) page.old (K.held sink.new) page.new (contents_text file.now) result }
-    ensures cause { HasCause (K.faults sink.old) (K.faults sink.new) result }
+    ensures { Wrote (K.held sink.old) (K.faults sink.old) out.old (K.held sink.new) (K.faults sink.new) out.new (contents_text file.now) }
 {
-    write_fill(file, page, sink)?;
+    write_fill(file, out, sink);
     write_words(
         file.name.bytes(),
         file.width,
         file.words.as_slice(),
-        page,
+        out,
         sink,
     )
 }
 
-fn write_fills<K: Sink>(files: &[NetFile], page: &mut Page, sink: &mut K) -> Result<(), SinkFault>
+#[tactic(auto, using(crate::proofs::Passing::each_more, crate::proofs::Passing::each_all, crate::proofs::Passing::wrote_none))]
+pub fn write_fills<K: Sink>(files: &[NetFile], out: &mut Writer, sink: &mut K)
     requires { All FileSafe files.now }
-    ensures text { Sends (K.held sink.old) page.old (K.held sink.new) page.new (fills_text files.now) result }
-    ensures cause { HasCause (K.faults sink.old) (K.faults sink.new) result }
+    ensures { Wrote (K.held sink.old) (K.faults sink.old) out.old (K.held sink.new) (K.faults sink.new) out.new (fills_text files.now) }
 {
     for file in files {
-        write_contents(file, page, sink)?;
+        write_contents(file, out, sink);
     }
-    Ok(())
-}
-
-/// Writes the start values of the block that begins after the outputs. A fault comes only from the sink.
-pub fn write_state<K: Sink>(parts: &Parts, page: &mut Page, sink: &mut K) -> Result<(), SinkFault>
-    requires { All FileSafe parts.now.files }
-    ensures text { Sends (K.held sink.old) page.old (K.held sink.new) page.new (state_text parts.now) result }
-    ensures cause { HasCause (K.faults sink.old) (K.faults sink.new) result }
-{
-    write_values(b"    ", b" = ", parts.regs.as_slice(), page, sink)?;
-    write_fills(parts.files.as_slice(), page, sink)
 }
 
 // A register's value after the cycle, as `    r_X <= n3;`.
-fn write_update<'a, K: Sink>(
-    margin: &'a [u8],
-    reg: &'a NetReg,
-    page: &mut Page,
-    sink: &mut K,
-) -> Result<(), SinkFault>
-    ensures text { Sends (K.held sink.old) page.old (K.held sink.new) page.new (update_text margin.now reg.now) result }
-    ensures cause { HasCause (K.faults sink.old) (K.faults sink.new) result }
+fn write_update<'a, K: Sink>(margin: &'a [u8], reg: &'a NetReg, out: &mut Writer, sink: &mut K)
+    ensures { Wrote (K.held sink.old) (K.faults sink.old) out.old (K.held sink.new) (K.faults sink.new) out.new (update_text margin.now reg.now) }
 {
     let pieces = [
         Piece::Text(margin),
@@ -169,33 +142,21 @@ fn write_update<'a, K: Sink>(
         Piece::Numbered(b" <= n", u64::from(reg.next.0)),
         Piece::Text(b";\n"),
     ];
-    put_pieces(page, sink, &pieces)
+    put_pieces(out, sink, &pieces)
 }
 
-fn write_updates<K: Sink>(
-    margin: &[u8],
-    regs: &[NetReg],
-    page: &mut Page,
-    sink: &mut K,
-) -> Result<(), SinkFault>
-    ensures text { Sends (K.held sink.old) page.old (K.held sink.new) page.new (updates_text margin.now regs.now) result }
-    ensures cause { HasCause (K.faults sink.old) (K.faults sink.new) result }
+#[tactic(auto, using(crate::proofs::Passing::each_more, crate::proofs::Passing::each_all, crate::proofs::Passing::wrote_none))]
+fn write_updates<K: Sink>(margin: &[u8], regs: &[NetReg], out: &mut Writer, sink: &mut K)
+    ensures { Wrote (K.held sink.old) (K.faults sink.old) out.old (K.held sink.new) (K.faults sink.new) out.new (updates_text margin.now regs.now) }
 {
     for reg in regs {
-        write_update(margin, reg, page, sink)?;
+        write_update(margin, reg, out, sink);
     }
-    Ok(())
 }
 
 #[tactic(auto, unfolding(crate::specs::inner::Texts::port_text, crate::specs::inner::Texts::numbered))]
-fn write_port<'a, K: Sink>(
-    margin: &'a [u8],
-    file: &'a NetFile,
-    page: &mut Page,
-    sink: &mut K,
-) -> Result<(), SinkFault>
-    ensures text { Sends (K.held sink.old) page.old (K.held sink.new) page.new (port_text margin.now file.now) result }
-    ensures cause { HasCause (K.faults sink.old) (K.faults sink.new) result }
+fn write_port<'a, K: Sink>(margin: &'a [u8], file: &'a NetFile, out: &mut Writer, sink: &mut K)
+    ensures { Wrote (K.held sink.old) (K.faults sink.old) out.old (K.held sink.new) (K.faults sink.new) out.new (port_text margin.now file.now) }
 {
     match file.port {
         Some(port) => {
@@ -208,68 +169,45 @@ fn write_port<'a, K: Sink>(
                 Piece::Numbered(b"] <= n", u64::from(port.value.0)),
                 Piece::Text(b";\n"),
             ];
-            put_pieces(page, sink, &pieces)
+            put_pieces(out, sink, &pieces)
         }
-        None => put(page, sink, b""),
+        None => out.put(sink, b""),
     }
 }
 
-fn write_ports<K: Sink>(
-    margin: &[u8],
-    files: &[NetFile],
-    page: &mut Page,
-    sink: &mut K,
-) -> Result<(), SinkFault>
-    ensures text { Sends (K.held sink.old) page.old (K.held sink.new) page.new (ports_text margin.now files.now) result }
-    ensures cause { HasCause (K.faults sink.old) (K.faults sink.new) result }
+#[tactic(auto, using(crate::proofs::Passing::each_more, crate::proofs::Passing::each_all, crate::proofs::Passing::wrote_none))]
+fn write_ports<K: Sink>(margin: &[u8], files: &[NetFile], out: &mut Writer, sink: &mut K)
+    ensures { Wrote (K.held sink.old) (K.faults sink.old) out.old (K.held sink.new) (K.faults sink.new) out.new (ports_text margin.now files.now) }
 {
     for file in files {
-        write_port(margin, file, page, sink)?;
+        write_port(margin, file, out, sink);
     }
-    Ok(())
 }
 
-fn write_changes<K: Sink>(
-    margin: &[u8],
-    parts: &Parts,
-    page: &mut Page,
-    sink: &mut K,
-) -> Result<(), SinkFault>
-    ensures text { Sends (K.held sink.old) page.old (K.held sink.new) page.new (changes_text margin.now parts.now) result }
-    ensures cause { HasCause (K.faults sink.old) (K.faults sink.new) result }
+fn write_changes<K: Sink>(margin: &[u8], parts: &Parts, out: &mut Writer, sink: &mut K)
+    ensures { Wrote (K.held sink.old) (K.faults sink.old) out.old (K.held sink.new) (K.faults sink.new) out.new (changes_text margin.now parts.now) }
 {
-    write_updates(margin, parts.regs.as_slice(), page, sink)?;
-    write_ports(margin, parts.files.as_slice(), page, sink)
+    write_updates(margin, parts.regs.as_slice(), out, sink);
+    write_ports(margin, parts.files.as_slice(), out, sink)
 }
 
-fn write_with_reset<K: Sink>(parts: &Parts, page: &mut Page, sink: &mut K) -> Result<(), SinkFault>
-    ensures text { Sends (K.held sink.old) page.old (K.held sink.new) page.new (body_text true parts.now) result }
-    ensures cause { HasCause (K.faults sink.old) (K.faults sink.new) result }
+fn write_with_reset<K: Sink>(parts: &Parts, out: &mut Writer, sink: &mut K)
+    ensures { Wrote (K.held sink.old) (K.faults sink.old) out.old (K.held sink.new) (K.faults sink.new) out.new (body_text true parts.now) }
 {
-    put_fixed(page, sink, b"    if (rst) begin\n")?;
-    write_values(b"      ", b" <= ", parts.regs.as_slice(), page, sink)?;
-    put_fixed(page, sink, b"    end else begin\n")?;
-    write_changes(b"      ", parts, page, sink)?;
-    put_fixed(page, sink, b"    end\n")
+    out.put_fixed(sink, b"    if (rst) begin\n");
+    write_values(b"      ", b" <= ", parts.regs.as_slice(), out, sink);
+    out.put_fixed(sink, b"    end else begin\n");
+    write_changes(b"      ", parts, out, sink);
+    out.put_fixed(sink, b"    end\n")
 }
 
-fn write_body<K: Sink>(parts: &Parts, page: &mut Page, sink: &mut K) -> Result<(), SinkFault>
-    ensures text { Sends (K.held sink.old) page.old (K.held sink.new) page.new (body_text parts.now.reset parts.now) result }
-    ensures cause { HasCause (K.faults sink.old) (K.faults sink.new) result }
+pub fn write_body<K: Sink>(parts: &Parts, out: &mut Writer, sink: &mut K)
+    ensures { Wrote (K.held sink.old) (K.faults sink.old) out.old (K.held sink.new) (K.faults sink.new) out.new
+        (body_text parts.now.reset parts.now) }
 {
     if parts.reset {
-        write_with_reset(parts, page, sink)
+        write_with_reset(parts, out, sink)
     } else {
-        write_changes(b"    ", parts, page, sink)
+        write_changes(b"    ", parts, out, sink)
     }
-}
-
-/// Writes the block with the updates at the end of a cycle, and the module's end. A fault comes only from the sink.
-pub fn write_clock<K: Sink>(parts: &Parts, page: &mut Page, sink: &mut K) -> Result<(), SinkFault>
-    ensures text { Sends (K.held sink.old) page.old (K.held sink.new) page.new (clock_text parts.now) result }
-    ensures cause { HasCause (K.faults sink.old) (K.faults sink.new) result }
-{
-    put_fixed(page, sink, b"  end\n  always @(posedge clk) begin\n")?;
-    write_body(parts, page, sink)?;
-    put_fixed(page, sink, b"  end\nendmodule\n")
 }

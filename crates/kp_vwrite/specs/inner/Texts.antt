@@ -1,10 +1,10 @@
 -- The lines of the canonical text, as they are written.
-use Rattle.std.specs.Prelude.{ℕ, ◌-◌, ◌^◌, ◌<◌, ◌≤◌, Bool, true, false, List, [], ◌∷◌, ◌++◌, codes, decimal, length, get_or, All}
+use Rattle.std.specs.Prelude.{ℕ, ◌+◌, ◌-◌, ◌^◌, ◌<◌, ◌≤◌, Bool, true, false, List, [], ◌∷◌, ◌++◌, codes, decimal, flat_map, length, get_or, All}
 use Rattle.kp_bits.specs.{Word.word, Word.IsWord, Spelling.spelling}
 use Rattle.kp_net.specs.declared.node.{NodeId.NodeId, Kind.Kind, Kind.TheVariants.Const, Kind.TheVariants.Sample, Kind.TheVariants.Reg, Kind.TheVariants.Word}
 use Rattle.kp_net.specs.declared.{node.Node.Node, netlist.Port.Port, netlist.NetReg.NetReg, netlist.NetFile.NetFile}
 use Rattle.kp_net.specs.{declared.netlist.Parts.Parts, Widths.wide, Widths.no_node, Netlist.Net}
-use Rattle.kp_vlog.specs.Canon.{text_of, right_side, joined, sample_ports, out_ports, out_line, reg_lines, file_lines, integer_line, node_lines, word_line, word_lines, fill_lines, update_lines, port_line, port_lines}
+use Rattle.kp_vlog.specs.Canon.{text_of, right_side, joined, out_ports, out_line, integer_line, word_line, port_line}
 use Rattle.kp_vwrite.specs.declared.pieces.Piece.{Piece}
 use Rattle.kp_vwrite.specs.declared.pieces.Piece.TheVariants.{Text, Numbered, Literal, Joined}
 
@@ -43,8 +43,8 @@ start_text p =
 abbrev pub sample_text : Port → List ℕ
 sample_text s = ranged_text (codes "input wire [") s.width s.name (codes ", ")
 
-unfoldable pub samples_text : List Port → List ℕ
-samples_text ss = text_of (sample_ports ss)
+abbrev pub samples_text : List Port → List ℕ
+samples_text ss = flat_map sample_text ss
 
 unfoldable pub outputs_text : ℕ → ℕ → ℕ → List ℕ
 outputs_text full ue back = text_of (out_ports full ue back)
@@ -56,14 +56,14 @@ header_text ns p = start_text p ++ (samples_text p.samples ++ outputs_text (wide
 abbrev pub reg_text : NetReg → List ℕ
 reg_text r = ranged_text (codes "  reg [") r.start.width r.name (codes ";\n")
 
-unfoldable pub regs_text : List NetReg → List ℕ
-regs_text rs = text_of (reg_lines rs)
+abbrev pub regs_text : List NetReg → List ℕ
+regs_text rs = flat_map reg_text rs
 
 unfoldable pub file_text : NetFile → List ℕ
 file_text f = text_of (codes "  reg [" ∷ decimal (f.width - 1) ∷ codes ":0] " ∷ f.name ∷ codes " [0:" ∷ decimal (2 ^ f.address_width - 1) ∷ codes "];\n" ∷ [])
 
-unfoldable pub files_text : List NetFile → List ℕ
-files_text fs = text_of (file_lines fs)
+abbrev pub files_text : List NetFile → List ℕ
+files_text fs = flat_map file_text fs
 
 unfoldable pub integer_text : List NetFile → List ℕ
 integer_text fs = text_of (integer_line fs)
@@ -81,15 +81,15 @@ right_text p k kind = text_of (right_side p k kind ++ (codes ";\n" ∷ []))
 abbrev pub part_text : NodeId → List ℕ
 part_text a = numbered (codes ", n") a.0
 
-unfoldable pub parts_text : List NodeId → List ℕ
-parts_text [] = []
-parts_text (a ∷ parts) = part_text a ++ parts_text parts
+abbrev pub parts_text : List NodeId → List ℕ
+parts_text parts = flat_map part_text parts
 
 abbrev pub node_text : Parts → ℕ → Node → List ℕ
 node_text p j n = front_text j n ++ right_text p n.width n.kind
 
-unfoldable pub nodes_text : Parts → ℕ → List Node → List ℕ
-nodes_text p j ns = text_of (node_lines p j ns)
+abbrev pub nodes_text : Parts → ℕ → List Node → List ℕ
+nodes_text p j [] = []
+nodes_text p j (n ∷ ns) = node_text p j n ++ nodes_text p (j + 1) ns
 
 -- the outputs, and the head of the block that follows them
 unfoldable pub outs_text : Parts → List ℕ
@@ -100,9 +100,8 @@ outs_text p =
 unfoldable pub value_text : List ℕ → List ℕ → NetReg → List ℕ
 value_text margin sign r = text_of (margin ∷ r.name ∷ sign ∷ spelling r.start ∷ codes ";\n" ∷ [])
 
-unfoldable pub values_text : List ℕ → List ℕ → List NetReg → List ℕ
-values_text margin sign [] = []
-values_text margin sign (r ∷ rs) = value_text margin sign r ++ values_text margin sign rs
+abbrev pub values_text : List ℕ → List ℕ → List NetReg → List ℕ
+values_text margin sign rs = flat_map (value_text margin sign) rs
 
 unfoldable pub fill_text : NetFile → List ℕ
 fill_text f =
@@ -112,14 +111,15 @@ fill_text f =
 unfoldable pub word_text : List ℕ → ℕ → ℕ → ℕ → List ℕ
 word_text name width a v = text_of (word_line name width a v)
 
-unfoldable pub words_text : List ℕ → ℕ → ℕ → List ℕ → List ℕ
-words_text name width a vs = text_of (word_lines name width a vs)
+abbrev pub words_text : List ℕ → ℕ → ℕ → List ℕ → List ℕ
+words_text name width a [] = []
+words_text name width a (v ∷ vs) = word_text name width a v ++ words_text name width (a + 1) vs
 
-unfoldable pub contents_text : NetFile → List ℕ
+abbrev pub contents_text : NetFile → List ℕ
 contents_text f = fill_text f ++ words_text f.name f.width 0 f.words
 
-unfoldable pub fills_text : List NetFile → List ℕ
-fills_text fs = text_of (fill_lines fs)
+abbrev pub fills_text : List NetFile → List ℕ
+fills_text fs = flat_map contents_text fs
 
 abbrev pub state_text : Parts → List ℕ
 state_text p = values_text (codes "    ") (codes " = ") p.regs ++ fills_text p.files
@@ -128,14 +128,14 @@ state_text p = values_text (codes "    ") (codes " = ") p.regs ++ fills_text p.f
 unfoldable pub update_text : List ℕ → NetReg → List ℕ
 update_text margin r = text_of (margin ∷ r.name ∷ codes " <= n" ∷ decimal r.next.0 ∷ codes ";\n" ∷ [])
 
-unfoldable pub updates_text : List ℕ → List NetReg → List ℕ
-updates_text margin rs = text_of (update_lines margin rs)
+abbrev pub updates_text : List ℕ → List NetReg → List ℕ
+updates_text margin rs = flat_map (update_text margin) rs
 
 unfoldable pub port_text : List ℕ → NetFile → List ℕ
 port_text margin f = text_of (port_line margin f.name f.port)
 
-unfoldable pub ports_text : List ℕ → List NetFile → List ℕ
-ports_text margin fs = text_of (port_lines margin fs)
+abbrev pub ports_text : List ℕ → List NetFile → List ℕ
+ports_text margin fs = flat_map (port_text margin) fs
 
 abbrev pub changes_text : List ℕ → Parts → List ℕ
 changes_text margin p = updates_text margin p.regs ++ ports_text margin p.files
@@ -149,14 +149,10 @@ body_text true p =
 abbrev pub clock_text : Parts → List ℕ
 clock_text p = fixed (codes "  end\n  always @(posedge clk) begin\n") ++ (body_text p.reset p ++ fixed (codes "  end\nendmodule\n"))
 
-abbrev pub fronts_text : Net → List ℕ
-fronts_text net = header_text net.nodes net.parts ++ (cells_text net.parts ++ nodes_text net.parts 0 net.nodes)
-
-abbrev pub blocks_text : Parts → List ℕ
-blocks_text p = outs_text p ++ (state_text p ++ clock_text p)
-
 abbrev pub whole_text : Net → List ℕ
-whole_text net = fronts_text net ++ blocks_text net.parts
+whole_text net =
+    header_text net.nodes net.parts
+    ++ (cells_text net.parts ++ (nodes_text net.parts 0 net.nodes ++ (outs_text net.parts ++ (state_text net.parts ++ clock_text net.parts))))
 
 -- what a kind names exists, and its number fits
 abbrev pub KindSafe : Parts → ℕ → Kind → Type 0

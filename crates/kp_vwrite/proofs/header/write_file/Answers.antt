@@ -1,6 +1,6 @@
 use Rattle.kp_vwrite.specs.inner.Texts.{file_text, numbered}
 use Rattle.kp_vwrite.proofs.header.write_file.Goals as goal
 
-pub returns-clause-text : goal.returns-clause-text
+pub returns : goal.returns
 unfolding file_text numbered
-returns-clause-text g c = rw (c.from.ensures, c.bytes.ensures.bytes, c.from-2.ensures, c.word_count-last.ensures.value) at c.put_pieces.ensures.text
+returns g c = rw (c.from.ensures, c.bytes.ensures.bytes, c.from-2.ensures, c.word_count-last.ensures.value) at c.put_pieces.ensures

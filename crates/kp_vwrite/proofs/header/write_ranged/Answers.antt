@@ -1,6 +1,6 @@
 use Rattle.kp_vwrite.specs.inner.Texts.{ranged_text}
 use Rattle.kp_vwrite.proofs.header.write_ranged.Goals as goal
 
-pub returns-clause-text : goal.returns-clause-text
+pub returns : goal.returns
 unfolding ranged_text
-returns-clause-text g c = rw c.from.ensures at c.put_pieces.ensures.text
+returns g c = rw c.from.ensures at c.put_pieces.ensures

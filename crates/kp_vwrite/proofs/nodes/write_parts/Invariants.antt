@@ -1,8 +1,8 @@
-use Rattle.std.proofs.Common.{◌≤◌, drop}
-use Rattle.kp_vwrite.{specs.inner.Texts.parts_text, proofs.Passing.PassedUpTo}
+use Rattle.std.proofs.Common.{take}
+use Rattle.kp_vwrite.specs.inner.{Passing.Wrote, Texts.parts_text}
 use Rattle.kp_vwrite.proofs.nodes.write_parts.Given as goal
 
 abbrev pub invariant-loop-part : goal.invariant-loop-part
 invariant-loop-part g l =
-    PassedUpTo (parts_text l.parts) (parts_text (drop l.part-index l.parts)) (g.K.Sink.held l.initial.sink) l.initial.page (g.K.Sink.held l.sink) l.page
-    × (g.K.Sink.faults l.initial.sink ≤ g.K.Sink.faults l.sink)
+    Wrote (g.K.Sink.held l.initial.sink) (g.K.Sink.faults l.initial.sink) l.initial.out (g.K.Sink.held l.sink) (g.K.Sink.faults l.sink) l.out
+    (parts_text (take l.part-index l.parts))

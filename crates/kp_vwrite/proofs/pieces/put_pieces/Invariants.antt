@@ -1,9 +1,9 @@
-use Rattle.std.proofs.Common.{◌≤◌, drop}
+use Rattle.std.proofs.Common.{take}
 use Rattle.std.specs.Prelude.{flat_map}
-use Rattle.kp_vwrite.{specs.inner.Texts.piece_text, proofs.Passing.PassedUpTo}
+use Rattle.kp_vwrite.specs.inner.{Passing.Wrote, Texts.piece_text}
 use Rattle.kp_vwrite.proofs.pieces.put_pieces.Given as goal
 
 abbrev pub invariant-loop-piece : goal.invariant-loop-piece
 invariant-loop-piece g l =
-    PassedUpTo (flat_map piece_text l.pieces) (flat_map piece_text (drop l.piece-index l.pieces)) (g.K.Sink.held l.initial.sink) l.initial.page (g.K.Sink.held l.sink) l.page
-    × (g.K.Sink.faults l.initial.sink ≤ g.K.Sink.faults l.sink)
+    Wrote (g.K.Sink.held l.initial.sink) (g.K.Sink.faults l.initial.sink) l.initial.out (g.K.Sink.held l.sink) (g.K.Sink.faults l.sink) l.out
+    (flat_map piece_text (take l.piece-index l.pieces))

@@ -1,6 +1,6 @@
 use Rattle.kp_vwrite.specs.inner.Texts.{port_text, numbered}
 use Rattle.kp_vwrite.proofs.state.write_port.Goals as goal
 
-pub returns-in-Some-clause-text : goal.returns-in-Some-clause-text
+pub returns-in-Some : goal.returns-in-Some
 unfolding port_text numbered
-returns-in-Some-clause-text g c = rw c.in-Some.is (rw (c.from.ensures, c.bytes.ensures.bytes, c.from-in-Some.ensures, c.from-in-Some-2.ensures) at c.put_pieces.ensures.text)
+returns-in-Some g c = rw c.in-Some.is (rw (c.from.ensures, c.bytes.ensures.bytes, c.from-in-Some.ensures, c.from-in-Some-2.ensures) at c.put_pieces.ensures)

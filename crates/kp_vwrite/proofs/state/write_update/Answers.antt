@@ -1,6 +1,6 @@
 use Rattle.kp_vwrite.specs.inner.Texts.{update_text, numbered}
 use Rattle.kp_vwrite.proofs.state.write_update.Goals as goal
 
-pub returns-clause-text : goal.returns-clause-text
+pub returns : goal.returns
 unfolding update_text numbered
-returns-clause-text g c = rw (c.bytes.ensures.bytes, c.from.ensures) at c.put_pieces.ensures.text
+returns g c = rw (c.bytes.ensures.bytes, c.from.ensures) at c.put_pieces.ensures

@@ -1,26 +1,7 @@
-use Rattle.std.proofs.lemmas.Result.{err_from_is_err_and}
-use Rattle.kp_vwrite.proofs.Passing.{sends_next, stops_next, stops_more}
+use Rattle.kp_vwrite.proofs.Passing.{wrote_next}
 use Rattle.kp_vwrite.proofs.state.write_with_reset.Goals as goal
 
-pub returns-in_err-put_fixed-clause-text : goal.returns-in_err-put_fixed-clause-text
-returns-in_err-put_fixed-clause-text g c =
-    let exit = err_from_is_err_and c.from_residual.result c.from_residual.ensures.1 in
-    rw exit.1 (stops_more _ _ _ _ _ c.in_err-put_fixed.ensures.text)
-
-pub returns-in_err-write_values-clause-text : goal.returns-in_err-write_values-clause-text
-returns-in_err-write_values-clause-text g c =
-    let exit = err_from_is_err_and c.from_residual-in_err-write_values.result c.from_residual-in_err-write_values.ensures.1 in
-    rw exit.1 (stops_next _ _ _ _ _ _ _ c.in_ok-put_fixed.ensures.text (stops_more _ _ _ _ _ (rw c.as_slice.ensures at c.in_err-write_values.ensures.text)))
-
-pub returns-in_err-put_fixed-2-clause-text : goal.returns-in_err-put_fixed-2-clause-text
-returns-in_err-put_fixed-2-clause-text g c =
-    let exit = err_from_is_err_and c.from_residual-in_err-put_fixed-2.result c.from_residual-in_err-put_fixed-2.ensures.1 in
-    rw exit.1 (stops_next _ _ _ _ _ _ _ c.in_ok-put_fixed.ensures.text (stops_next _ _ _ _ _ _ _ (rw c.as_slice.ensures at c.in_ok-write_values.ensures.text) (stops_more _ _ _ _ _ c.in_err-put_fixed-2.ensures.text)))
-
-pub returns-in_err-write_changes-clause-text : goal.returns-in_err-write_changes-clause-text
-returns-in_err-write_changes-clause-text g c =
-    let exit = err_from_is_err_and c.from_residual-in_err-write_changes.result c.from_residual-in_err-write_changes.ensures.1 in
-    rw exit.1 (stops_next _ _ _ _ _ _ _ c.in_ok-put_fixed.ensures.text (stops_next _ _ _ _ _ _ _ (rw c.as_slice.ensures at c.in_ok-write_values.ensures.text) (stops_next _ _ _ _ _ _ _ c.in_ok-put_fixed-2.ensures.text (stops_more _ _ _ _ _ c.in_err-write_changes.ensures.text))))
-
-pub returns-clause-text : goal.returns-clause-text
-returns-clause-text g c = sends_next _ _ _ _ _ _ _ _ _ c.in_ok-put_fixed.ensures.text (sends_next _ _ _ _ _ _ _ _ _ (rw c.as_slice.ensures at c.in_ok-write_values.ensures.text) (sends_next _ _ _ _ _ _ _ _ _ c.in_ok-put_fixed-2.ensures.text (sends_next _ _ _ _ _ _ _ _ _ c.in_ok-write_changes.ensures.text c.put_fixed-3.ensures.text)))
+pub returns : goal.returns
+returns g c =
+    wrote_next _ _ _ _ _ _ _ _ _ _ _ c.put_fixed.ensures
+    (wrote_next _ _ _ _ _ _ _ _ _ _ _ (rw c.as_slice.ensures at c.write_values.ensures) (wrote_next _ _ _ _ _ _ _ _ _ _ _ c.put_fixed-2.ensures (wrote_next _ _ _ _ _ _ _ _ _ _ _ c.write_changes.ensures c.put_fixed-3.ensures)))

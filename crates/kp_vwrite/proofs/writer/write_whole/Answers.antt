@@ -1,14 +1,21 @@
-use Rattle.std.proofs.lemmas.Result.{err_from_is_err_and}
-use Rattle.kp_vwrite.proofs.{Passing.sends_next, Passing.stops_more, Safe.net_files_safe}
+use Rattle.kp_vwrite.proofs.{Passing.wrote_next, Safe.net_files_safe, Safe.nodes_safe}
 use Rattle.kp_vwrite.proofs.writer.write_whole.Goals as goal
 
-pub write_blocks-requires : goal.write_blocks-requires
-write_blocks-requires g c = rw c.parts.ensures.parts (net_files_safe c.args.net.now c.parts.ensures.right)
+pub write_files-requires : goal.write_files-requires
+write_files-requires g c = rw (c.as_slice-files.ensures, c.parts-parts.ensures.parts) (net_files_safe c.args.net.now c.parts-parts.ensures.right)
 
-pub returns-in_err-write_fronts-clause-text : goal.returns-in_err-write_fronts-clause-text
-returns-in_err-write_fronts-clause-text g c =
-    let exit = err_from_is_err_and c.from_residual.result c.from_residual.ensures.1 in
-    rw exit.1 (stops_more _ _ _ _ _ c.in_err-write_fronts.ensures.text)
+pub write_nodes-requires : goal.write_nodes-requires
+write_nodes-requires g c = rw (c.parts-parts.ensures.parts, c.nodes.ensures.nodes) (nodes_safe c.args.net.now c.nodes.ensures.right)
 
-pub returns-clause-text : goal.returns-clause-text
-returns-clause-text g c = sends_next _ _ _ _ _ _ _ _ _ c.in_ok-write_fronts.ensures.text (rw c.parts.ensures.parts at c.write_blocks.ensures.text)
+pub write_fills-requires : goal.write_fills-requires
+write_fills-requires g c = rw (c.as_slice-files.ensures, c.parts-parts.ensures.parts) (net_files_safe c.args.net.now c.parts-parts.ensures.right)
+
+pub returns : goal.returns
+returns g c =
+    wrote_next _ _ _ _ _ _ _ _ _ _ _ c.write_header.ensures
+    (rw c.parts-parts.ensures.parts at
+    (wrote_next _ _ _ _ _ _ _ _ _ _ _ (rw (c.as_slice-regs.ensures, c.as_slice-files.ensures) at (wrote_next _ _ _ _ _ _ _ _ _ _ _ c.write_regs.ensures (wrote_next _ _ _ _ _ _ _ _ _ _ _ c.write_files.ensures c.write_integer.ensures)))
+    (wrote_next _ _ _ _ _ _ _ _ _ _ _ (rw c.nodes.ensures.nodes at c.write_nodes.ensures)
+    (wrote_next _ _ _ _ _ _ _ _ _ _ _ c.write_outs.ensures
+    (wrote_next _ _ _ _ _ _ _ _ _ _ _ (rw (c.as_slice-regs.ensures, c.as_slice-files.ensures) at (wrote_next _ _ _ _ _ _ _ _ _ _ _ c.write_values.ensures c.write_fills.ensures))
+    (wrote_next _ _ _ _ _ _ _ _ _ _ _ c.put_fixed.ensures (wrote_next _ _ _ _ _ _ _ _ _ _ _ c.write_body.ensures c.put_fixed-2.ensures)))))))
