@@ -9,8 +9,8 @@ use Rattle.kp_net.specs.Netlist.{Net}
 use Rattle.kp_debug_report.specs.Sessions.{Debugged}
 use Rattle.kp_run.specs.Cycles.{inputs_to, own_trace}
 use Rattle.kp_sched.specs.{Runs.ShowsAlike, Shows.Shows, Traces.inputs_seen, Traces.AreQuiet}
-use Rattle.kp_debug_script.specs.declared.command.Command.{Command}
-use Rattle.kp_debug_script.specs.declared.command.Command.TheVariants as commands
+use Rattle.kp_debug_report.specs.declared.command.Command.{Command}
+use Rattle.kp_debug_report.specs.declared.command.Command.TheVariants as commands
 use Rattle.kp_tool_report.{specs.States.no_counts, proofs.Alike.lines_alike}
 use Rattle.kp_debug_report.specs.Inspecting.{all_cycles, whole_run, has_value, first_from, ahead, reached, hit_line, at_line, row_or_end, printed_by, printed, ends_in, IsOfTargets, AreOfJob}
 use Rattle.kp_debug_report.{specs.inner.Standing.IsInspection, specs.inner.Standing.run_of, proofs.Searching.alike}

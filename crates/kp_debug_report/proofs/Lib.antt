@@ -7,3 +7,6 @@ pub mod Scripts
 pub mod Feeding
 pub mod Passing
 pub mod AtCycle
+pub mod Faults
+pub mod Turns
+pub mod Words

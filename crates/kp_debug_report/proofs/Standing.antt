@@ -11,8 +11,8 @@ use Rattle.kp_debug_report.specs.Sessions.{Debugged, no_state, row_there, forwar
 use Rattle.kp_run.{specs.Cycles.inputs_to, proofs.Prefixes.rows_many}
 use Rattle.kp_sched.specs.{Rows.row_seen, Naming.value_shown, Shows.Shows, Traces.trace_of}
 use Rattle.kp_sched.proofs.Counting.{seen_length}
-use Rattle.kp_debug_script.specs.declared.command.Command.{Command}
-use Rattle.kp_debug_script.specs.declared.command.Command.TheVariants as commands
+use Rattle.kp_debug_report.specs.declared.command.Command.{Command}
+use Rattle.kp_debug_report.specs.declared.command.Command.TheVariants as commands
 use Rattle.kp_tool_report.proofs.Lines.{left_is}
 use Rattle.kp_debug_report.specs.Inspecting.{all_cycles, has_value, first_from, ahead, reached, printed_by, printed, ends_in}
 use Rattle.kp_debug_report.specs.inner.Standing.{IsUnderWay, IsSearched, IsInspection, run_of, state_seen}

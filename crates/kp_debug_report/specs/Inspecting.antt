@@ -5,8 +5,8 @@ use Rattle.kp_ast.specs.declared.tree.Job.{Job}
 use Rattle.kp_pipeline.specs.Rows.{Row, Trace}
 use Rattle.kp_machine.specs.{Machine.pipe_of, Machine.inputs_from, Slots.targets_of, Slots.is_register, Words.target}
 use Rattle.kp_sched.specs.Lines.{row_line}
-use Rattle.kp_debug_script.specs.declared.command.Command.{Command}
-use Rattle.kp_debug_script.specs.declared.command.Command.TheVariants as commands
+use Rattle.kp_debug_report.specs.declared.command.Command.{Command}
+use Rattle.kp_debug_report.specs.declared.command.Command.TheVariants as commands
 use Rattle.kp_tool_report.specs.States.{state_lines, no_counts}
 
 -- ---- the cycle that a command leads to

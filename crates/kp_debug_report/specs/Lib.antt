@@ -1,3 +1,4 @@
 pub mod Inspecting
 pub mod Sessions
 pub mod inner
+pub mod Scripts

@@ -17,7 +17,7 @@ use crate::values::register_shown;
 use itoa::Buffer;
 use kp_base::{Row, Sink, SinkFault, write_all, write_pieces};
 use kp_bits::Bits;
-use kp_debug_script::Command;
+use crate::Command;
 use kp_frontend::Accepted;
 use kp_net::Netlist;
 use kp_sched::row_line;

@@ -10,7 +10,7 @@ use crate::commands::run_commands;
 use crate::inputs::{all_cycles, rows_to, words_to};
 use crate::session::Session;
 use kp_base::{NoMemory, Sink, SinkFault};
-use kp_debug_script::Command;
+use crate::Command;
 use kp_frontend::Accepted;
 use kp_net::Netlist;
 use kp_run::laws::a_job_gives_its_own_inputs;

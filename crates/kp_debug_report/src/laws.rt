@@ -2,8 +2,8 @@
 
 ghost use Rattle.std.specs.Prelude.{◌≡◌, ◌+◌, ◌<◌, ◌≤◌, ℕ, Bool, true, false, List, Ok};
 ghost use Rattle.kp_ast.specs.declared.tree.Job.{Job};
-ghost use Rattle.kp_debug_script.specs.Scripts.{script_of};
-ghost use Rattle.kp_debug_script.specs.declared.command.Command.{Command};
+ghost use Rattle.kp_debug_report.specs.Scripts.{script_of};
+ghost use Rattle.kp_debug_report.specs.declared.command.Command.{Command};
 ghost use Rattle.kp_debug_report.specs.Inspecting.{first_from, AreOfJob};
 
 /// A search over at most n cycles passes no cycle in which its condition is true (`first`), and if there is none it ends at the last cycle (`last`).

@@ -1,4 +1,4 @@
-//! What the debugger prints about the pipelined machine of a job.
+//! The debugger: the script that follows a job, its commands and its rules (`read_script`), and what is printed about the pipelined machine of the job.
 //!
 //! `specs/Inspecting.antt` specifies the cycle that each command of a script leads to, and what it prints there. `Inspection` runs a netlist that
 //! implements the machine, forward and back, under the job's own stall words and samples, and writes that text. All memory is allocated when it is
@@ -7,16 +7,21 @@
 //! It is over a debugger of netlists: a `Session` that steps through the cycles of a run, forward and back (`specs/Sessions.antt`).
 #![tactic(auto)]
 
+mod command;
 mod commands;
 mod cycles;
 mod inputs;
 mod inspection;
 pub mod laws;
+mod line;
 mod numbers;
+mod script;
 mod session;
 mod states;
 pub mod stepping;
 mod values;
 
+pub use command::{Command, Register};
 pub use inspection::Inspection;
+pub use script::read_script;
 pub use session::Session;

@@ -36,7 +36,7 @@ use Rattle.kp_net.specs.Netlist.{Net, Input, State, start_of as begin_of, state_
 use Rattle.kp_vlog.specs.Splitting.{FirstEnds}
 use Rattle.kp_equiv.specs.{declared.verdict.Verdict.TheVariants.Same, declared.verdict.Verdict.TheVariants.Differs, Showing.renamed}
 use Rattle.kp_equiv.proofs.{Running.theorem, Shown.states_same, Shown.rows_same, Shown.first_shows, Shown.second_shows, Anew.first_begins, Anew.second_begins}
-use Rattle.kp_debug_script.specs.{declared.command.Command.Command, Scripts.script_of}
+use Rattle.kp_debug_report.specs.{declared.command.Command.Command, Scripts.script_of}
 use Rattle.kp_debug_report.specs.Inspecting.{all_cycles, whole_run}
 
 pub judged_unbroken : (input : List ℕ) (job : Job) → Judges input (Ok job) → broken_in job ≡ None

@@ -30,7 +30,7 @@ use Rattle.kp_tool.specs.Compared.{verdict_status, DueOfPair, ReadsModule, misre
 use Rattle.kp_tool.specs.Scripted.{DueOfScript, DueOfScriptHead}
 use Rattle.kp_tool.specs.Watched.{wrong_netlist, DueOfNetlist, of_other, of_job, DueOfText, DueOfHead}
 use Rattle.kp_tool.proofs.{Pairs.first_right, Pairs.second_right, Pairs.comparable_pair, Readings.some_reading, Differences.said_of_run, Differences.run_said}
-use Rattle.kp_debug_script.specs.{declared.command.Command.Command as Step, Scripts.script_of}
+use Rattle.kp_debug_report.specs.{declared.command.Command.Command as Step, Scripts.script_of}
 use Rattle.kp_debug_report.specs.Inspecting.{debug_text}
 
 -- the texts are equal, except for those that `pipe` may print for a job

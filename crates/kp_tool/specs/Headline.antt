@@ -18,7 +18,7 @@ use Rattle.kp_vlog.specs.Denote.{Denotes}
 use Rattle.kp_vlog.specs.Splitting.{FirstEnds}
 use Rattle.kp_equiv.specs.{declared.verdict.Verdict.TheVariants.Same, Runs.RunAlike, Showing.renamed, Showing.ShowsButName, Texts.verdict_line}
 use Rattle.kp_frontend.specs.Judging.{Judges, JudgesHead, broken_in}
-use Rattle.kp_debug_script.specs.{declared.command.Command.Command, Scripts.script_of}
+use Rattle.kp_debug_report.specs.{declared.command.Command.Command, Scripts.script_of}
 use Rattle.kp_debug_report.specs.Inspecting.{all_cycles, printed}
 use Rattle.kp_run.specs.Cycles.{own_trace}
 use Rattle.kp_tool_report.specs.Runs.{run_text}

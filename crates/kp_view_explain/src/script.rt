@@ -1,6 +1,6 @@
 // The explanation of a job with a script of the debugger after it.
 ghost use Rattle.std.specs.Prelude.{◌≡◌, ◌≢◌, ◌≤◌, length, Bool, IfOk};
-ghost use Rattle.kp_debug_script.specs.Scripts.{script_of};
+ghost use Rattle.kp_debug_report.specs.Scripts.{script_of};
 ghost use Rattle.kp_frontend.specs.Judging.{most_bytes};
 ghost use Rattle.kp_view_explain.specs.Explaining.{ExplainsText, Says, rule_of};
 ghost use Rattle.kp_view_explain.specs.Listing.{ListsNext};
@@ -9,7 +9,7 @@ ghost use Rattle.kp_view_explain.specs.declared.words.Subject.TheVariants as sub
 use crate::explanation::Explanation;
 use crate::of_job::facts;
 use kp_base::{NoMemory, Refused};
-use kp_debug_script::read_script;
+use kp_debug_report::read_script;
 use kp_frontend::{Head, judge_head};
 use kp_view_texts::write_script;
 use std::alloc::Global;

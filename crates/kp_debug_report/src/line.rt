@@ -4,7 +4,7 @@ ghost use Rattle.std.specs.Char.{is_digit};
 ghost use Rattle.std.specs.List.{list_all};
 ghost use Rattle.kp_bits.specs.Literals.{is_number};
 ghost use Rattle.kp_base.specs.Lines.{piece_of, IsWithin};
-ghost use Rattle.kp_debug_script.specs.Scripts.{verb_of, register_in, targets_in, register_from, count_of, value_of, is_literal, one_count, alone, until_by, until_at, command_by, command_in};
+ghost use Rattle.kp_debug_report.specs.Scripts.{verb_of, register_in, targets_in, register_from, count_of, value_of, is_literal, one_count, alone, until_by, until_at, command_by, command_in};
 
 use crate::command::{Command, Fault, Register, Verb};
 use kp_ast::Decl;

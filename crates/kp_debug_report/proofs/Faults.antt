@@ -5,11 +5,11 @@ use Rattle.kp_bits.specs.{Word.Word, Literals.is_number, Literals.number_of, Lit
 use Rattle.kp_bits.specs.declared.literal.LiteralFault.{LiteralFault}
 use Rattle.kp_ast.specs.declared.tree.Decl.{Decl}
 use Rattle.kp_base.specs.{Lines.Piece, Lines.piece_of, Lines.IsWithin, declared.run.Run.Run}
-use Rattle.kp_debug_script.specs.Scripts.{verb_of, count_within, count_of, value_fitting, value_within, value_of, one_count, with_count, alone, with_value, with_register, register_from, until_at, until_by, is_literal, command_by, command_in}
-use Rattle.kp_debug_script.specs.{inner.Reading.IsFaultIn, declared.command.Command.Command, declared.command.Verb.Verb, declared.command.Register.Register}
-use Rattle.kp_debug_script.specs.declared.command.Fault.{Fault}
-use Rattle.kp_debug_script.specs.declared.command.Command.TheVariants as commands
-use Rattle.kp_debug_script.specs.declared.command.Verb.TheVariants as verbs
+use Rattle.kp_debug_report.specs.Scripts.{verb_of, count_within, count_of, value_fitting, value_within, value_of, one_count, with_count, alone, with_value, with_register, register_from, until_at, until_by, is_literal, command_by, command_in}
+use Rattle.kp_debug_report.specs.{inner.Reading.IsFaultIn, declared.command.Command.Command, declared.command.Verb.Verb, declared.command.Register.Register}
+use Rattle.kp_debug_report.specs.declared.command.Fault.{Fault}
+use Rattle.kp_debug_report.specs.declared.command.Command.TheVariants as commands
+use Rattle.kp_debug_report.specs.declared.command.Verb.TheVariants as verbs
 
 abbrev IsIn : {X : Type 0} → ℕ → Result X Fault → Type 0
 IsIn end result = IfErr result (λ f. f.at ≤ end)

@@ -1,7 +1,7 @@
 use Rattle.std.proofs.Common.{◌≡◌, ◌≤◌, ◌<◌, ℕ, [], drop, false, get_or}
 use Rattle.kp_base.specs.Lines.{is_break, lines_of}
-use Rattle.kp_debug_script.{specs.Scripts.commands_of, specs.inner.Reading.behind, proofs.Turns.left_from}
-use Rattle.kp_debug_script.proofs.script.read_lines.Given as goal
+use Rattle.kp_debug_report.{specs.Scripts.commands_of, specs.inner.Reading.behind, proofs.Turns.left_from}
+use Rattle.kp_debug_report.proofs.script.read_lines.Given as goal
 
 abbrev pub invariant-loop-i : goal.invariant-loop-i
 invariant-loop-i l = record {

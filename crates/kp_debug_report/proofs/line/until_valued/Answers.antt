@@ -1,7 +1,7 @@
 use Rattle.std.proofs.Common.{sym}
 use Rattle.kp_base.specs.Lines.{piece_of}
-use Rattle.kp_debug_script.proofs.Words.{too_many}
-use Rattle.kp_debug_script.proofs.line.until_valued.Goals as goal
+use Rattle.kp_debug_report.proofs.Words.{too_many}
+use Rattle.kp_debug_report.proofs.line.until_valued.Goals as goal
 
 pub returns-else-is_empty : goal.returns-else-is_empty
 returns-else-is_empty c =

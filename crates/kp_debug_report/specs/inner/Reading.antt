@@ -1,7 +1,7 @@
 -- A script that is read line by line.
 use Rattle.std.specs.Prelude.{◌≡◌, ◌≤◌, ℕ, List, ◌++◌, length, Option, Result, Ok, Err, IfErr, ⊤}
 use Rattle.kp_base.specs.declared.refusal.Refused.{Refused, TheVariants.Rule, TheVariants.NoMemory}
-use Rattle.kp_debug_script.specs.{Scripts.with_line, Scripts.placed, declared.command.Command.Command, declared.command.Fault.Fault}
+use Rattle.kp_debug_report.specs.{Scripts.with_line, Scripts.placed, declared.command.Command.Command, declared.command.Fault.Fault}
 
 -- commands that were read already, before those of a script
 abbrev pub behind : List Command → Result (List Command) Fault → Result (List Command) Fault

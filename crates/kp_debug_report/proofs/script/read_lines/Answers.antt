@@ -1,10 +1,10 @@
 use Rattle.std.proofs.Common.{◌≡◌, ◌+◌, ◌<◌, ◌≤◌, ℕ, Bool, true, false, List, length, get_or, [], refl, sym, ap, ◌∙◌, arith, ⊎_elim}
 use Rattle.std.proofs.lemmas.{Bool.cases_lt, Result.err_from_is_err_and}
 use Rattle.kp_ast.specs.declared.tree.Decl.{Decl}
-use Rattle.kp_debug_script.specs.{declared.command.Command.Command, inner.Reading.behind}
-use Rattle.kp_debug_script.proofs.Turns.{left_from, all_left, line_more, line_last, this_line, breaks, last_line}
+use Rattle.kp_debug_report.specs.{declared.command.Command.Command, inner.Reading.behind}
+use Rattle.kp_debug_report.proofs.Turns.{left_from, all_left, line_more, line_last, this_line, breaks, last_line}
 use Rattle.kp_base.specs.Lines.{is_break}
-use Rattle.kp_debug_script.proofs.script.read_lines.Goals as goal
+use Rattle.kp_debug_report.proofs.script.read_lines.Goals as goal
 
 either : {A : Type 0} (b : Bool) → (b ≡ true → A) → (b ≡ false → A) → A
 either true f g = f refl

@@ -10,9 +10,9 @@ use Rattle.kp_bits.specs.{Word.Word, Literals.is_number, Literals.number_of, Lit
 use Rattle.kp_bits.specs.declared.literal.LiteralFault.{LiteralFault, TheVariants.BadDigit}
 use Rattle.kp_ast.specs.declared.tree.Decl.{Decl}
 use Rattle.kp_ast.specs.declared.tree.Decl.TheVariants as decls
-use Rattle.kp_debug_script.specs.declared.command.{Command.Command, Verb.Verb, Register.Register, Fault.Fault}
-use Rattle.kp_debug_script.specs.declared.command.Command.TheVariants as commands
-use Rattle.kp_debug_script.specs.declared.command.Verb.TheVariants as verbs
+use Rattle.kp_debug_report.specs.declared.command.{Command.Command, Verb.Verb, Register.Register, Fault.Fault}
+use Rattle.kp_debug_report.specs.declared.command.Command.TheVariants as commands
+use Rattle.kp_debug_report.specs.declared.command.Verb.TheVariants as verbs
 
 abbrev pub broken : {X : Type 0} → ℕ → ℕ → Result X Fault
 broken rule at = Err (record { rule = rule; at = at })

@@ -3,8 +3,8 @@ ghost use Rattle.std.specs.Prelude.{◌≡◌, ◌≤◌, ◌+◌, ◌-◌, ◌^
 ghost use Rattle.kp_base.specs.{Check.Gives, Lines.is_break, Lines.piece_of, Lines.words_of, Lines.IsWithin};
 ghost use Rattle.kp_base.specs.Place.{place_after};
 ghost use Rattle.kp_base.specs.Refusal.{e_rule};
-ghost use Rattle.kp_debug_script.specs.Scripts.{script_of, command_in};
-ghost use Rattle.kp_debug_script.specs.inner.Reading.{IsAdded, IsBroken, IsFaultIn};
+ghost use Rattle.kp_debug_report.specs.Scripts.{script_of, command_in};
+ghost use Rattle.kp_debug_report.specs.inner.Reading.{IsAdded, IsBroken, IsFaultIn};
 
 use crate::command::{Command, Fault};
 use crate::line::command_in;
