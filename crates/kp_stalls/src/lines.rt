@@ -9,7 +9,7 @@ use crate::squashing::wrong_of;
 use crate::waiting::value_cause;
 use crate::window::Window;
 use kp_base::NoMemory;
-use kp_sites::Sites;
+use kp_timing::Sites;
 
 /// Adds the lines of a cycle in which the stages show this. The only error is out of memory.
 pub fn add_lines(

@@ -6,7 +6,7 @@ ghost use Rattle.kp_stalls.specs.Occupants.{at};
 use crate::cause::{Guess, Producer, Wrong};
 use crate::occupants::Occupants;
 use crate::waiting::{is_ready, nearest_above};
-use kp_sites::{Site, Sites, Writer};
+use kp_timing::{Site, Sites, Writer};
 
 fn is_met(occupants: &Occupants<'_>, writer: Writer, source: Option<usize>) -> bool
     requires { IfSome source (λ j. j < length occupants.now) }

@@ -5,7 +5,7 @@ ghost use Rattle.kp_stalls.specs.Occupants.{at};
 
 use crate::cause::{Cause, Had, Wait};
 use crate::occupants::{Occupants, Stage};
-use kp_sites::{Site, Sites, Writer};
+use kp_timing::{Site, Sites, Writer};
 
 fn is_source(writer: Writer, occupants: &Occupants<'_>, j: usize, address: u32) -> bool
     requires { j < length occupants.now }

@@ -3,3 +3,5 @@ pub mod Cycles
 pub mod Lines
 pub mod Unfit
 pub mod inner
+pub mod Sites
+pub mod Reports

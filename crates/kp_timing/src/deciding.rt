@@ -1,10 +1,10 @@
 //! Which stages wait for data, which are blocked, and how the instructions move on.
 ghost use Rattle.std.specs.Prelude.{◌≡◌, ◌-◌, ◌≤◌, ◌<◌, ◌&&◌, None, nat_le, length, get_or};
-ghost use Rattle.kp_sites.specs.Reports.{may_write};
+ghost use Rattle.kp_timing.specs.Reports.{may_write};
 ghost use Rattle.kp_timing.specs.inner.Deciding.{met_from, is_met, is_unmet, some_unmet_from, waits_by, is_blocked_by, found_down, no_stage_found, moves_by, taken_down, taken_by, record_in, is_full};
 
 use crate::masks::is_set;
-use kp_sites::{Reported, Site, Sites, Writer};
+use crate::{Reported, Site, Sites, Writer};
 use std::marker::Model;
 
 /// The instructions in the stages: their numbers, and what the sequential machine reported about each.

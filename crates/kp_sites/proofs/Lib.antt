@@ -1,4 +1,0 @@
-pub mod Writers
-pub mod Results
-pub mod Asking
-pub mod Sizes
