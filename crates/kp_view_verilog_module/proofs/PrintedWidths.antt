@@ -2,7 +2,7 @@
 use Rattle.std.{specs.Prelude.ℕ, specs.Prelude.◌^◌, specs.Prelude.IfSome, specs.Prelude.Option, proofs.Common.◌∙◌, proofs.Common.ap}
 use Rattle.std.proofs.lemmas.Option.{IfSome_then}
 use Rattle.kp_vlog.specs.Scope.{Sizes}
-use Rattle.kp_vread_widths.specs.Tables.{AlikeSizes}
+use Rattle.kp_vread_rules.specs.Tables.{AlikeSizes}
 use Rattle.kp_view_verilog_faults.specs.declared.width_fault.{Side.Side, WidthFault.WidthFault}
 use Rattle.kp_view_verilog_faults.specs.declared.width_fault.WidthFault.TheVariants as faults
 use Rattle.kp_view_verilog_module.specs.PrintedWidths.{HasWidth, HasWidths, limited}

@@ -11,7 +11,7 @@ use kp_bits::{BinOp, Literal};
 use kp_view_help::Word;
 use kp_view_verilog_faults::{Side, WidthFault};
 use kp_vlog::{Fill, Init, Item, Lit, Named, Num, Range, ResetList, Right, Update, VModule, VPort};
-use kp_vread_widths::Sizes;
+use kp_vread_rules::Sizes;
 use std::alloc::Global;
 
 /// How a module violates the rule at an offset. The widths in what is returned are those of the module. The only error is out of memory.

@@ -10,7 +10,7 @@ use Rattle.kp_vlog.specs.Denote.{start_of, output_of, port_of, regs_of, files_of
 use Rattle.kp_vlog.specs.declared.tree.Item.TheVariants as lines
 use Rattle.kp_vlog.specs.declared.tree.Init.TheVariants as starts
 use Rattle.kp_vlog.specs.declared.tree.Update.TheVariants as edges
-use Rattle.kp_vread_widths.specs.Tables.{found, AlikeSizes}
+use Rattle.kp_vread_rules.specs.Tables.{found, AlikeSizes}
 use Rattle.kp_vread.specs.inner.{Numbering.Numbered, Numbering.AreNumbered, Building.start_from, Nexts.AreNexts}
 use Rattle.kp_vread.{specs.inner.Parts.regs_by, specs.inner.Parts.output_by, specs.inner.Parts.port_by, specs.inner.Parts.files_by, proofs.Making.node_same}
 

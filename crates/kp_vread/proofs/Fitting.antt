@@ -12,7 +12,7 @@ use Rattle.kp_vlog.proofs.{Tests.first_true, Tests.second_true, Tests.le_of, Tes
 use Rattle.kp_vlog.proofs.{Declared.want_none, Declared.range_width, Sound.Holds}
 use Rattle.kp_vlog.specs.declared.tree.Right.TheVariants as sides
 use Rattle.kp_vlog.specs.declared.tree.Item.TheVariants as lines
-use Rattle.kp_vread_widths.specs.Tables.{AlikeSizes, found}
+use Rattle.kp_vread_rules.specs.Tables.{AlikeSizes, found}
 use Rattle.kp_vread.specs.inner.Building.{RightFits, ItemFits, AreNarrow, start_from}
 use Rattle.kp_vread.{specs.inner.Parts.PortFits, specs.inner.Parts.RegFits, specs.inner.Parts.AreStarted, proofs.Beside.start_same}
 

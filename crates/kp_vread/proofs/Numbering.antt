@@ -6,7 +6,7 @@ use Rattle.kp_vlog.specs.{declared.tree.VPort.VPort, declared.tree.Item.Item, Sc
 use Rattle.kp_vlog.proofs.Tests.{apart, same_eq}
 use Rattle.kp_vlog.specs.declared.tree.Item.TheVariants as lines
 use Rattle.kp_vread.specs.inner.Numbering.{Numbered, number_or, AreNumbered}
-use Rattle.kp_vread_widths.proofs.Starting.{turned}
+use Rattle.kp_vread_rules.proofs.StartValues.{turned}
 
 pub none_numbered : AreNumbered (record { entries = []; count = 0 }) []
 none_numbered = record { count = refl; known = λ n. refl; places = λ n. refl }

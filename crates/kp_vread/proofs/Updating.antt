@@ -6,7 +6,7 @@ use Rattle.kp_vlog.specs.{declared.tree.Named.Named, declared.tree.Update.Update
 use Rattle.kp_vlog.specs.declared.tree.Update.TheVariants as edges
 use Rattle.kp_vread.specs.inner.{Numbering.Numbered, Numbering.AreNumbered, Building.node_by, Nexts.node_or_first, Nexts.AreNexts}
 use Rattle.kp_vread.proofs.Making.{node_same}
-use Rattle.kp_vread_widths.proofs.Starting.{turned}
+use Rattle.kp_vread_rules.proofs.StartValues.{turned}
 
 pub no_nexts : (wires : Numbered) → AreNexts wires [] []
 no_nexts wires = record { nexts = λ ks a n. refl }

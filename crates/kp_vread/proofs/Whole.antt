@@ -3,7 +3,7 @@ use Rattle.std.proofs.Common.{◌≡◌, ◌∙◌, ℕ, ◌≤◌, List, length
 use Rattle.kp_net.specs.{declared.node.Node.Node, declared.netlist.Parts.Parts, Netlist.Net, Parts.NetOk}
 use Rattle.kp_vlog.specs.{declared.tree.VModule.VModule, Scope.scope_of, Scope.sizes_of, Rules.broken, Denote.made_by, Denote.parts_of, Denote.net_of}
 use Rattle.kp_vlog.proofs.Sound.{sound}
-use Rattle.kp_vread_widths.specs.Tables.{AlikeSizes}
+use Rattle.kp_vread_rules.specs.Tables.{AlikeSizes}
 use Rattle.kp_vread.specs.inner.{Numbering.Numbered, Numbering.AreNumbered, Building.Numbers, Building.IsScope, Building.IsMade}
 
 net : List Node → Parts → Net

@@ -3,7 +3,7 @@ ghost use Rattle.std.specs.Prelude.{◌≡◌, ◌≤◌, ℕ, List, None, All, 
 ghost use Rattle.kp_vlog.specs.Scope.{scope_of, sizes_of};
 ghost use Rattle.kp_vlog.specs.Rules.{broken};
 ghost use Rattle.kp_vlog.specs.Denote.{net_of, parts_of, regs_of};
-ghost use Rattle.kp_vread_widths.specs.Tables.{AlikeSizes};
+ghost use Rattle.kp_vread_rules.specs.Tables.{AlikeSizes};
 ghost use Rattle.kp_vread.specs.inner.Numbering.{AreNumbered};
 ghost use Rattle.kp_vread.specs.inner.Building.{AreNarrow, IsScope};
 ghost use Rattle.kp_vread.specs.inner.Parts.{PortFits, AreStarted, files_by};
@@ -16,7 +16,7 @@ use crate::places::Places;
 use kp_base::{List, NoMemory};
 use kp_net::{Label, NetFile, NetReg, Netlist, Parts};
 use kp_vlog::VModule;
-use kp_vread_widths::Starts;
+use kp_vread_rules::Starts;
 use std::alloc::Global;
 
 /// The netlist of a module that violates no rule. The only error is out of memory.

@@ -1,14 +1,14 @@
 // The objects that the names of a module denote, by tables.
 ghost use Rattle.std.specs.Prelude.{◌+◌, ◌-◌, ◌^◌, ◌<◌, ◌≤◌, ◌++◌, ◌∷◌, [], ℕ, List, length, map, IfOk, OnOk};
 ghost use Rattle.kp_vlog.specs.Scope.{scope_of, sizes_of, reg_names, file_names};
-ghost use Rattle.kp_vread_widths.specs.Tables.{AlikeSizes};
+ghost use Rattle.kp_vread_rules.specs.Tables.{AlikeSizes};
 ghost use Rattle.kp_vread.specs.inner.Numbering.{AreNumbered};
 ghost use Rattle.kp_vread.specs.inner.Building.{IsScope};
 
 use crate::places::Places;
 use kp_base::NoMemory;
 use kp_vlog::{Item, VModule, VPort};
-use kp_vread_widths::Sizes;
+use kp_vread_rules::Sizes;
 use std::alloc::Global;
 use std::marker::Model;
 

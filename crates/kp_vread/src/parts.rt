@@ -2,7 +2,7 @@
 ghost use Rattle.std.specs.Prelude.{◌≡◌, All, map, IfOk};
 ghost use Rattle.kp_bits.specs.Word.{IsWord};
 ghost use Rattle.kp_vlog.specs.Denote.{sample_of};
-ghost use Rattle.kp_vread_widths.specs.Tables.{found};
+ghost use Rattle.kp_vread_rules.specs.Tables.{found};
 ghost use Rattle.kp_vread.specs.inner.Building.{AreNarrow, start_from};
 ghost use Rattle.kp_vread.specs.inner.Parts.{RegFits, PortFits, reg_by, regs_by, file_by, files_by, output_by, port_by};
 
@@ -14,7 +14,7 @@ use kp_base::NoMemory;
 use kp_bits::Bits;
 use kp_net::{Label, NetFile, NetReg, NodeId, Port, WritePort};
 use kp_vlog::{Init, Item, Right, Update, VPort};
-use kp_vread_widths::{Sizes, Starts};
+use kp_vread_rules::{Sizes, Starts};
 use std::alloc::Global;
 
 /// The sample ports, in the order of declaration. The only error is out of memory.

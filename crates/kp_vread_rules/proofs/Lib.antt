@@ -4,3 +4,6 @@ pub mod Drives
 pub mod AllDriven
 pub mod Starting
 pub mod Breaking
+pub mod StartValues
+pub mod Firsts
+pub mod Sizing

@@ -5,3 +5,5 @@ pub mod Listed
 pub mod Says
 pub mod Starting
 pub mod Refusing
+pub mod StartValues
+pub mod Sizing

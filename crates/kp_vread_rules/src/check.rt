@@ -13,7 +13,7 @@ use crate::name_rule::check_names;
 use crate::names::Names;
 use kp_base::{Refusal, Refused, place_of};
 use kp_vlog::VModule;
-use kp_vread_widths::bad_width;
+use crate::bad_width;
 use std::alloc::Global;
 
 /// Checks that a module of the text violates none of the rules V3 to V5.

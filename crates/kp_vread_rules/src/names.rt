@@ -3,7 +3,7 @@ ghost use Rattle.std.specs.Prelude.{◌≡◌, ◌++◌, ◌∷◌, [], codes, m
 ghost use Rattle.kp_vlog.specs.Occurrences.{names_module, uses_wire, uses_source, uses_integer, occurs, wires_used, operands, right_names, item_names, items_names, init_names, inits_names, update_names, updates_names, declares_port, samples_names, reset_port_names, wide_port_names, header_names, body_names, names, is_literal, reset_names};
 ghost use Rattle.std.specs.Option.{is_some};
 ghost use Rattle.kp_vread_rules.specs.inner.Roles.{port_name, role_of};
-ghost use Rattle.kp_vread_widths.specs.Tables.{found};
+ghost use Rattle.kp_vread_rules.specs.Tables.{found};
 ghost use Rattle.kp_vread_rules.specs.inner.Listed.{occurrence_of};
 ghost use Rattle.kp_vread_rules.specs.inner.Starting.{values_by};
 
@@ -13,7 +13,7 @@ use kp_base::NoMemory;
 use kp_bits::Literal;
 use kp_net::Label;
 use kp_vlog::{Fill, Init, Item, Named, ResetList, ResetValue, Right, Update, VModule, VPort};
-use kp_vread_widths::Starts;
+use crate::Starts;
 use std::alloc::Global;
 use std::marker::Model;
 

@@ -6,7 +6,7 @@ use Rattle.kp_net.specs.declared.node.Kind.TheVariants as kinds
 use Rattle.kp_vlog.specs.{declared.tree.Named.Named, declared.tree.Right.Right, declared.tree.Item.Item, Scope.Scope, Scope.Sizes, Scope.width_in, Denote.Made}
 use Rattle.kp_vlog.specs.declared.tree.Right.TheVariants as sides
 use Rattle.kp_vlog.specs.declared.tree.Item.TheVariants as lines
-use Rattle.kp_vread_widths.specs.Tables.{AlikeSizes}
+use Rattle.kp_vread_rules.specs.Tables.{AlikeSizes}
 use Rattle.kp_vread.specs.inner.Numbering.{Numbered, place_by, AreNumbered}
 
 pub record Numbers : Type 0 where

@@ -8,7 +8,7 @@ use Rattle.kp_vlog.specs.{Occurrences.start_in, Scope.Sizes, Scope.width_in, Sco
 use Rattle.kp_vlog.specs.declared.tree.Right.TheVariants as sides
 use Rattle.kp_vlog.specs.declared.tree.Item.TheVariants as lines
 use Rattle.kp_vlog.specs.declared.tree.Update.TheVariants as edges
-use Rattle.kp_vread_widths.specs.Tables.{found}
+use Rattle.kp_vread_rules.specs.Tables.{found}
 use Rattle.kp_vread.specs.inner.{Numbering.Numbered, Building.node_by, Building.start_from, Nexts.next_by}
 
 -- the port is no wider than a node
