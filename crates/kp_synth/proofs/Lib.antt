@@ -8,3 +8,13 @@ pub mod Begins
 pub mod Visible
 pub mod Assembled
 pub mod Named
+pub mod Stalling
+pub mod Downward
+pub mod Ports
+pub mod Rising
+pub mod Wrong
+pub mod Entered
+pub mod Spoken
+pub mod Following
+pub mod Rules
+pub mod Rooms

@@ -8,7 +8,7 @@ use Rattle.kp_net.specs.Growth.{Held}
 use Rattle.kp_synth_tables.proofs.{Fitting.fits, Limits.limits, Limits.samples_counted}
 use Rattle.kp_synth_registers.specs.Meaning.{CellsFit}
 use Rattle.kp_synth_close.{specs.Bound.node_bound, proofs.Bounding.closing_few}
-use Rattle.kp_synth_pipeline.proofs.Rooms.{stages_few}
+use Rattle.kp_synth.proofs.Rooms.{stages_few}
 use Rattle.kp_synth.specs.inner.Rooms.{reading_room, inside_room, closing_room}
 
 -- a product of small numbers is small

@@ -1,18 +1,29 @@
 //! The netlist of the pipelined machine of a design.
 //!
 //! `synth` combines the results of the lower crates: the tables of the design (kp_synth_tables), the nodes that read
-//! the registers (kp_synth_registers), the nodes of the stages (kp_synth_pipeline, kp_synth_stage), and the next
+//! the registers (kp_synth_registers), the nodes of a stage (kp_synth_stage), and the next
 //! values of registers and files (kp_synth_close). The other parts of the netlist, its registers, files and ports with
 //! their names and start values, are built here (`netlist`). What it means that a netlist shows (implements) the
 //! pipelined machine is defined in kp_sched.
+//!
+//! `run_stages` makes the nodes of all stages, from the last to the first. The nodes of a stage mean what the pipelined machine does in it (`Says` of
+//! kp_synth_registers). A read in a stage sees the stages above it by rows (bypass entries), one for each of them that may write its target: so the
+//! stages are built from the last one down, and each of them adds its rows for those below. `specs/Stages` bounds the number of nodes.
 #![tactic(auto)]
 
+mod adding;
+mod all;
 mod bound;
+mod entering;
 mod files;
 mod labels;
 mod making;
+mod missing;
 mod netlist;
 mod registers;
+mod rows;
+mod stage;
+mod staging;
 
 ghost use Rattle.std.specs.Prelude.{◌≡◌, ◌≤◌, length, IfOk};
 ghost use Rattle.kp_stage.specs.Counts.{summary_of};

@@ -17,7 +17,7 @@ use kp_base::NoMemory;
 use kp_net::Netlist;
 use kp_pool::Pool;
 use kp_stage::{Design, Start};
-use kp_synth_pipeline::run_stages;
+use crate::run_stages;
 use kp_synth_registers::{Outcome, Reads, read_cells};
 use kp_synth_stage::Slots;
 use kp_synth_tables::Layout;

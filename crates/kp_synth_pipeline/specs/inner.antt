@@ -1,4 +1,0 @@
--- These definitions are only for private contracts and proofs: no public clause of the crate cites them.
-pub mod Seeing
-pub mod Whole
-pub mod Descending
