@@ -8,8 +8,7 @@ use Rattle.kp_net.specs.{Netlist.Net, Netlist.Input, Netlist.State, Netlist.cell
 use Rattle.kp_net.proofs.{Exact.node_exact, Exact.word_has, Values.word_there}
 use Rattle.kp_cycle_plan.specs.declared.latches.{Latch.TheVariants.Always, Latch.TheVariants.If, Held.Held, Moved.Moved}
 use Rattle.kp_cycle_plan.specs.Latches.{is_reg, latch_in, latch_for, OfLatch, latched, no_moved, no_held, IsMoved, IsHeld, IsLatched}
-use Rattle.kp_cycle_plan.specs.Storage.{StateFits}
-use Rattle.kp_cycle_plan.proofs.Lists.{set_has}
+use Rattle.kp_cycle_plan.{specs.Storage.StateFits, proofs.Lists.set_has}
 use Rattle.kp_cycle.proofs.{Coding.cond_value, Stepping.reg_held}
 
 -- a node of this kind is this register

@@ -8,8 +8,7 @@ use Rattle.kp_net.specs.{Nodes.Cells, Nodes.at, Nodes.on, Widths.wide}
 use Rattle.kp_net.specs.Netlist.{Net, Input, State, start_of, start_regs, regs_after, files_after, port_after, state_after, resets, cells_of}
 use Rattle.kp_net.specs.Parts.{NetOk, RegOk, FileOk, WriteOk, no_reg, no_file}
 use Rattle.kp_net.proofs.Values.{at_fits}
-use Rattle.kp_cycle_plan.specs.Storage.{Stored, Fits, StateFits, state_of}
-use Rattle.kp_cycle_plan.proofs.Lists.{set_has}
+use Rattle.kp_cycle_plan.{specs.Storage.Stored, specs.Storage.Fits, specs.Storage.StateFits, specs.Storage.state_of, proofs.Lists.set_has}
 
 -- each number of a list is below n, and so is the default past its end
 all_below : (xs : List ℕ) (n a : ℕ) → zero < n → All (λ v. v < n) xs → get_or xs a 0 < n

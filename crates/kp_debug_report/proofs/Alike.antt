@@ -6,15 +6,13 @@ use Rattle.kp_ast.specs.declared.tree.Job.{Job}
 use Rattle.kp_pipeline.specs.{Pipeline.Inputs, Rows.Row, Rows.Trace}
 use Rattle.kp_machine.specs.{Machine.pipe_of, Machine.inputs_from, Slots.targets_of, Words.target}
 use Rattle.kp_net.specs.Netlist.{Net}
-use Rattle.kp_debug_report.specs.Sessions.{Debugged}
+use Rattle.kp_debug_report.specs.Inspecting.{all_cycles, whole_run, has_value, first_from, ahead, reached, hit_line, at_line, row_or_end, printed_by, printed, ends_in, IsOfTargets, AreOfJob}
+use Rattle.kp_debug_report.specs.{Sessions.Debugged, declared.command.Command.Command, inner.Standing.IsInspection, inner.Standing.run_of}
+use Rattle.kp_debug_report.proofs.{Searching.alike, Standing.reached_within, Standing.many}
 use Rattle.kp_run.specs.Cycles.{inputs_to, own_trace}
 use Rattle.kp_sched.specs.{Runs.ShowsAlike, Shows.Shows, Traces.inputs_seen, Traces.AreQuiet}
-use Rattle.kp_debug_report.specs.declared.command.Command.{Command}
 use Rattle.kp_debug_report.specs.declared.command.Command.TheVariants as commands
 use Rattle.kp_tool_report.{specs.States.no_counts, proofs.Alike.lines_alike}
-use Rattle.kp_debug_report.specs.Inspecting.{all_cycles, whole_run, has_value, first_from, ahead, reached, hit_line, at_line, row_or_end, printed_by, printed, ends_in, IsOfTargets, AreOfJob}
-use Rattle.kp_debug_report.{specs.inner.Standing.IsInspection, specs.inner.Standing.run_of, proofs.Searching.alike}
-use Rattle.kp_debug_report.proofs.Standing.{reached_within, many}
 
 module _ (job : Job) (a b : Trace) (same : ShowsAlike job a b) where
   value_is : (t : ℕ) (v : Word) (k : ℕ) → t < length (targets_of job.decls) → k ≤ length a.rows → has_value a t v k ≡ has_value b t v k

@@ -5,8 +5,8 @@ use Rattle.kp_bits.specs.Word.{Word}
 use Rattle.kp_net.specs.Netlist.{Net, Input, State, state_after, last_of, run}
 use Rattle.kp_cycle.specs.Steps.{Running, saved_in}
 use Rattle.kp_debug_report.specs.Sessions.{inputs_of, SamplesFitCycles, no_state}
-use Rattle.kp_debug_report.{specs.inner.Kept.no_input, specs.inner.Kept.HasRun, specs.inner.Kept.HasKept, specs.inner.Kept.IsSession, proofs.Feeding.inputs_many}
-use Rattle.kp_debug_report.proofs.Passing.{state_at_cycle, run_more}
+use Rattle.kp_debug_report.specs.inner.Kept.{no_input, HasRun, HasKept, IsSession}
+use Rattle.kp_debug_report.proofs.{Feeding.inputs_many, Passing.state_at_cycle, Passing.run_more}
 
 -- the inputs of all cycles
 abbrev pub ins : Net → List ℕ → List Word → List Input

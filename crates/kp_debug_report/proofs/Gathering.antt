@@ -10,10 +10,9 @@ use Rattle.kp_width.specs.Widths.{widths_of}
 use Rattle.kp_frontend.specs.{Feeds.Fed, Feeds.row_in, Sections.sections_of, Spans.Pattern, Spans.word_in}
 use Rattle.kp_net.specs.Netlist.{Net, Input}
 use Rattle.kp_cycle.specs.Steps.{SamplesFit, given}
-use Rattle.kp_debug_report.specs.Sessions.{inputs_of, SamplesFitCycles}
+use Rattle.kp_debug_report.specs.{Sessions.inputs_of, Sessions.SamplesFitCycles, Inspecting.all_cycles, inner.Lists.words_to, inner.Lists.rows_to}
 use Rattle.kp_run.{proofs.Given.rows_fed, proofs.Samples.fits_ports, specs.Cycles.inputs_to}
 use Rattle.kp_sched.specs.Naming.{sample_ports}
-use Rattle.kp_debug_report.specs.{Inspecting.all_cycles, inner.Lists.words_to, inner.Lists.rows_to}
 
 pub inputs_many : (job : Job) (n : ℕ) → length (inputs_to job n) ≡ n
 inputs_many job zero = refl

@@ -8,9 +8,9 @@ use Rattle.kp_machine.specs.{Slots.targets_of, Slots.is_register, Words.no_slot}
 use Rattle.kp_base.specs.Lines.{Piece, lines_of, words_of}
 use Rattle.kp_debug_report.specs.Scripts.{verb_of, is_literal, or_else, register_from, count_of, value_of, one_count, with_count, alone, with_value, with_register, until_at, until_by, command_by, command_in, with_line, commands_of, placed, script_of, broken}
 use Rattle.kp_debug_report.specs.declared.command.{Command.Command, Fault.Fault, Register.Register, Verb.Verb}
+use Rattle.kp_debug_report.specs.Inspecting.{IsOfTargets, AreOfJob}
 use Rattle.kp_debug_report.specs.declared.command.Command.TheVariants as commands
 use Rattle.kp_debug_report.specs.declared.command.Verb.TheVariants as verbs
-use Rattle.kp_debug_report.specs.Inspecting.{IsOfTargets, AreOfJob}
 
 -- ---- a register that was found among declarations
 

@@ -7,16 +7,14 @@ use Rattle.kp_bits.specs.Word.{Word}
 use Rattle.kp_ast.specs.declared.tree.Job.{Job}
 use Rattle.kp_pipeline.specs.Rows.{Trace}
 use Rattle.kp_net.specs.Netlist.{Net, Input, run}
-use Rattle.kp_debug_report.specs.Sessions.{Debugged, no_state, row_there, forward}
-use Rattle.kp_run.{specs.Cycles.inputs_to, proofs.Prefixes.rows_many}
-use Rattle.kp_sched.specs.{Rows.row_seen, Naming.value_shown, Shows.Shows, Traces.trace_of}
-use Rattle.kp_sched.proofs.Counting.{seen_length}
-use Rattle.kp_debug_report.specs.declared.command.Command.{Command}
-use Rattle.kp_debug_report.specs.declared.command.Command.TheVariants as commands
-use Rattle.kp_tool_report.proofs.Lines.{left_is}
+use Rattle.kp_debug_report.specs.{Sessions.Debugged, Sessions.no_state, Sessions.row_there, Sessions.forward, declared.command.Command.Command}
 use Rattle.kp_debug_report.specs.Inspecting.{all_cycles, has_value, first_from, ahead, reached, printed_by, printed, ends_in}
 use Rattle.kp_debug_report.specs.inner.Standing.{IsUnderWay, IsSearched, IsInspection, run_of, state_seen}
 use Rattle.kp_debug_report.proofs.{Gathering.inputs_many, Searching.within, Searching.found, Searching.goes_on}
+use Rattle.kp_run.{specs.Cycles.inputs_to, proofs.Prefixes.rows_many}
+use Rattle.kp_sched.{specs.Rows.row_seen, specs.Naming.value_shown, specs.Shows.Shows, specs.Traces.trace_of, proofs.Counting.seen_length}
+use Rattle.kp_debug_report.specs.declared.command.Command.TheVariants as commands
+use Rattle.kp_tool_report.proofs.Lines.{left_is}
 
 -- one command more
 pub printed_next : (job : Job) (trace : Trace) (cycle : ℕ) (cs : List Command) (i : ℕ) (c : Command) → i < length cs → c ≡ get_or cs i c

@@ -4,8 +4,8 @@ use Rattle.std.{proofs.lemmas.List.take_all, proofs.lemmas.List.length-drop, spe
 use Rattle.kp_base.specs.{Place.place_after, Refusal.e_rule, declared.refusal.Refusal.Refusal, declared.refusal.Refused.Refused}
 use Rattle.kp_base.specs.{declared.refusal.Refused.TheVariants.Rule, declared.refusal.Refused.TheVariants.NoMemory, Check.Gives}
 use Rattle.kp_base.specs.Lines.{is_break, pieces, lines_of, words_of, piece_of}
-use Rattle.kp_ast.specs.declared.tree.Decl.{Decl}
 use Rattle.kp_base.proofs.Splitting.{Clean, between, first_piece, last_piece, lines_left}
+use Rattle.kp_ast.specs.declared.tree.Decl.{Decl}
 use Rattle.kp_debug_report.specs.Scripts.{command_in, with_line, commands_of, placed}
 use Rattle.kp_debug_report.specs.{inner.Reading.behind, inner.Reading.IsAdded, inner.Reading.IsBroken, declared.command.Command.Command}
 use Rattle.kp_debug_report.specs.declared.command.Fault.{Fault}

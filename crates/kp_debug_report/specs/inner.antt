@@ -2,5 +2,4 @@
 pub mod Kept
 pub mod Lists
 pub mod Standing
--- For private contracts and proofs of this crate only: no public clause depends on it.
 pub mod Reading

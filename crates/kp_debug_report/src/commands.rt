@@ -9,6 +9,7 @@ ghost use Rattle.kp_tool_report.specs.States.{state_lines, no_counts};
 ghost use Rattle.kp_debug_report.specs.Inspecting.{all_cycles, found_word, has_value, first_from, reached, hit_line, at_line, row_or_end, printed_by, printed, ends_in, IsOfTargets, AreOfJob};
 ghost use Rattle.kp_debug_report.specs.inner.Standing.{IsUnderWay, IsRegisterOf, run_of, state_seen};
 
+use crate::Command;
 use crate::inputs::all_cycles;
 use crate::numbers::register_at;
 use crate::session::Session;
@@ -17,7 +18,6 @@ use crate::values::register_shown;
 use itoa::Buffer;
 use kp_base::{Row, Sink, SinkFault, write_all, write_pieces};
 use kp_bits::Bits;
-use crate::Command;
 use kp_frontend::Accepted;
 use kp_net::Netlist;
 use kp_sched::row_line;

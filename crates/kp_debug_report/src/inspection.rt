@@ -6,11 +6,11 @@ ghost use Rattle.kp_run.specs.Cycles.{inputs_to};
 ghost use Rattle.kp_sched.specs.Shows.{Shows};
 ghost use Rattle.kp_debug_report.specs.Inspecting.{all_cycles, whole_run, printed, ends_in, AreOfJob};
 
+use crate::Command;
 use crate::commands::run_commands;
 use crate::inputs::{all_cycles, rows_to, words_to};
 use crate::session::Session;
 use kp_base::{NoMemory, Sink, SinkFault};
-use crate::Command;
 use kp_frontend::Accepted;
 use kp_net::Netlist;
 use kp_run::laws::a_job_gives_its_own_inputs;

@@ -2,9 +2,8 @@ use Rattle.std.proofs.Common.{◌≡◌, ◌∙◌, ℕ, zero, suc, ◌+◌, ◌
 use Rattle.std.proofs.lemmas.List.{drop_more}
 use Rattle.kp_base.specs.declared.row.Row as masks
 use Rattle.kp_pipeline.specs.Diagram.{Account, Loss, Filling, DataHazard, WrongGuess, Outside, account_from, and_cycle, is_squashed, loss_of_wait, losses_after, lost_to, spent_from}
-use Rattle.kp_pipeline.specs.{Rows.Row, Rows.bit, DiagramClaims.cycles_of}
+use Rattle.kp_pipeline.{specs.Rows.Row, specs.Rows.bit, specs.DiagramClaims.cycles_of, proofs.Adding.one-more as counted-more}
 use Rattle.kp_sched.specs.Rows.{row_seen, rows_seen}
-use Rattle.kp_pipeline.proofs.Adding.{one-more as counted-more}
 
 -- AN ACCOUNT that is kept from the front. The entries of cycles are added to one.
 abbrev pub onto : List (Option Loss) → Account → Account

@@ -8,8 +8,8 @@ use Rattle.kp_net.specs.{Names.same, Netlist.Net, Parts.NetOk, Parts.RegOk, Part
 use Rattle.kp_equiv.specs.Agreement.{Root, Ports, Register, File, Full, Ue, Back, roots, RegsAlike, WritesAlike, FilesAlike, PortsAgree, RegisterAgrees, FileAgrees, Agrees}
 use Rattle.kp_equiv.specs.declared.verdict.Verdict.{Verdict, TheVariants.Same, TheVariants.Differs}
 use Rattle.kp_equiv.specs.{Verdicts.IsComparable, Verdicts.IsVerdict, Alike.Alike, Named.HasNames, Classes.place, Classes.class_in}
-use Rattle.kp_equiv.specs.Sections.{Differing, FirstOf}
-use Rattle.kp_equiv.proofs.{Determined.alike_found, Inputs.port_decides, Places.Things, Places.registers, Places.memories, Places.namesake, Places.missing}
+use Rattle.kp_equiv.{specs.Sections.Differing, specs.Sections.FirstOf, proofs.Determined.alike_found, proofs.Inputs.port_decides}
+use Rattle.kp_equiv.proofs.Places.{Things, registers, memories, namesake, missing}
 use Rattle.kp_equiv.proofs.Ordered.{register_found, file_found, agree_more, differ_more}
 use Rattle.kp_equiv.proofs.Determining.{SomeDetermines, some_determines}
 

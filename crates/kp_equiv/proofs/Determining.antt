@@ -1,6 +1,6 @@
 -- The nodes of any two well-formed netlists have classes that determine which trees are equivalent.
-use Rattle.std.{proofs.Common.ℕ, proofs.Common.zero, proofs.Common.suc, proofs.Common.◌≤◌, proofs.Common.◌<◌, proofs.Common.◌++◌, proofs.Common.List, proofs.Common.[]}
-use Rattle.std.{proofs.Common.◌∷◌, proofs.Common.length, proofs.Common.get_or, proofs.Common.refl, proofs.Common.subst, proofs.Common.arith, proofs.lemmas.List.get_or_default}
+use Rattle.std.proofs.Common.{ℕ, zero, suc, ◌≤◌, ◌<◌, ◌++◌, List, [], ◌∷◌, length, get_or, refl, subst, arith}
+use Rattle.std.proofs.lemmas.List.{get_or_default}
 use Rattle.kp_net.specs.{declared.node.NodeId.NodeId, declared.node.Node.Node, Netlist.Net, Parts.NetOk, Widths.no_node}
 use Rattle.kp_equiv.specs.Classes.{class_in, Determines}
 use Rattle.kp_equiv.specs.inner.Shapes.{Known, known_of, shape, Numbered, IsTable, Grown}

@@ -1,10 +1,9 @@
 -- Two nodes have the same class exactly if they are equivalent.
-use Rattle.std.{proofs.Common.◌≡◌, proofs.Common.◌∙◌, proofs.Common.ℕ, proofs.Common.zero, proofs.Common.suc, proofs.Common.◌<◌, proofs.Common.List, proofs.Common.length}
-use Rattle.std.{proofs.Common.get_or, proofs.Common.sym, proofs.Common.ap, proofs.Common.subst, proofs.Common.arith, proofs.Common.Some, specs.Map.lookup}
-use Rattle.kp_net.proofs.Found.{is}
-use Rattle.kp_net.specs.{declared.node.NodeId.NodeId, declared.node.Node.Node, Netlist.Net, Parts.NetOk, Widths.no_node}
-use Rattle.kp_equiv.specs.{Alike.AlikeWithin, Classes.class_in, Classes.Determines}
-use Rattle.kp_equiv.proofs.Determined.{id_is}
+use Rattle.std.proofs.Common.{◌≡◌, ◌∙◌, ℕ, zero, suc, ◌<◌, List, length, get_or, sym, ap, subst, arith, Some}
+use Rattle.std.specs.Map.{lookup}
+use Rattle.kp_net.{proofs.Found.is, specs.declared.node.NodeId.NodeId, specs.declared.node.Node.Node, specs.Netlist.Net, specs.Parts.NetOk}
+use Rattle.kp_net.specs.Widths.{no_node}
+use Rattle.kp_equiv.{specs.Alike.AlikeWithin, specs.Classes.class_in, specs.Classes.Determines, proofs.Determined.id_is}
 use Rattle.kp_equiv.specs.inner.Shapes.{known_of, shape, Numbered, Has, IsTable, AreClasses}
 use Rattle.kp_equiv.proofs.Operations.{kinds_from, kinds_to}
 

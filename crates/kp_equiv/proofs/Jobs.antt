@@ -4,8 +4,8 @@ use Rattle.kp_ast.specs.declared.tree.Job.{Job}
 use Rattle.kp_machine.specs.{Slots.Slot, Words.target}
 use Rattle.kp_net.specs.{Names.Differ, Names.IsNamed, Netlist.Net, Parts.no_file}
 use Rattle.kp_sched.specs.{Naming.file_name as target_file_name, Naming.file_of, Shows.IsOfJob}
-use Rattle.kp_equiv.specs.{Named.file_names, Named.HasNames, Verdicts.HasFiles, Verdicts.IsComparable}
-use Rattle.kp_equiv.proofs.{NamedAlike.one_number, Places.file_names_are, Places.file_count, Shown.placed_at}
+use Rattle.kp_equiv.{specs.Named.file_names, specs.Named.HasNames, specs.Verdicts.HasFiles, specs.Verdicts.IsComparable, proofs.NamedAlike.one_number}
+use Rattle.kp_equiv.proofs.{Places.file_names_are, Places.file_count, Shown.placed_at}
 
 has_files : (a b : Net) (job : Job) → Differ (file_names a) → IsOfJob a job → IsOfJob b job → HasFiles a.parts.files b.parts.files
 has_files a b job d x y f l =

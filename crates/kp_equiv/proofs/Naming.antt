@@ -1,7 +1,6 @@
 -- Tables of names with their indices.
 use Rattle.std.proofs.Common.{◌≡◌, ◌∙◌, ℕ, ◌+◌, ◌<◌, ◌||◌, Bool, true, false, cond, List, [], ◌∷◌, length, map, get_or, drop, refl, sym, ap, subst, arith, Option, None, Some, MatchOption}
-use Rattle.std.proofs.lemmas.List.{drop_more}
-use Rattle.std.specs.{Prelude.nat_eq, Prelude.not, Option.is_some, Map.lookup}
+use Rattle.std.{proofs.lemmas.List.drop_more, specs.Prelude.nat_eq, specs.Prelude.not, specs.Option.is_some, specs.Map.lookup}
 use Rattle.kp_net.specs.Names.{same, among}
 use Rattle.kp_equiv.specs.{Classes.place, inner.Indexed.index_from, inner.Indexed.HasIndices}
 

@@ -9,8 +9,7 @@ use Rattle.kp_net.specs.{Names.among, Netlist.Net, Parts.NetOk, Parts.RegOk, Par
 use Rattle.kp_net.specs.Widths.{KindOk, AllRight, no_node}
 use Rattle.kp_equiv.specs.Agreement.{Register, File, Full, Ue, Back, names_of_second, RegsAlike, WritesAlike, FilesAlike, PortsAgree, RegisterAgrees, FileAgrees, AllAgree}
 use Rattle.kp_equiv.specs.Alike.{Relation, AllRelated, PairRelated, KindAlike, Alike, AlikeWithin, reg_name, file_name}
-use Rattle.kp_equiv.specs.{Named.reg_names, Sections.AgreeUpTo, Verdicts.IsComparable}
-use Rattle.kp_equiv.proofs.NamedAlike.{among_at}
+use Rattle.kp_equiv.{specs.Named.reg_names, specs.Sections.AgreeUpTo, specs.Verdicts.IsComparable, proofs.NamedAlike.among_at}
 use Rattle.kp_equiv.proofs.Ordered.{all_behind, agree_more, all_agree as every, roots_all, none_of_second, second_agrees}
 use Rattle.kp_equiv.proofs.Places.{registers, memories, reg_names_are, reg_count}
 use Rattle.kp_equiv.proofs.Running.{Agreed, agreed, regs_alike, files_alike, theorem}

@@ -1,9 +1,7 @@
 -- A table of shapes after one more.
 use Rattle.std.proofs.Common.{◌≡◌, ◌∙◌, ℕ, ◌+◌, ◌⊎◌, Bool, true, false, cond, [], ◌∷◌, length, refl, sym, ap, arith, ⊎_elim, inl, inr, Option, None, Some}
-use Rattle.std.proofs.lemmas.Bool.{false_from_ne_true}
-use Rattle.std.specs.Map.{lookup}
-use Rattle.kp_net.specs.declared.node.Node.{Node}
-use Rattle.kp_net.proofs.{Found.is, Same.node_from_eq, Same.node_eq_itself}
+use Rattle.std.{proofs.lemmas.Bool.false_from_ne_true, specs.Map.lookup}
+use Rattle.kp_net.{specs.declared.node.Node.Node, proofs.Found.is, proofs.Same.node_from_eq, proofs.Same.node_eq_itself}
 use Rattle.kp_equiv.specs.inner.Shapes.{Numbered, Has, IsTable, Puts}
 
 pub none_numbered : IsTable []

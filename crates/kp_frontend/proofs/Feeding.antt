@@ -1,7 +1,8 @@
 -- The input vectors of the inputs section are computed from what is stored for each sample.
 use Rattle.std.proofs.Common.{◌≡◌, ◌∙◌, ℕ, zero, suc, List, [], ◌∷◌, Some, Bool, true, false, refl, ap, sym}
 use Rattle.std.{proofs.Math.Path.fun_ext, specs.Prelude.◌&&◌, specs.Prelude.if◌then◌else◌, specs.Prelude.slice_get}
-use Rattle.std.{proofs.lemmas.List.Elements.All-nil, proofs.lemmas.List.Elements.All-cons, proofs.lemmas.List.Elements.All-head, proofs.lemmas.List.Elements.All-tail, specs.List.All}
+use Rattle.std.proofs.lemmas.List.Elements.{All-nil, All-cons, All-head, All-tail}
+use Rattle.std.specs.List.{All}
 use Rattle.kp_bits.specs.Word.{word}
 use Rattle.kp_ast.specs.{Expressions.is_same_name, declared.tree.Decl.Decl, declared.tree.Inputs.Inputs, declared.tree.Job.Job}
 use Rattle.kp_ast.specs.declared.tree.Decl.TheVariants as decls

@@ -1,11 +1,13 @@
 -- What the code stores and returns is what the definitions specify.
 use Rattle.std.proofs.Common.{◌≡◌, ◌∙◌, ◌<◌, ◌≤◌, ℕ, zero, suc, List, [], ◌∷◌, Bool, true, not, ◌==◌, map, Option, Some, None, Result, Ok, Err, MatchResult, refl, ap, arith}
-use Rattle.std.{proofs.lemmas.Bool.ltb-true, proofs.lemmas.List.Elements.All-nil, proofs.lemmas.List.Elements.All-cons, specs.Prelude.◌||◌, specs.Prelude.nat_lt, specs.List.All}
+use Rattle.std.proofs.lemmas.{Bool.ltb-true, List.Elements.All-nil, List.Elements.All-cons}
+use Rattle.std.specs.{Prelude.◌||◌, Prelude.nat_lt, List.All}
 use Rattle.kp_base.specs.{First.first, Check.Answer, Check.after, Refusal.e_rule, declared.refusal.Refusal.Refusal}
 use Rattle.kp_ast.specs.declared.tree.{Num.Num, Stalls.Stalls, Job.Job}
 use Rattle.kp_stage.specs.Start.{number_or, stalls_at, is_stalled, bits_below, stalls_of, stall_word}
 use Rattle.kp_width.{specs.Names.Checked, proofs.Unbroken.Unbroken, proofs.Unbroken.bind_unbroken, proofs.Unbroken.answer_unbroken}
-use Rattle.kp_frontend.specs.{Sections.step_of, Sections.stall_of, Sections.stalls_checked, Spans.some_stalls, Spans.IsSpan, Spans.word_in, inner.Kept.span_of, inner.Kept.pattern_of}
+use Rattle.kp_frontend.specs.{Sections.step_of, Sections.stall_of, Sections.stalls_checked, Spans.some_stalls, Spans.IsSpan, Spans.word_in}
+use Rattle.kp_frontend.specs.inner.Kept.{span_of, pattern_of}
 
 same_stalls : (es : List Stalls) (k cycle : ℕ) → some_stalls (map span_of es) k cycle ≡ is_stalled es k cycle
 same_stalls [] k cycle = refl

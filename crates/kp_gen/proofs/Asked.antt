@@ -8,8 +8,8 @@ use Rattle.kp_ast.proofs.Levels.{fold-Lit, fold-Name, fold-Binary, fold-Slice}
 use Rattle.kp_stage.specs.{declared.rules.Rule.Rule, Facts.Facts}
 use Rattle.kp_stage.specs.Rules.{ask_name, ask_expr, ask_kind, ask_level, ask_values, ask_block, ask_stmt, ask_guesses}
 use Rattle.kp_gen.specs.Generated.{place, name, number, binary, low_byte, read_name, pipe_name, set, file_read, address_put, value_put, file_set, block}
-use Rattle.kp_gen.specs.declared.draws.Route.{Route}
-use Rattle.kp_gen.proofs.{Forms.read, Forms.put, Finds.Any, Finds.all_any, Walks.KeepStmts, Walks.by_sets}
+use Rattle.kp_gen.{specs.declared.draws.Route.Route, proofs.Forms.read, proofs.Forms.put, proofs.Finds.Any, proofs.Finds.all_any}
+use Rattle.kp_gen.proofs.Walks.{KeepStmts, by_sets}
 
 pub no_pair : (a b : Answer) → a ≡ None → b ≡ None → first (a ∷ b ∷ []) ≡ None
 no_pair a b e f = rw (e, f) refl

@@ -8,9 +8,9 @@ use Rattle.kp_ast.specs.declared.widths.Scope.TheVariants as scopes
 use Rattle.kp_ast.specs.declared.widths.NameKind.TheVariants as kinds
 use Rattle.kp_width.specs.Names.{Sense, sense, Names, Scoped, passed, nothing, look_up, used_as, is_register, is_file, is_pipe, declared_text}
 use Rattle.kp_width.specs.Declarations.{address_width, name_of, after_name, declaration_of, declarations_of, functions_in}
+use Rattle.kp_gen.proofs.Texts.{registers_at, file_at, address_at, value_at, results_at, with_registers, with_file, with_pipes, with_address, with_value, with_results, all_names, free_registers, free_file, free_pipes, free_address, free_value, register_there, file_there, address_there, file_result_free}
 use Rattle.kp_gen.specs.declared.draws.Route.{Route}
 use Rattle.kp_gen.specs.Generated.{place, named, num, numbered, register_name, result_of, target, for_each, all_decls}
-use Rattle.kp_gen.proofs.Texts.{registers_at, file_at, address_at, value_at, results_at, with_registers, with_file, with_pipes, with_address, with_value, with_results, all_names, free_registers, free_file, free_pipes, free_address, free_value, register_there, file_there, address_there, file_result_free}
 use Rattle.kp_gen.proofs.{Forms.register, Forms.pipe, Forms.file, Forms.pipe_AF, Forms.pipe_VF, Forms.file_result, Steps.then, Steps.is_fresh}
 use Rattle.kp_gen.proofs.Lookups.{spread, other_number, look_first, look_second, look_past}
 

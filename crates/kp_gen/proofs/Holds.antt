@@ -5,8 +5,8 @@ use Rattle.kp_base.specs.{First.first, Check.Answer, Check.answer, Refusal.e_rul
 use Rattle.kp_stage.specs.{Facts.facts_of, Rules.broken_by, Sizes.sizes_of, Counts.counts_of, Stages.broken_of}
 use Rattle.kp_frontend.specs.Sections.{sections_of}
 use Rattle.kp_gen.specs.{declared.draws.Route.Route, Draws.next, Draws.drawn, Draws.routes_from, Draws.routes_drawn, Draws.stages_drawn, Draws.registers_drawn}
-use Rattle.kp_gen.specs.Generated.{place, job_of, gen_job}
-use Rattle.kp_gen.proofs.{NamesHold.few_registers, Finds.AllFrom, Kept.IsFine, Kept.rules_kept, Totals.sizes_kept, Totals.counts_kept}
+use Rattle.kp_gen.{specs.Generated.place, specs.Generated.job_of, specs.Generated.gen_job, proofs.NamesHold.few_registers, proofs.Finds.AllFrom}
+use Rattle.kp_gen.proofs.{Kept.IsFine, Kept.rules_kept, Totals.sizes_kept, Totals.counts_kept}
 
 pub three : (a b c : Answer) → a ≡ None → b ≡ None → c ≡ None → first (a ∷ b ∷ c ∷ []) ≡ None
 three a b c e f g = rw (e, f, g) refl

@@ -15,9 +15,8 @@ use Rattle.kp_width.specs.Declarations.{kept, address_width}
 use Rattle.kp_width.specs.Statements.{when_of, address_of, read_of, given, statement_of, statements_of, blocks_of}
 use Rattle.kp_width.proofs.Unbroken.{width-Lit, width-Name, width-Binary, width-Slice}
 use Rattle.kp_gen.specs.Generated.{place, named, numbered, name, number, binary, low_byte, set, file_read, address_put, value_put, file_set, file_sets, for_each, sets_from, first_stmts, later_stmts, later_block, all_blocks}
-use Rattle.kp_gen.specs.declared.draws.Route.{Route}
 use Rattle.kp_gen.proofs.Texts.{registers_at, file_at, pipes_at, address_at, value_at, results_at, file_result_at, all_names, free_all, from_value, register_there, file_there, pipe_there, address_there, value_there, result_there, file_result_there}
-use Rattle.kp_gen.proofs.{Forms.read, Forms.put, Steps.then, Steps.holds, Steps.is_fresh}
+use Rattle.kp_gen.{specs.declared.draws.Route.Route, proofs.Forms.read, proofs.Forms.put, proofs.Steps.then, proofs.Steps.holds, proofs.Steps.is_fresh}
 use Rattle.kp_gen.proofs.Lookups.{spread, spread_there, spread_none, other_number, look_first, look_second, look_past, either}
 
 -- in stage k these names are in scope

@@ -4,8 +4,8 @@ use Rattle.kp_base.specs.First.{first}
 use Rattle.kp_width.specs.Widths.{widths_of}
 use Rattle.kp_stage.specs.Stages.{broken_of}
 use Rattle.kp_frontend.specs.{Sections.sections_of, Judging.broken_in}
-use Rattle.kp_gen.specs.Generated.{gen_job}
-use Rattle.kp_gen.proofs.{Holds.generated_stages_hold, Holds.generated_sections_hold, Holds.three, NamesHold.generated_names_hold}
+use Rattle.kp_gen.{specs.Generated.gen_job, proofs.Holds.generated_stages_hold, proofs.Holds.generated_sections_hold, proofs.Holds.three}
+use Rattle.kp_gen.proofs.NamesHold.{generated_names_hold}
 
 pub generated_unbroken : (G : ℕ) → broken_in (gen_job G) ≡ None
 unfolding broken_in

@@ -2,7 +2,8 @@
 use Rattle.std.proofs.Common.{ℕ, ◌≡◌, ◌+◌, ◌≤◌, List, [], ◌∷◌, ◌++◌, length, drop, sym, subst, arith, Result, Ok, Err, MatchResult, Option, Some, None, MatchOption}
 use Rattle.std.proofs.lemmas.Result.{MatchResult-weaker}
 use Rattle.kp_base.specs.{Grammar.Nonterminal, Grammar.Action, GrammarMachine.Outcome, GrammarMachine.make}
-use Rattle.kp_parse_grammar.specs.{declared.fault.Fault.Fault, Tokens.Lexeme, Language.Sym, Language.State, Language.Step, Language.Value, Language.at, Language.build_step}
+use Rattle.kp_parse_grammar.specs.{declared.fault.Fault.Fault, Tokens.Lexeme}
+use Rattle.kp_parse_grammar.specs.Language.{Sym, State, Step, Value, at, build_step}
 use Rattle.kp_parse_grammar.specs.{Reading.Goes, Reading.Turns, Reading.Ends, inner.Stretch.TurnsAll, inner.Stretch.EndsAll}
 use Rattle.kp_parse_grammar.proofs.Steps.{passed}
 

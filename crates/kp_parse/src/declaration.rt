@@ -12,8 +12,7 @@ ghost use Rattle.kp_parse.specs.inner.Stretches.{signature_symbols, definition_s
 use crate::pair::{expression_before, name_before, number_before, present};
 use kp_ast::{Decl, Expr, FuncDecl, Lit, Named, Num, Param, ResultDecl};
 use kp_base::List;
-use kp_parse_grammar::{Keyword, Mark, TokenKind};
-use kp_parse_grammar::{Fault, Tokens};
+use kp_parse_grammar::{Fault, Keyword, Mark, TokenKind, Tokens};
 use std::alloc::Global;
 
 /// All declarations from this token on, and the number of the next token. Each consumes at least one token.

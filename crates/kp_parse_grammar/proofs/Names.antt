@@ -6,8 +6,7 @@ use Rattle.kp_base.specs.Characters.{is_digit, is_letter, is_word, run_length}
 use Rattle.kp_bits.specs.{Literals.number_of, Literals.literal_of, declared.literal.Literal.Literal, declared.literal.LiteralFault.LiteralFault}
 use Rattle.kp_parse_grammar.specs.Text.{gap_length, is_in_run, run_of, keyword_or_name, identifier, literal_or_broken, number_or_literal, number_run, mark_or_broken, mark_or_shorter, mark, token_of, StandsIn, IsIdentifier}
 use Rattle.kp_parse_grammar.specs.declared.{front.Front.Front, token.Keyword.Keyword, token.Mark.Mark, token.TokenKind.TokenKind, token.Token.Token}
-use Rattle.kp_parse_grammar.specs.Words.{keyword_of, single_mark, double_mark}
-use Rattle.kp_parse_grammar.proofs.Fits.{run_within, run_fits}
+use Rattle.kp_parse_grammar.{specs.Words.keyword_of, specs.Words.single_mark, specs.Words.double_mark, proofs.Fits.run_within, proofs.Fits.run_fits}
 use Rattle.kp_parse_grammar.specs.declared.front.Front.TheVariants as fronts
 use Rattle.kp_parse_grammar.specs.declared.token.TokenKind.TheVariants as kinds
 

@@ -3,12 +3,12 @@ use Rattle.std.proofs.Common.{ℕ, ◌≡◌, ◌<◌, ◌≤◌, ◌+◌, nat_l
 use Rattle.std.proofs.lemmas.{Bool.le-ltb, Result.err_from_is_err_and}
 use Rattle.kp_base.specs.{declared.place.Place.Place, Grammar.Terminal, Grammar.Action}
 use Rattle.kp_base.specs.GrammarMachine.{Outcome, Accepts, Stops, Exceeds, accept, more, make}
+use Rattle.kp_base.proofs.Ways.{took, exceeded}
 use Rattle.kp_ast.specs.declared.tree.{Expr.Expr, Num.Num}
 use Rattle.kp_parse_grammar.specs.Language.{Sym, State, Value, Way, place, expr, number, dropped, as_place, counts_one, opens, opens_at, closes, separates, language, at, is_over}
 use Rattle.kp_parse_grammar.specs.{declared.token.Keyword.Keyword, declared.fault.Fault.Fault, Tokens.Lexeme, inner.Follow.tables, inner.Stretch.Counts}
 use Rattle.kp_parse_grammar.specs.{inner.Extension.extension_of, inner.Extension.extending, Reading.Goes, Reading.Finds, Reading.FaultIs, Reading.Faults}
 use Rattle.kp_parse_grammar.specs.declared.token.Keyword.TheVariants as keywords
-use Rattle.kp_base.proofs.Ways.{took, exceeded}
 use Rattle.kp_parse_grammar.specs.declared.fault.Fault.TheVariants as faults
 
 fits : (c : ℕ) → c < 64 → nat_lt 64 (c + 1) ≡ false

@@ -1,8 +1,7 @@
 -- The token at an index.
 use Rattle.std.proofs.Common.{ℕ, ◌≡◌, ◌==◌, ◌<◌, ◌≤◌, ◌+◌, ◌-◌, List, [], ◌∷◌, length, drop, take, map, true, false, refl, sym, ap, ◌∙◌, eq-eqb, arith}
 use Rattle.std.{proofs.lemmas.List.drop_more, proofs.lemmas.List.drop-map, proofs.lemmas.Bool.eqb-true, specs.Prelude.slice_index_or}
-use Rattle.kp_base.specs.{Grammar.Terminal, GrammarMachine.Stops, GrammarMachine.look, GrammarMachine.wrong}
-use Rattle.kp_base.proofs.Ways.{took}
+use Rattle.kp_base.{specs.Grammar.Terminal, specs.GrammarMachine.Stops, specs.GrammarMachine.look, specs.GrammarMachine.wrong, proofs.Ways.took}
 use Rattle.kp_parse_grammar.specs.declared.token.{Token.Token, TokenKind.TokenKind}
 use Rattle.kp_parse_grammar.specs.{Tokens.Lexeme, Tokens.lexeme_of, Tokens.lexemes, Tokens.kind_class, Tokens.IDENTIFIER, Tokens.named_of, inner.Follow.tables}
 use Rattle.kp_parse_grammar.specs.Language.{Sym, State, Way, NAME, NUM, LIT, named, number, literal, language, is_over}

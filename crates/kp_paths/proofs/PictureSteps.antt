@@ -1,6 +1,6 @@
 -- The steps of the loops that write the picture.
 use Rattle.std.proofs.Common.{◌≡◌, ◌∙◌, ℕ, suc, ◌+◌, ◌-◌, ◌<◌, Bool, true, false, refl, cond, List, ◌∷◌, ◌++◌, length, get_or, drop, ap, sym, arith}
-use Rattle.std.{proofs.lemmas.List.drop_more, proofs.lemmas.List.length-append, proofs.lemmas.Grind.flat_map-append}
+use Rattle.std.proofs.lemmas.{List.drop_more, List.length-append, Grind.flat_map-append}
 use Rattle.kp_ast.specs.declared.tree.{Job.Job, ReadStmt.ReadStmt, Stmt.Stmt, Block.Block}
 use Rattle.kp_paths.specs.{declared.cell.Cell.Cell, Table.cell_at, Arrows.arrow_of, Arrows.arrows_from, Arrows.is_shown}
 use Rattle.kp_paths.specs.Picture.{arrow_text, arrows_text, column_text, columns_text, rows_from, rows_in, rows_of}

@@ -5,8 +5,7 @@ use Rattle.kp_pipeline.specs.{Machine.Machine, Sequential.PendingGuess}
 use Rattle.kp_pipeline.specs.Pipeline.{Inputs, PipelineState, above, back, cycle, next_stage, pipeline_start, some_differs, stall, ue}
 use Rattle.kp_pipeline.specs.{Rows.bit, Rows.count_after, Rows.one_if, Rows.passed, Rows.pipe, Rows.row, Rows.rows_from, Accepted.Accepted, Claims.StandsBefore}
 use Rattle.kp_pipeline.specs.Diagram.{cells_from, diagram, does_move, fetches_from, fetches_next, mark, next_place, retired_numbers, retires}
-use Rattle.kp_pipeline.specs.DiagramClaims.{numbers_from}
-use Rattle.kp_pipeline.proofs.{Lists.bit-at, Cycle.stall-is, Cycle.ue-parts}
+use Rattle.kp_pipeline.{specs.DiagramClaims.numbers_from, proofs.Lists.bit-at, proofs.Cycle.stall-is, proofs.Cycle.ue-parts}
 use Rattle.kp_pipeline.proofs.Movement.{count-moved, count-one, count-stays, kept-below, kept-full, next-moved, next-none, next-swept, next_count}
 use Rattle.kp_pipeline.proofs.{Invariant.Shape, NextState.back-mismatch, Pending.shape-kept, Pending.shape-start, Counts.AgreeBelow, Counts.counts-row}
 use Rattle.kp_pipeline.proofs.Steps.{by-fate, fetches-moved, fetches-none, fetches-swept, moves-mark, place-moves, place-stays, place-swept}

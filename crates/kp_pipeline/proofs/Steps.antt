@@ -4,8 +4,8 @@ use Rattle.kp_pipeline.specs.Machine.{Machine}
 use Rattle.kp_pipeline.specs.Pipeline.{Inputs, PipelineState, above, back, outcome, stall, ue}
 use Rattle.kp_pipeline.specs.Rows.{bit, bits, row}
 use Rattle.kp_pipeline.specs.Diagram.{Mark, Moves, WaitsForValue, WaitsForStage, Held, Squashed, does_move, fetches_next, is_squashed, is_waiting, mark, next_place}
-use Rattle.kp_pipeline.specs.DiagramClaims.{IsReason}
-use Rattle.kp_pipeline.proofs.{Lists.bit-at, Cycle.stall-above, Cycle.stall-is, Cycle.stall-top, Cycle.ue-from, Cycle.ue-parts}
+use Rattle.kp_pipeline.{specs.DiagramClaims.IsReason, proofs.Lists.bit-at}
+use Rattle.kp_pipeline.proofs.Cycle.{stall-above, stall-is, stall-top, ue-from, ue-parts}
 
 -- ONE CYCLE of a stage, as its row shows it.
 

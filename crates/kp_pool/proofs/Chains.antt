@@ -1,7 +1,7 @@
 -- Links to nodes by their buckets.
 use Rattle.std.proofs.Common.{◌≡◌, ℕ, ◌+◌, ◌-◌, ◌<◌, ◌≤◌, List, [], ◌∷◌, ◌++◌, length, get_or, refl, sym, ap, subst, ◌∙◌, arith, length-append, ⊎_elim}
-use Rattle.std.proofs.Math.{ListN.set, ListN.length-set, ListN.get_or-append, Seq.get_or-append_seam}
-use Rattle.std.proofs.lemmas.{Bool.cases_lt, Bool.cases_eq, List.get_or-set_same, List.get_or-set_other}
+use Rattle.std.proofs.{Math.ListN.set, Math.ListN.length-set, Math.ListN.get_or-append, Math.Seq.get_or-append_seam, lemmas.Bool.cases_lt, lemmas.Bool.cases_eq}
+use Rattle.std.proofs.lemmas.List.{get_or-set_same, get_or-set_other}
 use Rattle.kp_net.specs.{declared.node.Node.Node, Widths.no_node}
 use Rattle.kp_pool.specs.inner.Chains.{bucket_of, IsLast, Chains, Reached}
 

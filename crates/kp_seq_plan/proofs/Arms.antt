@@ -2,7 +2,7 @@
 use Rattle.std.proofs.Common.{◌≡◌, ◌∙◌, ℕ, ◌+◌, ◌≤◌, List, Option, Some, None, Result, refl, ap, sym, subst, arith}
 use Rattle.std.specs.{Prelude.sum_by, Option.option_map, Option.option_and_then, Option.option_zip}
 use Rattle.kp_bits.specs.{Word.Word, Word.not_of, Checked.checked_slice, Checked.checked_zext, Checked.checked_sext, declared.operator.BinOp.BinOp}
-use Rattle.kp_seq_plan.specs.{declared.plan.Plan.Plan, declared.code.Typed.Typed, declared.lowering.Missing.Missing}
+use Rattle.kp_seq_plan.specs.declared.{plan.Plan.Plan, code.Typed.Typed, lowering.Missing.Missing}
 use Rattle.kp_seq_plan.specs.{Plans.Slots, Plans.meaning, Plans.meaning_level, Plans.space, Plans.space_level, Lowering.IsTyped}
 use Rattle.kp_seq_plan.specs.inner.Parts.{Lacks, Yields, GivesOne, GivesTwo, GivesMux, GivesWord, binary_found, mux_found, both_found, joined_found, call_found, call_space}
 use Rattle.kp_seq_plan.proofs.Levels.{fold-Word, fold-Not, fold-Binary, fold-Mux, fold-Slice, fold-Zext, fold-Sext}

@@ -1,9 +1,8 @@
 -- What machine words of 64 bits make of numbers that fit a width, and that a value of a width is held.
 use Rattle.std.proofs.Common.{◌≡◌, ◌≢◌, ◌∙◌, ℕ, ◌+◌, ◌-◌, ◌*◌, ◌/◌, ◌%◌, ◌^◌, ◌<◌, ◌≤◌, ◌==◌, ◌&&◌, ◌||◌, Option, Some, None, Bool, true, false, cond, refl, ap, sym, subst, arith, bit_and, bit_or, ⊎_elim, ◌⊎◌}
 use Rattle.std.proofs.lemmas.Bool.{cases_lt, cond-true, cond-false, eqb-true, eq-eqb, ne_eqb, ltb-true, lt-ltb, le-ltb, le-leb, lt-leb, and_left, and_right}
-use Rattle.std.proofs.Math.{Nat.mod-eq_of_lt, Nat.mul-add, Nat.add-mul-mod_self_left}
-use Rattle.std.{proofs.lemmas.Nat.and_mask, proofs.lemmas.Nat.pow-add, proofs.lemmas.Nat.pow_pos, specs.Prelude.nat_lt, specs.Prelude.nat_le}
-use Rattle.std.specs.Option.{option_map, option_and_then}
+use Rattle.std.proofs.{Math.Nat.mod-eq_of_lt, Math.Nat.mul-add, Math.Nat.add-mul-mod_self_left, lemmas.Nat.and_mask, lemmas.Nat.pow-add, lemmas.Nat.pow_pos}
+use Rattle.std.specs.{Prelude.nat_lt, Prelude.nat_le, Option.option_map, Option.option_and_then}
 use Rattle.kp_bits.specs.Word.{Word, word, IsWord, not_of, and_of, or_of, xor_of, add_of, sub_of, mul_of, eq_of, lt_of, shl_of, shr_of, mux_of, concat_of, slice_of, zext_of, sext_of}
 use Rattle.kp_bits.proofs.Words.{not_word, and_word, or_word, xor_word, add_word, sub_word, mul_word, eq_word, lt_word, shl_word, shr_word, concat_word, slice_word, zext_word, sext_word}
 use Rattle.kp_bits.specs.{Operators.is_shift, Operators.binary_of, Checked.where_so, Checked.checked_slice, Checked.checked_zext, Checked.checked_sext}

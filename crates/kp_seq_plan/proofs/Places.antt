@@ -1,8 +1,9 @@
 -- The index of a name in a list to which names are added.
 use Rattle.std.proofs.Common.{◌≡◌, ◌∙◌, ℕ, ◌+◌, ◌<◌, ◌≤◌, ◌++◌, List, [], ◌∷◌, length, Bool, true, false, cond, not, Bor, Option, Some, None, IfSome, refl, sym, ap, arith}
-use Rattle.std.proofs.lemmas.{Bool.false≢true, Grind.common_steps, List.Folds.list_any_none, List.Folds.list_any_at, List.Folds.position_or_len_push, List.Quantifiers.position-Some, List.Sums.fails_before_first, List.Sums.prefix_len-le-length}
-use Rattle.std.specs.{Prelude.nat_eq, Prelude.nat_lt, Option.is_some, Option.option_copied, Cmp.Lexicographic.pointwise, Cmp.Lexicographic.bytes_decides, Map.lookup}
-use Rattle.std.specs.List.{list_any, position, position_or_len}
+use Rattle.std.proofs.lemmas.{Bool.false≢true, Grind.common_steps, List.Folds.list_any_none, List.Folds.list_any_at, List.Folds.position_or_len_push}
+use Rattle.std.proofs.lemmas.List.{Quantifiers.position-Some, Sums.fails_before_first, Sums.prefix_len-le-length}
+use Rattle.std.specs.{Prelude.nat_eq, Prelude.nat_lt, Option.is_some, Option.option_copied, Cmp.Lexicographic.pointwise, Cmp.Lexicographic.bytes_decides}
+use Rattle.std.specs.{Map.lookup, List.list_any, List.position, List.position_or_len}
 use Rattle.indexmap.specs.IndexSet.{insert_key}
 use Rattle.kp_ast.specs.Expressions.{is_same_name}
 use Rattle.kp_seq_plan.specs.inner.Keys.{HasPlaces}

@@ -1,7 +1,8 @@
 -- A code of each form has the values of a plan of that form, if its parts do.
 use Rattle.std.proofs.Common.{◌≡◌, ◌≢◌, ◌∙◌, ℕ, zero, suc, ◌+◌, ◌-◌, ◌/◌, ◌%◌, ◌^◌, ◌<◌, ◌≤◌, ◌==◌, List, [], ◌∷◌, ◌++◌, Option, Some, None, Bool, true, false, cond, length, get_or, take, drop, map, refl, ap, sym, subst, arith, ⊎_elim, ◌⊎◌, ◌||◌, Result, Ok, Err, IfOk, IsErrAnd, MatchResult}
-use Rattle.std.proofs.lemmas.{List.take_more, List.drop_more, List.drop_all, List.get_or_past, List.length-map, List.get_or-map, List.Sums.sum_by-cons, Result.err_from_is_err_and}
-use Rattle.std.specs.{Prelude.sum_by, Prelude.slice_index, Prelude.nat_le, Option.option_map, Option.option_and_then, Option.option_zip}
+use Rattle.std.proofs.lemmas.List.{take_more, drop_more, drop_all, get_or_past, length-map, get_or-map, Sums.sum_by-cons}
+use Rattle.std.{proofs.lemmas.Result.err_from_is_err_and, specs.Prelude.sum_by, specs.Prelude.slice_index, specs.Prelude.nat_le}
+use Rattle.std.specs.Option.{option_map, option_and_then, option_zip}
 use Rattle.kp_base.specs.declared.outside.NoMemory.{NoMemory}
 use Rattle.kp_bits.specs.{Word.Word, Word.word, Word.IsWord, Word.not_of, Word.concat_of, Operators.is_shift}
 use Rattle.kp_bits.specs.Checked.{checked_join, checked_joined, checked_slice, checked_zext, checked_sext}

@@ -1,9 +1,11 @@
 -- What is noted in tables are the facts of the job.
 use Rattle.std.proofs.Common.{◌≡◌, ◌∙◌, ℕ, zero, suc, ◌+◌, List, [], ◌∷◌, ◌++◌, Option, Some, None, Bool, true, false, cond, nat_eq, map, append-nil, append_assoc, refl, ap, sym, arith}
-use Rattle.std.specs.{Prelude.is_some, Prelude.slice_get, Option.option_or, Cmp.Lexicographic.pointwise, Cmp.Lexicographic.bytes_decides, Cmp.Lexicographic.nat_list_eq_equiv}
+use Rattle.std.specs.{Prelude.is_some, Prelude.slice_get, Option.option_or}
+use Rattle.std.specs.Cmp.Lexicographic.{pointwise, bytes_decides, nat_list_eq_equiv}
 use Rattle.indexmap.specs.IndexMap.{insert_entry}
 use Rattle.kp_base.specs.First.{first}
-use Rattle.kp_ast.specs.{Expressions.is_same_name, declared.tree.Decl.Decl, declared.tree.Stmt.Stmt, declared.tree.StmtKind.StmtKind, declared.tree.Block.Block, declared.tree.Job.Job}
+use Rattle.kp_ast.specs.{Expressions.is_same_name, declared.tree.Decl.Decl, declared.tree.Stmt.Stmt, declared.tree.StmtKind.StmtKind, declared.tree.Block.Block}
+use Rattle.kp_ast.specs.declared.tree.Job.{Job}
 use Rattle.kp_ast.specs.declared.tree.Decl.TheVariants as decls
 use Rattle.kp_ast.specs.declared.tree.StmtKind.TheVariants as stmts
 use Rattle.kp_stage.specs.declared.facts.Facts as stored

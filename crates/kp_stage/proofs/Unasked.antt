@@ -6,8 +6,8 @@ use Rattle.kp_base.specs.{First.first, declared.place.Place.Place}
 use Rattle.kp_ast.specs.declared.tree.{Expr.Expr, Block.Block, Stmt.Stmt, StmtKind.StmtKind}
 use Rattle.kp_ast.specs.declared.tree.StmtKind.TheVariants as stmts
 use Rattle.kp_stage.specs.Rules.{ask_name, ask_expr, ask_option, ask_values, ask_guesses, ask_stmt, ask_stmts, ask_block, ask_in_block, ask_blocks, broken_unless, holds_of}
-use Rattle.kp_stage.specs.{declared.rules.Rule.Rule, Facts.At, Facts.Facts}
-use Rattle.kp_stage.specs.inner.{Tables.Entries, Tables.look_up, Tables.facts_in, Asked.asks_blocks}
+use Rattle.kp_stage.specs.{declared.rules.Rule.Rule, Facts.At, Facts.Facts, inner.Tables.Entries, inner.Tables.look_up, inner.Tables.facts_in}
+use Rattle.kp_stage.specs.inner.Asked.{asks_blocks}
 use Rattle.kp_stage.specs.declared.facts.Facts as stored
 use Rattle.kp_width.proofs.Found.{none_asked}
 

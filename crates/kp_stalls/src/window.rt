@@ -13,8 +13,8 @@ use crate::flight::Flight;
 use kp_base::NoMemory;
 use kp_bits::Bits;
 use kp_seq::SeqMachine;
-use kp_timing::Sites;
 use kp_stage::{Design, Start};
+use kp_timing::Sites;
 use std::alloc::Global;
 use std::marker::Model;
 

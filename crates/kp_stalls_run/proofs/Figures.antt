@@ -5,12 +5,11 @@ use Rattle.kp_base.specs.declared.row.Row as masks
 use Rattle.kp_ast.specs.declared.tree.Job.{Job}
 use Rattle.kp_pipeline.specs.{Rows.Row, Diagram.Account, Diagram.Fetch, Diagram.Filling, DiagramClaims.stalls_of}
 use Rattle.kp_machine.specs.Machine.{inputs_from}
-use Rattle.kp_sched.specs.{Rows.bit_of, Rows.rows_seen, Traces.inputs_seen}
-use Rattle.kp_sched.proofs.Counting.{seen_length}
+use Rattle.kp_sched.{specs.Rows.bit_of, specs.Rows.rows_seen, specs.Traces.inputs_seen, proofs.Counting.seen_length}
 use Rattle.kp_run.specs.Cycles.{inputs_to}
 use Rattle.kp_diagram_text.specs.Figures.{figure_from}
-use Rattle.kp_stalls_run.specs.Figures.{IsRunOf, job_figure}
-use Rattle.kp_stalls_run.proofs.{Alike.SameFrom, Alike.account-same, Alike.fetches-same, Words.words-seen}
+use Rattle.kp_stalls_run.{specs.Figures.IsRunOf, specs.Figures.job_figure, proofs.Alike.SameFrom, proofs.Alike.account-same, proofs.Alike.fetches-same}
+use Rattle.kp_stalls_run.proofs.Words.{words-seen}
 
 from-zero : (e f : ℕ → ℕ → Bool) (count : ℕ) → ((T : ℕ) → T < count → e T ≡ f T) → SameFrom e f 0 count
 from-zero e f count h T b = let z : 0 + T ≡ T = omega arith in rw z (h T b)

@@ -7,8 +7,7 @@ use Rattle.kp_stage.specs.Start.{stall_word, is_stalled, stalls_of as entries_of
 use Rattle.kp_pipeline.specs.{Pipeline.Inputs, DiagramClaims.stalls_of}
 use Rattle.kp_machine.specs.Machine.{inputs_from}
 use Rattle.kp_net.specs.Netlist.{Input}
-use Rattle.kp_sched.specs.{Rows.bit_of, Traces.input_seen, Traces.inputs_seen}
-use Rattle.kp_sched.proofs.Bits.{word_fits}
+use Rattle.kp_sched.{specs.Rows.bit_of, specs.Traces.input_seen, specs.Traces.inputs_seen, proofs.Bits.word_fits}
 use Rattle.kp_run.specs.Cycles.{input_at, inputs_to}
 use Rattle.kp_stalls_run.specs.inner.Words.{words_to}
 

@@ -16,10 +16,10 @@ use kp_frontend::Accepted;
 use kp_net::Netlist;
 use kp_run::laws::a_job_gives_its_own_inputs;
 use kp_run::step;
-use kp_timing::Sites;
 use kp_stalls::{Cause, Guess, Line, Wrong};
 use kp_synth::synth;
 use kp_synth_tables::Layout;
+use kp_timing::Sites;
 use std::alloc::Global;
 
 /// Gives each guess that lines name the value that was guessed: a netlist runs again as far as the last of these lines. The only error is out of

@@ -1,7 +1,7 @@
 -- The numbers of registers and files.
 use Rattle.std.proofs.Common.{◌≡◌, ◌∙◌, ℕ, zero, suc, ◌+◌, ◌<◌, Bool, true, false, not, List, [], ◌∷◌, ◌++◌, take, length, get_or, refl, ap, arith}
-use Rattle.std.proofs.lemmas.Bool.{eq-eqb, eqb-true, false_from_ne_true, not-true}
-use Rattle.std.specs.{List.filter, Prelude.◌==◌}
+use Rattle.std.{proofs.lemmas.Bool.eq-eqb, proofs.lemmas.Bool.eqb-true, proofs.lemmas.Bool.false_from_ne_true, proofs.lemmas.Bool.not-true, specs.List.filter}
+use Rattle.std.specs.Prelude.{◌==◌}
 use Rattle.kp_machine.{proofs.Cases.by_test, specs.Slots.Slot, specs.Slots.targets_of, specs.Slots.hints_of, specs.Slots.is_register}
 use Rattle.kp_machine.specs.Machine.{registers_before, files_before}
 use Rattle.kp_ast.specs.declared.tree.Job.{Job}

@@ -8,8 +8,7 @@ use Rattle.kp_net.specs.Growth.{Held}
 use Rattle.kp_synth_tables.proofs.{Fitting.fits, Limits.limits, Limits.samples_counted}
 use Rattle.kp_synth_registers.specs.Meaning.{CellsFit}
 use Rattle.kp_synth_close.{specs.Bound.node_bound, proofs.Bounding.closing_few}
-use Rattle.kp_synth.proofs.Rooms.{stages_few}
-use Rattle.kp_synth.specs.inner.Rooms.{reading_room, inside_room, closing_room}
+use Rattle.kp_synth.{proofs.Rooms.stages_few, specs.inner.Rooms.reading_room, specs.inner.Rooms.inside_room, specs.inner.Rooms.closing_room}
 
 -- a product of small numbers is small
 pub times_few : (a b : ℕ) → a ≤ 12 → b ≤ 4096 → a * b ≤ 49152

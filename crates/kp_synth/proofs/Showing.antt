@@ -17,8 +17,7 @@ use Rattle.kp_sched.specs.{Shows.Shows, Shows.IsInOrder, Shows.HasRegister, Show
 use Rattle.kp_sched.proofs.Anew.{left_alike}
 use Rattle.kp_synth_close.specs.Shows as place
 use Rattle.kp_synth_close.specs.Shows.{NamedBy, HoldsFrom, reg_slot, file_slot, port_slot, named_with, shown_word}
-use Rattle.kp_synth.specs.Carrying.{Carries}
-use Rattle.kp_synth.proofs.Named.{names_through}
+use Rattle.kp_synth.{specs.Carrying.Carries, proofs.Named.names_through}
 use Rattle.kp_synth.proofs.Places.{passes_at, comes_from, stands_at, first_at, file_number}
 
 -- a port by its slot

@@ -11,13 +11,13 @@ ghost use Rattle.kp_synth_close.specs.Control.{AllSay};
 ghost use Rattle.kp_synth_close.specs.Shows as place;
 ghost use Rattle.kp_synth.specs.inner.Rooms.{reading_room, inside_room, closing_room};
 
+use crate::all::run_stages;
 use crate::bound::enough_nodes;
 use crate::netlist::close;
 use kp_base::NoMemory;
 use kp_net::Netlist;
 use kp_pool::Pool;
 use kp_stage::{Design, Start};
-use crate::run_stages;
 use kp_synth_registers::{Outcome, Reads, read_cells};
 use kp_synth_stage::Slots;
 use kp_synth_tables::Layout;

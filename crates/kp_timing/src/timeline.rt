@@ -14,9 +14,9 @@ ghost use Rattle.kp_timing.specs.inner.Deciding.{record_in, is_full, moves_by, f
 
 use crate::deciding::{Found, Pipeline, find, move_on};
 use crate::masks::mask_of;
+use crate::{Reported, Sites};
 use kp_base::{NoMemory, Row};
 use kp_seq::SeqMachine;
-use crate::{Reported, Sites};
 use kp_stage::{Design, Start};
 use std::alloc::Global;
 use std::marker::Model;

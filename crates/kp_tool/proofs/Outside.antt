@@ -4,8 +4,8 @@ use Rattle.std.specs.{declared.option.Option.Option, declared.result.Result.Resu
 use Rattle.kp_base.specs.{declared.refusal.Refusal.Refusal, Causes.Rose}
 use Rattle.kp_words.specs.{declared.words.Command.Command, Commands.command_of, Commands.reads_input}
 use Rattle.kp_tool_report.specs.Texts.{bad_words}
-use Rattle.kp_tool.proofs.{Refusals.refused_where_broken, Ends.weaker, Statuses.final, Statuses.no_command}
-use Rattle.kp_tool.specs.{Saying.Says, Due.DueFor, Due.IsDue, Due.IsFinal, Due.Completes, Due.Begins, Due.Between, Refused.Breaks, Ends.Ends, Ends.EndsAt}
+use Rattle.kp_tool.{proofs.Refusals.refused_where_broken, proofs.Ends.weaker, proofs.Statuses.final, proofs.Statuses.no_command, specs.Saying.Says}
+use Rattle.kp_tool.specs.{Due.DueFor, Due.IsDue, Due.IsFinal, Due.Completes, Due.Begins, Due.Between, Refused.Breaks, Ends.Ends, Ends.EndsAt}
 use Rattle.kp_tool.specs.{inner.Failures.stop_status, inner.Failures.end_status, declared.failure.Failure.Failure, declared.failure.Stop.Stop}
 use Rattle.kp_tool.specs.declared.failure.Stop.TheVariants.{ReadFault, WriteFault, NoMemory}
 

@@ -5,8 +5,7 @@ use Rattle.kp_ast.specs.declared.tree.Job.{Job}
 use Rattle.kp_net.specs.{Netlist.Net, Parts.NetOk}
 use Rattle.kp_sched.specs.Shows.{IsOfJob}
 use Rattle.kp_vlog.proofs.Sound.{denoted_named, denoted_right}
-use Rattle.kp_equiv.specs.Verdicts.{IsComparable}
-use Rattle.kp_equiv.proofs.Jobs.{comparable}
+use Rattle.kp_equiv.{specs.Verdicts.IsComparable, proofs.Jobs.comparable}
 use Rattle.kp_tool.specs.Read.{ReadsVerilog}
 
 module _ (input : List ℕ) (short : length input ≤ 16777216) where

@@ -2,8 +2,8 @@
 use Rattle.std.proofs.Common.{ℕ, zero, suc, ◌≡◌, ◌==◌, ◌⊎◌, inl, inr, ◌+◌, ◌-◌, ◌<◌, ◌≤◌, List, [], ◌∷◌, length, drop, Bool, true, false, cond, Result, Ok, Err, Some, None, refl, sym, subst, arith}
 use Rattle.std.{proofs.lemmas.List.length-drop, specs.declared.option.Option.Option}
 use Rattle.kp_base.specs.GrammarMachine.{Outcome, Accepts, Stops, Exceeds, Leads, accept, more, goes, take, make, wrong, lost, exceed}
-use Rattle.kp_base.specs.{declared.refusal.Refusal.Refusal, Grammar.Nonterminal, Ranks.ranks_fit}
-use Rattle.kp_base.proofs.{TableTests.decides, Ends.ends, Derivations.sentence, Derivations.wrong_at}
+use Rattle.kp_base.{specs.declared.refusal.Refusal.Refusal, specs.Grammar.Nonterminal, specs.Ranks.ranks_fit, proofs.TableTests.decides, proofs.Ends.ends}
+use Rattle.kp_base.proofs.Derivations.{sentence, wrong_at}
 use Rattle.kp_net.specs.Netlist.{Net}
 use Rattle.kp_vlog.specs.declared.{front.Front.Front, tree.VModule.VModule}
 use Rattle.kp_vlog.specs.Tokens.{Token, Lexes, at_end, past, token, LexesTo, here, past_gap, past_token}
@@ -13,8 +13,7 @@ use Rattle.kp_vlog.specs.{Verdict.Breaks, Verdict.no_token, Verdict.wrong_token,
 use Rattle.kp_vlog.proofs.{Fronts.seen_front, Fronts.fits_front, Predictive.is_predictive}
 use Rattle.kp_vlog.specs.declared.front.Front.TheVariants as fronts
 use Rattle.kp_vlog.specs.Tokens as tokens
-use Rattle.kp_tool.specs.Read.{ReadsVerilog}
-use Rattle.kp_tool.proofs.VerilogShapes.{reads_module}
+use Rattle.kp_tool.{specs.Read.ReadsVerilog, proofs.VerilogShapes.reads_module}
 
 -- Tokens: a text has them, or it has a first position at which none starts.
 abbrev IsLexed : ℕ → List ℕ → Type 0

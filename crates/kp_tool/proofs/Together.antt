@@ -4,8 +4,8 @@ use Rattle.kp_ast.specs.declared.tree.Job.{Job}
 use Rattle.kp_frontend.{specs.Judging.Judges, specs.Judging.JudgesText, specs.Judging.Judges.within, proofs.Verdicts.one_verdict}
 use Rattle.kp_words.specs.declared.commands.{JobCommand.TheVariants.Sim, JobCommand.TheVariants.Pipe, Command.TheVariants.OnJob, Command.TheVariants.Watch}
 use Rattle.kp_tool_report.specs.Runs.{sim_text}
-use Rattle.kp_tool.specs.{Due.DueFor, Agreeing.IsWatched}
-use Rattle.kp_tool.proofs.{Headline.judged_unbroken, Heads.EndsLine, Heads.ends_line, Watches.watched}
+use Rattle.kp_tool.{specs.Due.DueFor, specs.Agreeing.IsWatched, proofs.Headline.judged_unbroken, proofs.Heads.EndsLine, proofs.Heads.ends_line}
+use Rattle.kp_tool.proofs.Watches.{watched}
 
 sim_says : (n : ℕ) (input : List ℕ) (job : Job) (answer : List ℕ) → Judges input (Ok job) → DueFor (Some (OnJob (Sim n))) input 0 answer → answer ≡ sim_text n job
 sim_says n input job answer judged (Ok other, judged_too, said) =

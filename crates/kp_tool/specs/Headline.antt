@@ -14,16 +14,13 @@ use Rattle.kp_machine.specs.Machine.{machine_of, state_of, start_hints, pipe_of,
 use Rattle.kp_net.specs.Netlist.{Net, Input, State, state_after, last_of}
 use Rattle.kp_sched.specs.{Runs.due_value, Naming.module_name, Naming.value_shown, Traces.trace_of, Traces.inputs_seen, Traces.AreQuiet}
 use Rattle.kp_sched.specs.{Shows.IsOfJob, Shows.HasOutputs, Anew.trace_from, Anew.left_by_reset, Anew.HasMemory, Anew.BeginsAnew}
-use Rattle.kp_vlog.specs.Denote.{Denotes}
-use Rattle.kp_vlog.specs.Splitting.{FirstEnds}
+use Rattle.kp_vlog.specs.{Denote.Denotes, Splitting.FirstEnds}
 use Rattle.kp_equiv.specs.{declared.verdict.Verdict.TheVariants.Same, Runs.RunAlike, Showing.renamed, Showing.ShowsButName, Texts.verdict_line}
 use Rattle.kp_frontend.specs.Judging.{Judges, JudgesHead, broken_in}
-use Rattle.kp_debug_report.specs.{declared.command.Command.Command, Scripts.script_of}
-use Rattle.kp_debug_report.specs.Inspecting.{all_cycles, printed}
+use Rattle.kp_debug_report.specs.{declared.command.Command.Command, Scripts.script_of, Inspecting.all_cycles, Inspecting.printed}
 use Rattle.kp_run.specs.Cycles.{own_trace}
-use Rattle.kp_tool_report.specs.Runs.{run_text}
+use Rattle.kp_tool_report.specs.{Runs.run_text, Line.totals_of, Line.totals_line}
 use Rattle.kp_gen.specs.Generated.{gen_job}
-use Rattle.kp_tool_report.specs.Line.{totals_of, totals_line}
 use Rattle.kp_vcd.specs.Held.{held, Changes}
 use Rattle.kp_watch.specs.Dumps.{own_run, values_at, vcd_dump, vcd_text}
 use Rattle.kp_timing.specs.Lines.{timing_text}

@@ -10,9 +10,8 @@ ghost use Rattle.kp_tool.specs.{Due.DueFor, Scripted.DueOfScriptHead, Ends.Ends,
 use crate::failure::Failure;
 use crate::outcome::{Outcome, finish};
 use kp_base::{NoMemory, Refused, Sink, SinkFault};
-use kp_debug_report::Inspection;
 use kp_debug_report::laws::a_script_is_of_its_job;
-use kp_debug_report::{Command, read_script};
+use kp_debug_report::{Command, Inspection, read_script};
 use kp_frontend::{Accepted, Head, judge_head};
 use kp_net::Netlist;
 use kp_synth::synth;

@@ -6,9 +6,8 @@ use Rattle.kp_ast.specs.declared.tree.Job.{Job}
 use Rattle.kp_machine.specs.Machine.{inputs_from, pipe_of}
 use Rattle.kp_sched.{specs.Rows.rows_seen, specs.Runs.due_value, proofs.Counting.seen_length}
 use Rattle.kp_run.specs.Boards.{due_behind}
-use Rattle.kp_tool_report.proofs.Sims.{rows_many}
+use Rattle.kp_tool_report.{proofs.Sims.rows_many, specs.Line.totals_of, specs.Line.totals_line, specs.Line.gen_text}
 use Rattle.kp_gen.specs.Generated.{gen_job}
-use Rattle.kp_tool_report.specs.Line.{totals_of, totals_line, gen_text}
 
 pub run_is_generated : (number n : ℕ) (rows : List Row) → rows_seen (gen_job number).stages.value rows ≡ (pipe_of (gen_job number) (inputs_from (gen_job number) 0 n)).rows
     → totals_line number (totals_of (gen_job number) (rows_seen (gen_job number).stages.value rows) (due_behind (gen_job number) rows)) ≡ gen_text number n

@@ -2,8 +2,7 @@
 use Rattle.std.proofs.Common.{◌≡◌, ◌∙◌, ℕ, ◌+◌, ◌*◌, ◌/◌, ◌%◌, ◌^◌, ◌<◌, ◌≤◌, List, ◌∷◌, length, get_or, drop, ap, sym, arith}
 use Rattle.std.proofs.{Math.Nat.mod-add-div, Math.Nat.add-mul-mod_self_left, lemmas.List.drop_more, lemmas.List.drop_all}
 use Rattle.kp_ast.specs.declared.tree.Decl.{Decl}
-use Rattle.kp_tool_report.specs.States.{State, targets_in}
-use Rattle.kp_tool_report.specs.Line.{summand, registers_sum}
+use Rattle.kp_tool_report.specs.{States.State, States.targets_in, Line.summand, Line.registers_sum}
 
 pub mod_in_sum : (a b m : ℕ) → (a % m + b) % m ≡ (a + b) % m
 mod_in_sum a b m =

@@ -7,9 +7,8 @@ use Rattle.kp_pipeline.specs.Rows.{Row, passed}
 use Rattle.kp_stage.specs.Counts.{summary_of}
 use Rattle.kp_machine.specs.Machine.{pipe_of, inputs_from}
 use Rattle.kp_sched.specs.Runs.{due_value}
-use Rattle.kp_tool_report.specs.{Runs.counts_behind, States.State, States.targets_in}
+use Rattle.kp_tool_report.specs.{Runs.counts_behind, States.State, States.targets_in, declared.line.Totals.Totals}
 use Rattle.kp_gen.specs.Generated.{gen_job}
-use Rattle.kp_tool_report.specs.declared.line.Totals.{Totals}
 
 -- the value that a declaration adds to the sum: that of a register, and otherwise 0
 abbrev pub summand : Decl → ℕ → ℕ

@@ -6,8 +6,7 @@ use Rattle.kp_stage.specs.Facts.{stmts_in}
 use Rattle.kp_pipeline.specs.Sequential.{before_stage, is_written}
 use Rattle.kp_machine.specs.{Machine.address_in, Machine.enabled_of, Machine.is_enabled_by, Machine.machine_of, Machine.result_for, Slots.pipes_of}
 use Rattle.kp_machine.proofs.Cases.{by_option}
-use Rattle.kp_view_findings.specs.Claims.{Sets, UnsetIsZero, instruction_at}
-use Rattle.kp_view_findings.proofs.Steps.{begins, ends}
+use Rattle.kp_view_findings.{specs.Claims.Sets, specs.Claims.UnsetIsZero, specs.Claims.instruction_at, proofs.Steps.begins, proofs.Steps.ends}
 
 module _ (job : Job) (s : ℕ → ℕ → ℕ) (q : ℕ → ℕ) (t : ℕ) (none : (k j : ℕ) → Sets job s q k j t → ⊥) where
   unset_at : (k j : ℕ) → (before_stage (machine_of job) s q k).results t ≡ None → (instruction_at job s q k j).results t ≡ None

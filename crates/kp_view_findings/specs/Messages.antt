@@ -1,7 +1,8 @@
 -- What is appended to a report: a line with a message, and what is shown of the text at its place.
 use Rattle.std.specs.Prelude.{◌≡◌, ℕ, ◌-◌, List, [], ◌∷◌, ◌++◌, Option, IfSome, codes, decimal}
 use Rattle.kp_base.specs.declared.place.Place.{Place}
-use Rattle.kp_view_excerpt.specs.{Excerpts.IsExcerpt, Excerpts.excerpt_text, Lines.from_place, Lines.line_at, Tokens.token_length, declared.excerpt.Excerpt.Excerpt}
+use Rattle.kp_view_excerpt.specs.{Excerpts.IsExcerpt, Excerpts.excerpt_text, Lines.from_place, Lines.line_at, Tokens.token_length}
+use Rattle.kp_view_excerpt.specs.declared.excerpt.Excerpt.{Excerpt}
 
 -- The new text is the old one, a line with the text of a message, where that is known, and what follows it.
 abbrev pub AppendsMessage : List ℕ → List ℕ → Option (List ℕ) → Type 0

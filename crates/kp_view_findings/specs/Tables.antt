@@ -1,5 +1,6 @@
 -- What is noted of each name.
-use Rattle.std.specs.{Prelude.ℕ, Prelude.List, Prelude.Option, Prelude.Some, Prelude.if◌then◌else◌, Prelude.is_some, Prelude.nat_eq, Cmp.Lexicographic.pointwise, Map.lookup}
+use Rattle.std.specs.Prelude.{ℕ, List, Option, Some, if◌then◌else◌, is_some, nat_eq}
+use Rattle.std.specs.{Cmp.Lexicographic.pointwise, Map.lookup}
 
 -- what a table has for a name
 abbrev pub value_of : {V : Type 0} → List (List ℕ × V) → List ℕ → Option V

@@ -11,11 +11,10 @@ use Rattle.kp_net.specs.Widths.{wide, KindOk}
 use Rattle.kp_net.specs.declared.node.Kind.TheVariants as kinds
 use Rattle.kp_vlog.specs.Denote.{node_of, source_of, kind_of, Made, with_item, made_by, output_of, start_of, next_of, word_init, words_of, port_of, regs_of, files_of, sample_of, parts_of, net_of}
 use Rattle.kp_vlog.specs.Scope.{or_zero, address_width, Scope, scope_of, Sized, Sizes, sizes_of, item_sizes, width_in, address_in, place_of, reg_names, file_names}
-use Rattle.kp_vlog.specs.declared.tree.{Range.Range, Named.Named, VPort.VPort, Right.Right, Item.Item, ResetList.ResetList, VModule.VModule}
-use Rattle.kp_vlog.specs.Canon.{wire, wire_name}
 use Rattle.kp_vlog.proofs.Sentence.{ShowsEach, none_shown, one_shown, sample_port, reg_item, file_item, reg_start, reg_update, named_at, range_at, ShowsNames, no_name, a_name, ShowsRight, a_sample, a_reg, a_word, a_not, a_binary, a_mux, a_concat, a_slice, ShowsInteger, no_integer, an_integer, ShowsNodes, no_node_line, node_line, ShowsReset, no_reset_shown, reset_shown, Shown, outs, module_of}
 use Rattle.kp_vlog.proofs.SameNet.{words_are, address_is, ported, ports_are, found, width_found, address_found, found_past, sized, port_sized, reg_sized, file_sized, range_back, samples_sized, each_past, each_found, WidthsAre, nodes_sized}
-use Rattle.kp_vlog.proofs.Each.{past_each, map_each, found_each}
+use Rattle.kp_vlog.specs.declared.tree.{Range.Range, Named.Named, VPort.VPort, Right.Right, Item.Item, ResetList.ResetList, VModule.VModule}
+use Rattle.kp_vlog.{specs.Canon.wire, specs.Canon.wire_name, proofs.Each.past_each, proofs.Each.map_each, proofs.Each.found_each}
 use Rattle.kp_vlog.proofs.Distinct.{apart, tag, tag_reg, tag_file, tag_sample, tag_wire, place_at, wires_to, wire_place}
 use Rattle.kp_vlog.proofs.Written.{RightFrom, all_right}
 use Rattle.kp_vlog.specs.declared.tree.Right.TheVariants as sides

@@ -4,12 +4,11 @@ use Rattle.std.proofs.lemmas.{Bool.cases_lt, Bool.and_from, Bool.or_left, Bool.o
 use Rattle.std.specs.{Prelude.codes, Prelude.All, Prelude.◌||◌, Prelude.not, Option.is_some}
 use Rattle.kp_net.specs.declared.{node.Node.Node, netlist.NetReg.NetReg, netlist.NetFile.NetFile, netlist.Parts.Parts}
 use Rattle.kp_net.specs.{Names.same, Names.among, Netlist.Net}
+use Rattle.kp_vlog.proofs.Sentence.{ShowsEach, none_shown, one_shown, reg_item, file_item, reg_start, reset_value, reg_update, ShowsNodes, no_node_line, node_line, ShowsWords, no_words, zero_word, some_word, ShowsFills, no_fill, a_fill, ShowsReset, no_reset_shown, reset_shown, Shown, outs, module_of}
 use Rattle.kp_vlog.specs.{Occurrences.declares_reg, declared.tree.Named.Named, declared.tree.ResetList.ResetList, declared.tree.ResetValue.ResetValue}
 use Rattle.kp_vlog.specs.{declared.tree.Item.Item, declared.tree.Init.Init, Canon.wire_name}
 use Rattle.kp_vlog.specs.Rules.{Driven, nothing, all_driven, items_given, inits_started, inits_filled, updates_updated, reset_values, driver_fits}
-use Rattle.kp_vlog.proofs.Tests.{same_refl}
-use Rattle.kp_vlog.proofs.Sentence.{ShowsEach, none_shown, one_shown, reg_item, file_item, reg_start, reset_value, reg_update, ShowsNodes, no_node_line, node_line, ShowsWords, no_words, zero_word, some_word, ShowsFills, no_fill, a_fill, ShowsReset, no_reset_shown, reset_shown, Shown, outs, module_of}
-use Rattle.kp_vlog.proofs.{Each.past_each, Each.among_each, Denoted.past_integer}
+use Rattle.kp_vlog.proofs.{Tests.same_refl, Each.past_each, Each.among_each, Denoted.past_integer}
 
 values_driven : (rs : List NetReg) (xs : List ResetValue) → ShowsEach reset_value rs xs → All (λ r. among (map (λ x. x.name.name) xs) r.name ≡ true) rs
 values_driven _ _ none_shown = All-nil (λ (r : NetReg). among [] r.name ≡ true)

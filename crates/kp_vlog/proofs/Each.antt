@@ -4,8 +4,7 @@ use Rattle.std.proofs.lemmas.Bool.{cond-true, cond-false, or_left, or_right}
 use Rattle.std.proofs.lemmas.List.Elements.{All-nil, All-cons, All-head, All-tail}
 use Rattle.std.specs.Prelude.{All, if◌then◌else◌}
 use Rattle.kp_net.specs.Names.{same, among, Differ}
-use Rattle.kp_vlog.proofs.Tests.{same_refl}
-use Rattle.kp_vlog.proofs.{Sentence.ShowsEach, Sentence.none_shown, Sentence.one_shown, Distinct.apart_all}
+use Rattle.kp_vlog.proofs.{Tests.same_refl, Sentence.ShowsEach, Sentence.none_shown, Sentence.one_shown, Distinct.apart_all}
 
 module _ {X Y : Type 0} (make : X → (ℕ → ℕ) → Y) where
   -- what passes over each of them passes over all

@@ -9,12 +9,12 @@ use Rattle.kp_net.specs.Parts.{no_port, no_reg, no_file, WriteOk, RegOk, FileOk,
 use Rattle.kp_net.specs.Widths.{KindOk, wide}
 use Rattle.kp_base.specs.Characters.{is_digit}
 use Rattle.kp_vlog.specs.Occurrences.{Occurrence, occurs, declares_port, uses_source, uses_wire, uses_port, is_given, wires_used, right_names, items_names, inits_names, values_names, reset_names, updates_names, samples_names, reset_port_names, wide_port_names, body_names, names, start_in, is_literal, declares_reg}
+use Rattle.kp_vlog.proofs.Sentence.{ShowsEach, none_shown, one_shown, sample_port, reg_item, file_item, reg_start, reset_value, reg_update, named_at, ShowsNames, no_name, a_name, ShowsRight, a_const, an_ext, a_sample, a_reg, a_word, a_not, a_binary, a_mux, a_concat, a_slice, ShowsInteger, no_integer, an_integer, ShowsNodes, no_node_line, node_line, ShowsWords, no_words, zero_word, some_word, ShowsFills, no_fill, a_fill, ShowsWrites, no_write, not_written, a_write, ShowsReset, no_reset_shown, reset_shown, Shown, outs, module_of}
 use Rattle.kp_vlog.specs.Rules.{name_fits, learns, bad_name, Driven, nothing, drives, all_driven, driver_fits, bad_driver, module_driver}
 use Rattle.kp_vlog.specs.declared.tree.{Named.Named, ResetList.ResetList, ResetValue.ResetValue, VPort.VPort, Right.Right, Item.Item, Init.Init, Update.Update}
 use Rattle.kp_vlog.{specs.Canon.wire, specs.Canon.wire_name, specs.Scope.is_wire_name, proofs.Tests.same_refl}
-use Rattle.kp_vlog.proofs.Sentence.{ShowsEach, none_shown, one_shown, sample_port, reg_item, file_item, reg_start, reset_value, reg_update, named_at, ShowsNames, no_name, a_name, ShowsRight, a_const, an_ext, a_sample, a_reg, a_word, a_not, a_binary, a_mux, a_concat, a_slice, ShowsInteger, no_integer, an_integer, ShowsNodes, no_node_line, node_line, ShowsWords, no_words, zero_word, some_word, ShowsFills, no_fill, a_fill, ShowsWrites, no_write, not_written, a_write, ShowsReset, no_reset_shown, reset_shown, Shown, outs, module_of}
-use Rattle.kp_vlog.proofs.Distinct.{apart, tag, tag_wire, wires_differ, apart_all}
-use Rattle.kp_vlog.proofs.{Written.RightFrom, Written.all_right, Runs.Led, Runs.decimal_led, Runs.decimal_names, Runs.all_of, Runs.literal_for}
+use Rattle.kp_vlog.proofs.{Distinct.apart, Distinct.tag, Distinct.tag_wire, Distinct.wires_differ, Distinct.apart_all, Written.RightFrom, Written.all_right}
+use Rattle.kp_vlog.proofs.Runs.{Led, decimal_led, decimal_names, all_of, literal_for}
 use Rattle.kp_vlog.proofs.{Denoted.spelled, Denoted.samples_tagged, Denoted.regs_tagged, Denoted.files_tagged, Drives.DrivesAll, Drives.drives_all}
 use Rattle.kp_vlog.proofs.Each.{found_each}
 

@@ -14,8 +14,7 @@ use Rattle.kp_bits.proofs.RoundTrips.{spelling_read}
 use Rattle.kp_net.specs.Names.{is_in_identifier}
 use Rattle.kp_base.specs.Characters.{is_digit, run_length, is_letter}
 use Rattle.kp_vlog.specs.Tokens.{Word, name, number, literal, takes, broken, front, is_in_run, identifier, keyword_or_name, number_run, number_or_literal, literal_or_broken, is_layout, begins_with, Front}
-use Rattle.kp_vlog.specs.Words.{keyword_of}
-use Rattle.kp_vlog.proofs.Lex.{Spells, spells_takes}
+use Rattle.kp_vlog.{specs.Words.keyword_of, proofs.Lex.Spells, proofs.Lex.spells_takes}
 
 -- a test is true of each byte
 abbrev pub Each : (ℕ → Bool) → List ℕ → Type 0

@@ -6,12 +6,12 @@ use Rattle.std.proofs.lemmas.List.Elements.{All-nil, All-cons, All-head, All-tai
 use Rattle.std.specs.Prelude.{All, fold, replicate, ◌==◌, ◌||◌, if◌then◌else◌}
 use Rattle.kp_net.specs.declared.{node.Node.Node, netlist.Port.Port, netlist.WritePort.WritePort, netlist.NetReg.NetReg, netlist.NetFile.NetFile}
 use Rattle.kp_net.specs.{declared.netlist.Parts.Parts, Names.same, Names.among, Names.Differ, Netlist.Net, Parts.PortOk}
+use Rattle.kp_vlog.proofs.Sentence.{ShowsEach, none_shown, one_shown, sample_port, fill_at, write_at, ShowsNodes, no_node_line, node_line, ShowsWords, no_words, zero_word, some_word, ShowsFills, no_fill, a_fill, ShowsWrites, no_write, not_written, a_write}
 use Rattle.kp_vlog.specs.{declared.tree.VPort.VPort, declared.tree.Item.Item, declared.tree.Init.Init, declared.tree.Update.Update, Canon.wire, Canon.wire_name}
 use Rattle.kp_vlog.specs.Scope.{Sized, Sizes, item_sizes, port_size, width_in, address_in, place_of, address_width, or_zero}
 use Rattle.kp_vlog.{specs.Denote.word_init, specs.Denote.port_of, proofs.Tests.same_refl}
-use Rattle.kp_vlog.specs.declared.tree.Init.TheVariants as starts
-use Rattle.kp_vlog.proofs.Sentence.{ShowsEach, none_shown, one_shown, sample_port, fill_at, write_at, ShowsNodes, no_node_line, node_line, ShowsWords, no_words, zero_word, some_word, ShowsFills, no_fill, a_fill, ShowsWrites, no_write, not_written, a_write}
 use Rattle.kp_vlog.proofs.{Distinct.apart, Distinct.tag, Distinct.wires_differ, Distinct.apart_all, Distinct.or_rest, Written.RightFrom}
+use Rattle.kp_vlog.specs.declared.tree.Init.TheVariants as starts
 
 -- The words of a file: the fill, and then each word that is not 0.
 

@@ -11,17 +11,16 @@ use Rattle.kp_net.specs.declared.node.Kind.TheVariants as kinds
 use Rattle.kp_vlog.specs.declared.token.Keyword.TheVariants as keywords
 use Rattle.kp_vlog.specs.declared.token.Mark.TheVariants as marks
 use Rattle.kp_vlog.specs.Language.{Value, Sym, make_concat, MODULE, SAMPLES, ITEMS, RIGHT, NAMES, INITS, BODY, VALUES, UPDATES, verilog}
+use Rattle.kp_vlog.proofs.Words.{port_words, each_words, reset_words, sample_words, outs_words, reg_words, file_words, integer_words, sign_mark, more_words, joined_words, right_words, node_words, out_words, start_words, content_words, fill_words, update_words, write_words, writes_words, value_words, body_words, w1, w2, w3, w4, w5, w6, w7, w8, net_words}
 use Rattle.kp_vlog.specs.declared.tree.{Num.Num, Lit.Lit, Named.Named, Range.Range, VPort.VPort, Right.Right, Item.Item, Fill.Fill, Init.Init}
 use Rattle.kp_vlog.specs.declared.tree.{ResetValue.ResetValue, ResetList.ResetList, Update.Update, VModule.VModule}
 use Rattle.kp_vlog.specs.{Tokens.Word, Tokens.Token, Tokens.name, Tokens.number, Tokens.literal, Tokens.keyword, Tokens.mark, inner.Follow.tables}
-use Rattle.kp_vlog.specs.Canon.{wire, wire_name}
+use Rattle.kp_vlog.{specs.Canon.wire, specs.Canon.wire_name, proofs.Lex.placed, proofs.Runs.literal_for, proofs.Written.RightFrom}
 use Rattle.kp_vlog.specs.declared.tree.Right.TheVariants as sides
 use Rattle.kp_vlog.specs.declared.tree.Item.TheVariants as lines
 use Rattle.kp_vlog.specs.declared.tree.Init.TheVariants as starts
 use Rattle.kp_vlog.specs.declared.tree.Update.TheVariants as edges
 use Rattle.kp_vlog.specs.Language as lang
-use Rattle.kp_vlog.proofs.Words.{port_words, each_words, reset_words, sample_words, outs_words, reg_words, file_words, integer_words, sign_mark, more_words, joined_words, right_words, node_words, out_words, start_words, content_words, fill_words, update_words, write_words, writes_words, value_words, body_words, w1, w2, w3, w4, w5, w6, w7, w8, net_words}
-use Rattle.kp_vlog.proofs.{Lex.placed, Runs.literal_for, Written.RightFrom}
 
 -- a supply of offsets further on
 abbrev pub shift : ℕ → (ℕ → ℕ) → ℕ → ℕ

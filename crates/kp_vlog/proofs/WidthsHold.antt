@@ -10,10 +10,10 @@ use Rattle.kp_net.specs.{Names.IsNamed, Netlist.Net}
 use Rattle.kp_net.specs.Parts.{no_port, no_reg, no_file, WriteOk, PortOk, RegOk, FileOk, CellOk, NetOk}
 use Rattle.kp_net.specs.Widths.{wide, no_node, KindOk, BinaryOk}
 use Rattle.kp_vlog.specs.Rules.{want, range_fits, stall_fits, four_bits, words_fit, literal_fits, op_fits, width_sum, right_fits, right_answers, file_fits, items_answers, start_answers, loop_fits, inits_answers, reset_values, values_answers, updates_answers, ports_answers, header_answers, width_answers}
+use Rattle.kp_vlog.proofs.Sentence.{ShowsEach, none_shown, one_shown, sample_port, reg_item, file_item, reg_start, reset_value, reg_update, named_at, number_at, range_at, fill_at, ShowsNames, no_name, a_name, ShowsRight, a_const, an_ext, a_sample, a_reg, a_word, a_not, a_binary, a_mux, a_concat, a_slice, ShowsInteger, no_integer, an_integer, ShowsNodes, no_node_line, node_line, ShowsWords, no_words, zero_word, some_word, ShowsFills, no_fill, a_fill, ShowsWrites, no_write, not_written, a_write, ShowsReset, no_reset_shown, reset_shown, Shown, outs, module_of}
 use Rattle.kp_vlog.specs.declared.tree.{Named.Named, ResetList.ResetList, ResetValue.ResetValue, VPort.VPort, Right.Right, Item.Item, Init.Init, Update.Update}
 use Rattle.kp_vlog.specs.Canon.{wire, wire_name}
 use Rattle.kp_vlog.specs.Scope.{Scope, scope_of, Sized, Sizes, sizes_of, width_in, address_in, place_of, address_width}
-use Rattle.kp_vlog.proofs.Sentence.{ShowsEach, none_shown, one_shown, sample_port, reg_item, file_item, reg_start, reset_value, reg_update, named_at, number_at, range_at, fill_at, ShowsNames, no_name, a_name, ShowsRight, a_const, an_ext, a_sample, a_reg, a_word, a_not, a_binary, a_mux, a_concat, a_slice, ShowsInteger, no_integer, an_integer, ShowsNodes, no_node_line, node_line, ShowsWords, no_words, zero_word, some_word, ShowsFills, no_fill, a_fill, ShowsWrites, no_write, not_written, a_write, ShowsReset, no_reset_shown, reset_shown, Shown, outs, module_of}
 use Rattle.kp_vlog.proofs.{Written.RightFrom, Written.all_right, Distinct.apart, Distinct.tag, Distinct.place_at, Distinct.or_rest}
 use Rattle.kp_vlog.proofs.Denoted.{samples_tagged, regs_tagged, module_table, widths_are, file_sizes, scoped, table_is, ports_past}
 use Rattle.kp_vlog.proofs.Runs.{literal_for}

@@ -6,9 +6,9 @@ use Rattle.kp_net.specs.{declared.netlist.NetFile.NetFile, declared.netlist.Part
 use Rattle.kp_net.specs.declared.node.Kind.TheVariants as kinds
 use Rattle.kp_vlog.specs.declared.token.{Keyword.Keyword, Mark.Mark}
 use Rattle.kp_vlog.specs.{Tokens.Word, Tokens.name, Tokens.number, Tokens.literal, Tokens.keyword, Tokens.mark, Canon.wire, Canon.wire_name}
+use Rattle.kp_vlog.proofs.Runs.{literal_for}
 use Rattle.kp_vlog.specs.declared.token.Keyword.TheVariants as keywords
 use Rattle.kp_vlog.specs.declared.token.Mark.TheVariants as marks
-use Rattle.kp_vlog.proofs.Runs.{literal_for}
 
 abbrev pub range_words : ℕ → List Word → List Word
 range_words w ws = mark marks.OpenBracket ∷ number (w - 1) ∷ mark marks.Colon ∷ number 0 ∷ mark marks.CloseBracket ∷ ws

@@ -3,7 +3,8 @@ use Rattle.std.proofs.Common.{ℕ, ◌≡◌, ◌≤◌, ◌+◌, List, [], ◌�
 use Rattle.std.proofs.lemmas.Result.{err_from_is_err_and}
 use Rattle.kp_base.specs.GrammarMachine.{Outcome, Accepts, Stops, accept, more}
 use Rattle.kp_vlog.specs.{Tokens.Token, Language.Sym, Language.Value}
-use Rattle.kp_vread_parse.specs.{declared.fault.Fault.Fault, inner.Reading.Goes, inner.Reading.FaultIs, inner.Reading.Faults, inner.Reading.Turns, inner.Reading.Ends}
+use Rattle.kp_vread_parse.specs.declared.fault.Fault.{Fault}
+use Rattle.kp_vread_parse.specs.inner.Reading.{Goes, FaultIs, Faults, Turns, Ends}
 use Rattle.kp_vread_parse.specs.declared.fault.Fault.TheVariants as faults
 
 -- A fault of a part is one of the text that contains it, if the machine reaches the part.

@@ -1,16 +1,16 @@
 -- The token with a given number.
 use Rattle.std.proofs.Common.{ℕ, ◌≡◌, ◌==◌, ◌<◌, ◌≤◌, ◌+◌, ◌-◌, List, [], ◌∷◌, ◌++◌, length, drop, take, map, get_or, Bool, true, false, refl, sym, ap, subst, ◌∙◌, arith}
-use Rattle.std.{proofs.lemmas.Bool.Decides.nat_tests, proofs.lemmas.List.drop_more, proofs.lemmas.List.drop_all, proofs.lemmas.List.drop-map, specs.Prelude.slice_index_or}
+use Rattle.std.proofs.lemmas.{Bool.Decides.nat_tests, List.drop_more, List.drop_all, List.drop-map}
+use Rattle.std.specs.Prelude.{slice_index_or}
 use Rattle.kp_bits.specs.declared.literal.Literal.{Literal}
-use Rattle.kp_base.specs.{Grammar.Terminal, GrammarMachine.Stops, GrammarMachine.look, GrammarMachine.wrong}
-use Rattle.kp_base.proofs.Ways.{took}
+use Rattle.kp_base.{specs.Grammar.Terminal, specs.GrammarMachine.Stops, specs.GrammarMachine.look, specs.GrammarMachine.wrong, proofs.Ways.took}
 use Rattle.kp_vlog.specs.Language.{Way, Sym, Value, ID, NUM, LIT, dropped, named, number, literal, word_class, verilog}
-use Rattle.kp_vlog.specs.{declared.token.VKind.VKind, declared.token.VToken.VToken, Tokens.Token}
-use Rattle.kp_vlog.specs.{Outcome.token_of, Outcome.word_of, inner.Follow.tables}
+use Rattle.kp_vlog.specs.{declared.token.VKind.VKind, declared.token.VToken.VToken, Tokens.Token, Outcome.token_of, Outcome.word_of, inner.Follow.tables}
 use Rattle.kp_vlog.specs.declared.token.Keyword.TheVariants as keywords
 use Rattle.kp_vlog.specs.declared.token.Mark.TheVariants as marks
 use Rattle.kp_vlog.specs.declared.token.VKind.TheVariants as kinds
-use Rattle.kp_vread_parse.specs.{declared.tokens.Fixed.Fixed, inner.Words.class_of, inner.Words.symbol, inner.Reading.Goes, inner.Reading.class_at, inner.Reading.never, inner.Reading.Turns, inner.Reading.TurnsYet}
+use Rattle.kp_vread_parse.specs.{declared.tokens.Fixed.Fixed, inner.Words.class_of, inner.Words.symbol}
+use Rattle.kp_vread_parse.specs.inner.Reading.{Goes, class_at, never, Turns, TurnsYet}
 use Rattle.kp_vread_parse.specs.declared.tokens.Fixed.TheVariants as fixed
 
 -- the class of a token of this kind

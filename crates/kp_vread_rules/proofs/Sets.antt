@@ -2,8 +2,7 @@
 use Rattle.std.proofs.Common.{◌≡◌, ◌∙◌, ℕ, List, [], ◌∷◌, Bool, true, false, cond, refl, sym, ap}
 use Rattle.std.specs.{Prelude.◌||◌, Prelude.nat_eq, List.list_any, Cmp.Lexicographic.pointwise}
 use Rattle.kp_net.specs.Names.{same, among}
-use Rattle.kp_vread_rules.specs.inner.Sets.{Adds}
-use Rattle.kp_vread_rules.proofs.StartValues.{turned}
+use Rattle.kp_vread_rules.{specs.inner.Sets.Adds, proofs.StartValues.turned}
 
 pub any_among : (ks : List (List ℕ)) (n : List ℕ) → list_any (λ k. pointwise nat_eq n k) ks ≡ among ks n
 any_among [] n = refl

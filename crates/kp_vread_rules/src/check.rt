@@ -7,13 +7,13 @@ ghost use Rattle.kp_vread_rules.specs.Broken.{IsBroken};
 ghost use Rattle.kp_vread_rules.specs.inner.Refusing.{refusal_at};
 ghost use Rattle.kp_vread_rules.specs.inner.Says.{Says};
 
+use crate::bad_width;
 use crate::driver_rule::check_module_drivers;
 use crate::fault::Fault;
 use crate::name_rule::check_names;
 use crate::names::Names;
 use kp_base::{Refusal, Refused, place_of};
 use kp_vlog::VModule;
-use crate::bad_width;
 use std::alloc::Global;
 
 /// Checks that a module of the text violates none of the rules V3 to V5.

@@ -7,13 +7,13 @@ ghost use Rattle.kp_vread_rules.specs.Tables.{found};
 ghost use Rattle.kp_vread_rules.specs.inner.Listed.{occurrence_of};
 ghost use Rattle.kp_vread_rules.specs.inner.Starting.{values_by};
 
+use crate::Starts;
 use crate::role::{PortName, Role};
 use crate::spelling::is_output;
 use kp_base::NoMemory;
 use kp_bits::Literal;
 use kp_net::Label;
 use kp_vlog::{Fill, Init, Item, Named, ResetList, ResetValue, Right, Update, VModule, VPort};
-use crate::Starts;
 use std::alloc::Global;
 use std::marker::Model;
 

@@ -1,8 +1,7 @@
 -- The lists of lines, each as the texts of its items.
 use Rattle.std.proofs.Common.{◌≡◌, ◌∙◌, ℕ, ◌+◌, ◌-◌, ◌<◌, ◌≤◌, List, [], ◌∷◌, ◌++◌, length, get_or, take, drop, arith, refl, sym, ap, append_assoc}
 use Rattle.std.{proofs.lemmas.List.take_all, specs.Prelude.codes, specs.Prelude.flat_map}
-use Rattle.kp_net.specs.declared.{node.NodeId.NodeId, node.Node.Node, netlist.Port.Port, netlist.NetReg.NetReg}
-use Rattle.kp_net.specs.declared.netlist.{NetFile.NetFile, Parts.Parts}
+use Rattle.kp_net.specs.declared.{node.NodeId.NodeId, node.Node.Node, netlist.Port.Port, netlist.NetReg.NetReg, netlist.NetFile.NetFile, netlist.Parts.Parts}
 use Rattle.kp_vlog.specs.Canon.{text_of, joined, more_parts, wire, sample_ports, reg_lines, file_lines, node_lines, start_lines, word_line, word_lines, fill_lines, update_lines, port_line, port_lines, reset_lines}
 use Rattle.kp_vwrite.specs.inner.Texts.{fixed, ranged_text, sample_text, samples_text, reg_text, regs_text, file_text, files_text, front_text, right_text, nodes_text, numbered, part_text, parts_text, joined_text, value_text, values_text, fill_text, word_text, words_text, contents_text, fills_text, update_text, updates_text, port_text, ports_text}
 

@@ -7,8 +7,7 @@ use Rattle.kp_ast.specs.declared.tree.{Decl.Decl, Job.Job}
 use Rattle.kp_ast.specs.declared.tree.Decl.TheVariants as decls
 use Rattle.kp_width.specs.{Names.nothing, TextOrder.declared_names, Widths.widths_of}
 use Rattle.kp_stage.specs.{Start.start_of, Start.input, Start.AreSamples, Stages.broken_of}
-use Rattle.kp_frontend.specs.Sections.{sections_of}
-use Rattle.kp_frontend.proofs.Given.{starts, rows_fit}
+use Rattle.kp_frontend.{specs.Sections.sections_of, proofs.Given.starts, proofs.Given.rows_fit}
 use Rattle.kp_pipeline.specs.{Machine.Machine, Pipeline.Inputs, Rows.Row, Rows.bit, Rows.one_if, Rows.taken_from, Rows.passed, Sequential.exec, Sequential.seq}
 use Rattle.kp_machine.specs.Machine.{machine_of, state_of, sequential, pipe_of, taken_of, inputs_from, values_in}
 use Rattle.kp_machine.{specs.Slots.targets_of, specs.Slots.pipes_of, specs.Slots.samples_of, proofs.Apart.Apart, proofs.Apart.samples_apart}

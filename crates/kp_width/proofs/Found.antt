@@ -2,8 +2,8 @@
 -- operands of the required widths. A check of the names may be added: if no name in the expression fails it, only the
 -- names that pass need to be known.
 use Rattle.std.proofs.Common.{◌≡◌, ◌≤◌, ◌<◌, ◌+◌, ℕ, List, [], ◌∷◌, map, min, fold, Option, Some, None, Ok, Err, Bool, true, false, cond, length, drop, is_some, not, ◌==◌, ◌||◌, refl, ap, sym, subst, ◌∙◌, arith}
-use Rattle.std.proofs.lemmas.{Bool.cond_both, Bool.eq-eqb, Bool.le-leb, Bool.lt-ltb, Bool.eqb-true, Bool.leb-true, Bool.ltb-true, Bool.and_from, Bool.and_parts, List.length-map}
-use Rattle.std.specs.{Option.option_map, Option.option_and_then, Result.result_ok}
+use Rattle.std.proofs.lemmas.Bool.{cond_both, eq-eqb, le-leb, lt-ltb, eqb-true, leb-true, ltb-true, and_from, and_parts}
+use Rattle.std.{proofs.lemmas.List.length-map, specs.Option.option_map, specs.Option.option_and_then, specs.Result.result_ok}
 use Rattle.kp_base.specs.{First.first, Check.Check, Check.Answer, Check.ok, Check.◌>>=◌, Check.wants, Refusal.e_rule, declared.place.Place.Place}
 use Rattle.kp_bits.specs.Word.{Word, IsWord, not_of, concat_of}
 use Rattle.kp_bits.specs.{declared.literal.LiteralFault.TheVariants.TooBig, declared.literal.LiteralFault.TheVariants.BadWidth, Operators.is_shift}
@@ -16,11 +16,11 @@ use Rattle.kp_ast.proofs.Levels.{fold-Lit, fold-Name, fold-Not, fold-Binary, fol
 use Rattle.kp_ast.proofs.Induction.{Every, induction}
 use Rattle.kp_ast.specs.declared.tree.ExprKind.TheOpen as level
 use Rattle.kp_bits.specs.Operators as operators
-use Rattle.kp_width.specs.Names.{Sense, is_value_in, is_callee, Scoped, find, used, used_as}
 use Rattle.kp_width.specs.Expressions.{Part, is_test, is_width, extension_of, params_of, part_of, width_of, sum_of, arguments_of, is_declared, callee_of, called_of, width_at, value_of}
-use Rattle.kp_width.specs.Soundness.{HasWidth, FitFrom, Suits, AreArguments}
-use Rattle.kp_width.proofs.{Parts.given_parts, Sound.binary_width}
 use Rattle.kp_width.proofs.Unbroken.{Unbroken, first_split, bind_unbroken, answer_unbroken, width-Lit, width-Name, width-Not, width-Binary, width-Mux, width-Concat, width-Slice, width-Zext, width-Sext, width-Call}
+use Rattle.kp_width.specs.Names.{Sense, is_value_in, is_callee, Scoped, find, used, used_as}
+use Rattle.kp_width.{specs.Soundness.HasWidth, specs.Soundness.FitFrom, specs.Soundness.Suits, specs.Soundness.AreArguments, proofs.Parts.given_parts}
+use Rattle.kp_width.proofs.Sound.{binary_width}
 
 -- the first violation of a check of each name that is used as a value, from left to right
 abbrev pub name_kind : (List ℕ → Place → Answer) → ExprKind-F (Place → Answer) Answer → Place → Answer

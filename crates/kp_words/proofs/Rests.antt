@@ -1,8 +1,8 @@
 -- The words after a number: names of stages and a file.
 use Rattle.std.proofs.Common.{◌≡◌, ◌∙◌, ℕ, ◌+◌, ◌-◌, ◌<◌, Bool, cond, true, false, List, [], ◌∷◌, ◌++◌, map, length, take, Option, Some, None, refl, sym, ap, ap₂, arith}
 use Rattle.std.proofs.lemmas.{Option.slice_get-get_or, List.map-append, List.length-map, List.length-append}
-use Rattle.std.proofs.Math.Seq.{take-append_seam, get_or-append_seam}
-use Rattle.std.specs.{Prelude.slice_get, Prelude.option_and_then, List.IsLastAndRest, List.list_all, Option.option_map_or}
+use Rattle.std.{proofs.Math.Seq.take-append_seam, proofs.Math.Seq.get_or-append_seam, specs.Prelude.slice_get, specs.Prelude.option_and_then}
+use Rattle.std.specs.{List.IsLastAndRest, List.list_all, Option.option_map_or}
 use Rattle.kp_words.specs.Words.{Text, file_in, is_file_after, is_name, names_in, run_with}
 
 -- some names, and a last word

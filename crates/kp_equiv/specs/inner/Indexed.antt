@@ -1,5 +1,6 @@
 -- A table of names with their indices.
-use Rattle.std.specs.{Prelude.ℕ, Prelude.◌+◌, Prelude.◌≡◌, Prelude.List, Prelude.[], Prelude.◌∷◌, Prelude.Option, Prelude.None, Prelude.Some, Prelude.cond, Map.lookup}
+use Rattle.std.specs.Prelude.{ℕ, ◌+◌, ◌≡◌, List, [], ◌∷◌, Option, None, Some, cond}
+use Rattle.std.specs.Map.{lookup}
 use Rattle.kp_net.specs.Names.{same}
 
 -- the first index of a name in a list, whose indices are counted from k

@@ -1,9 +1,9 @@
 -- Nodes of two netlists in one table, and the number of each there.
-use Rattle.std.specs.{Prelude.ℕ, Prelude.◌+◌, Prelude.◌<◌, Prelude.◌≤◌, Prelude.◌≡◌, Prelude.min, Prelude.max, Prelude.Bool, Prelude.cond, Prelude.List, Prelude.length, Prelude.map, Prelude.get_or, Prelude.Some, Map.lookup}
+use Rattle.std.specs.Prelude.{ℕ, ◌+◌, ◌<◌, ◌≤◌, ◌≡◌, min, max, Bool, cond, List, length, map, get_or, Some}
+use Rattle.std.specs.Map.{lookup}
 use Rattle.kp_net.specs.declared.node.{NodeId.NodeId, Kind.Kind}
 use Rattle.kp_net.specs.declared.node.Kind.TheVariants.{Const, Ext, Sample, Reg, Word, Not, Binary, Mux, Concat, Slice}
-use Rattle.kp_net.specs.{declared.node.Node.Node, declared.netlist.Parts.Parts, Netlist.Net, Parts.no_port, Parts.no_reg, Parts.no_file}
-use Rattle.kp_net.specs.Widths.{no_node}
+use Rattle.kp_net.specs.{declared.node.Node.Node, declared.netlist.Parts.Parts, Netlist.Net, Parts.no_port, Parts.no_reg, Parts.no_file, Widths.no_node}
 use Rattle.kp_net.specs.contracts.node.NodePartialEq.TheImpl as nodes
 use Rattle.kp_equiv.specs.{Alike.commutes, Classes.place, Classes.no_class, Classes.class_in, Named.reg_names, Named.file_names, Named.sample_names}
 

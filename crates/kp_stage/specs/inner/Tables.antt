@@ -4,8 +4,7 @@ use Rattle.std.specs.{Option.option_or, Map.lookup, Map.update, Cmp.Lexicographi
 use Rattle.kp_ast.specs.declared.tree.{Decl.Decl, Stmt.Stmt, StmtKind.StmtKind, Block.Block}
 use Rattle.kp_ast.specs.declared.tree.Decl.TheVariants as decls
 use Rattle.kp_ast.specs.declared.tree.StmtKind.TheVariants as stmts
-use Rattle.kp_stage.specs.Facts.{At, Facts, where_same, less}
-use Rattle.kp_stage.specs.declared.facts.{OfDecls.OfDecls, OfStmts.OfStmts}
+use Rattle.kp_stage.specs.{Facts.At, Facts.Facts, Facts.where_same, Facts.less, declared.facts.OfDecls.OfDecls, declared.facts.OfStmts.OfStmts}
 use Rattle.kp_stage.specs.declared.facts.Facts as stored
 
 abbrev pub Entries : Type 0 → Type 0

@@ -2,9 +2,9 @@
 use Rattle.std.specs.Prelude.{◌≡◌, ℕ, ◌<◌, ◌≤◌, List, length, get_or, Option, None}
 use Rattle.kp_ast.specs.declared.tree.Job.{Job}
 use Rattle.kp_machine.specs.{Slots.Slot, Slots.targets_of, Slots.pipes_of, Slots.hints_of, Slots.samples_of, Machine.machine_of}
-use Rattle.kp_synth_tables.specs.declared.{tables.Declared.Declared, key.GuessSlot.GuessSlot, key.Key.Key, layout.Port.Port, layout.Sized.Sized, layout.Aimed.Aimed, layout.Piped.Piped}
-use Rattle.kp_synth_tables.specs.{Spans.put_after, Spans.last_use, Keys.target_at, Keys.pipe_at, Keys.hint_at, Keys.sample_at, Keys.guesses_of, Keys.keys_of}
-use Rattle.kp_synth_tables.specs.Fits.{port_at, Fits}
+use Rattle.kp_synth_tables.specs.declared.{tables.Declared.Declared, key.GuessSlot.GuessSlot, key.Key.Key, layout.Port.Port, layout.Sized.Sized}
+use Rattle.kp_synth_tables.specs.{declared.layout.Aimed.Aimed, declared.layout.Piped.Piped, Spans.put_after, Spans.last_use}
+use Rattle.kp_synth_tables.specs.{Keys.target_at, Keys.pipe_at, Keys.hint_at, Keys.sample_at, Keys.guesses_of, Keys.keys_of, Fits.port_at, Fits.Fits}
 
 -- the default for an entry that doesn't exist
 abbrev pub no_size : Sized

@@ -1,9 +1,8 @@
 -- What the front of a text means for the end of its first module, as the code computes it.
 use Rattle.std.specs.Prelude.{Bool, true, false, if◌then◌else◌}
 use Rattle.kp_vlog.specs.declared.token.{Keyword.Keyword, VKind.VKind}
-use Rattle.kp_vlog.specs.Tokens.{Word, keyword, Front, finish, skips, takes, broken}
+use Rattle.kp_vlog.specs.{Tokens.Word, Tokens.keyword, Tokens.Front, Tokens.finish, Tokens.skips, Tokens.takes, Tokens.broken, declared.lead.Lead.Lead}
 use Rattle.kp_vlog.specs.declared.token.VKind.TheVariants as kinds
-use Rattle.kp_vlog.specs.declared.lead.Lead.{Lead}
 use Rattle.kp_vlog.specs.declared.lead.Lead.TheVariants as leads
 
 abbrev pub closes_module : Keyword → Bool

@@ -2,11 +2,10 @@
 use Rattle.std.specs.Prelude.{ℕ, ◌+◌, ◌-◌, ◌^◌, ◌<◌, ◌≤◌, Bool, true, false, List, [], ◌∷◌, ◌++◌, codes, decimal, flat_map, length, get_or, All}
 use Rattle.kp_bits.specs.{Word.word, Word.IsWord, Spelling.spelling}
 use Rattle.kp_net.specs.declared.node.{NodeId.NodeId, Kind.Kind, Kind.TheVariants.Const, Kind.TheVariants.Sample, Kind.TheVariants.Reg, Kind.TheVariants.Word}
-use Rattle.kp_net.specs.declared.{node.Node.Node, netlist.Port.Port, netlist.NetReg.NetReg, netlist.NetFile.NetFile}
-use Rattle.kp_net.specs.{declared.netlist.Parts.Parts, Widths.wide, Widths.no_node, Netlist.Net}
+use Rattle.kp_net.specs.declared.{node.Node.Node, netlist.Port.Port, netlist.NetReg.NetReg, netlist.NetFile.NetFile, netlist.Parts.Parts}
+use Rattle.kp_net.specs.{Widths.wide, Widths.no_node, Netlist.Net}
 use Rattle.kp_vlog.specs.Canon.{text_of, right_side, joined, out_ports, out_line, integer_line, word_line, port_line}
-use Rattle.kp_vwrite.specs.declared.pieces.Piece.{Piece}
-use Rattle.kp_vwrite.specs.declared.pieces.Piece.TheVariants.{Text, Numbered, Literal, Joined}
+use Rattle.kp_vwrite.specs.declared.pieces.Piece.{Piece, TheVariants.Text, TheVariants.Numbered, TheVariants.Literal, TheVariants.Joined}
 
 unfoldable pub joined_text : List NodeId → List ℕ
 joined_text parts = text_of (joined parts)

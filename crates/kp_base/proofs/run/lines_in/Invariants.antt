@@ -1,6 +1,5 @@
 use Rattle.std.proofs.Common.{◌≡◌, ◌≤◌, ◌<◌, ℕ, ◌++◌, false, get_or, map, All}
-use Rattle.kp_base.specs.Lines.{is_break, piece_of, lines_of, IsWithin}
-use Rattle.kp_base.proofs.Splitting.{between}
+use Rattle.kp_base.{specs.Lines.is_break, specs.Lines.piece_of, specs.Lines.lines_of, specs.Lines.IsWithin, proofs.Splitting.between}
 use Rattle.kp_base.proofs.run.lines_in.Given as goal
 
 abbrev pub invariant-loop-i : goal.invariant-loop-i

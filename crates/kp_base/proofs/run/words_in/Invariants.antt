@@ -1,6 +1,5 @@
 use Rattle.std.proofs.Common.{◌≡◌, ◌≤◌, ◌<◌, ℕ, ◌++◌, false, get_or, map, All}
-use Rattle.kp_base.specs.Lines.{is_blank, piece_of, words_of, IsWithin}
-use Rattle.kp_base.proofs.Splitting.{words_left}
+use Rattle.kp_base.{specs.Lines.is_blank, specs.Lines.piece_of, specs.Lines.words_of, specs.Lines.IsWithin, proofs.Splitting.words_left}
 use Rattle.kp_base.proofs.run.words_in.Given as goal
 
 abbrev pub invariant-loop-i : goal.invariant-loop-i

@@ -4,7 +4,7 @@ use Rattle.std.{proofs.lemmas.List.Sums.sum_by_more, proofs.lemmas.List.Sums.sum
 use Rattle.kp_bits.specs.Checked.{checked_literal, checked_joined, checked_slice, checked_zext, checked_sext}
 use Rattle.kp_ast.proofs.Parts.{value_Lit, value_Concat, value_Slice, value_Zext, value_Sext, size_Not, size_Binary, size_Mux, size_Concat, size_Slice, size_Zext, size_Sext, size_Call}
 use Rattle.kp_ast.specs.{Size.Bodies, Size.size, Size.bodies_of, Size.body_size_of, Size.no_bodies, Checked.checked_calls_of}
-use Rattle.kp_net.{proofs.Growing.grown_then, proofs.Growing.grown_more}
+use Rattle.kp_net.proofs.Growing.{grown_then, grown_more}
 use Rattle.kp_build.proofs.Forms.{sound_Not, gives_Not, sound_left, sound_right, fits_Binary, gives_Binary, sound_test, sound_yes, sound_no, fits_Mux, gives_Mux}
 use Rattle.kp_build.proofs.{Lists.grown_same, Lists.element_sound, Lists.none_show, Lists.more_show, Work.steps, Work.work, Work.work_of}
 use Rattle.kp_build.proofs.Names.{still_inside, call_inside}

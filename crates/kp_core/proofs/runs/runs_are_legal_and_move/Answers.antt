@@ -1,6 +1,5 @@
 use Rattle.kp_machine.specs.Machine.{start_hints}
-use Rattle.kp_sched.proofs.{Runs.alike_moves, Runs.alike_stays, Legal.alike_is_legal_from}
-use Rattle.kp_sched.specs.Traces.{inputs_seen}
+use Rattle.kp_sched.{proofs.Runs.alike_moves, proofs.Runs.alike_stays, proofs.Legal.alike_is_legal_from, specs.Traces.inputs_seen}
 use Rattle.kp_core.proofs.Beginning.{shown_along}
 use Rattle.kp_core.proofs.runs.runs_are_legal_and_move.Goals as goal
 

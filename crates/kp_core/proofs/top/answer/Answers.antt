@@ -1,6 +1,5 @@
 use Rattle.std.proofs.Common.{ap}
-use Rattle.kp_core.specs.{Words.asked, Answers.text_said}
-use Rattle.kp_core.proofs.Outcomes.{helped}
+use Rattle.kp_core.{specs.Words.asked, specs.Answers.text_said, proofs.Outcomes.helped}
 use Rattle.kp_core.proofs.top.answer.Goals as goal
 
 pub returns-in-Help-clause-due : goal.returns-in-Help-clause-due

@@ -1,6 +1,5 @@
 use Rattle.std.proofs.Common.{◌≡◌, ◌≢◌, ℕ, List, sym, subst, IfSome, ⊎_elim}
-use Rattle.kp_core.specs.{Words.asked, Answers.text_said, Due.DueFor, Due.Prints}
-use Rattle.kp_core.proofs.Known.{complete}
+use Rattle.kp_core.{specs.Words.asked, specs.Answers.text_said, specs.Due.DueFor, specs.Due.Prints, proofs.Known.complete}
 use Rattle.kp_core.proofs.top.run_core.Goals as goal
 
 pub returns-in-Ok-clause-complete : goal.returns-in-Ok-clause-complete

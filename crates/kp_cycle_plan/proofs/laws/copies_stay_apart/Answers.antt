@@ -1,6 +1,5 @@
 use Rattle.std.proofs.{Common.◌≡◌, Common.◌+◌, Common.◌≤◌, Common.length, Common.arith, Common.⊎_elim, lemmas.List.Edits.length-between}
-use Rattle.kp_cycle_plan.specs.Words.{span_words}
-use Rattle.kp_cycle_plan.proofs.Laid.{laid_below, laid_above}
+use Rattle.kp_cycle_plan.{specs.Words.span_words, proofs.Laid.laid_below, proofs.Laid.laid_above}
 use Rattle.kp_cycle_plan.proofs.laws.copies_stay_apart.Goals as goal
 
 pub returns : goal.returns

@@ -1,6 +1,5 @@
 use Rattle.std.proofs.Common.{ℕ, List, [], get_or, set, ap, ◌∙◌}
-use Rattle.kp_cycle_plan.specs.Storage.{Stored}
-use Rattle.kp_cycle_plan.proofs.Spans.{filled_more}
+use Rattle.kp_cycle_plan.{specs.Storage.Stored, proofs.Spans.filled_more}
 use Rattle.kp_cycle_plan.proofs.memory.fill_file.Goals as goal
 
 pub loop-i-preserved : goal.loop-i-preserved

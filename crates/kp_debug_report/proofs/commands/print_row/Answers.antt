@@ -2,10 +2,9 @@ use Rattle.std.proofs.Common.{◌∙◌, ◌≤◌, ℕ, List, ap, sym, subst, a
 use Rattle.std.specs.Prelude.{option_map}
 use Rattle.kp_base.specs.Bytes.{Writes}
 use Rattle.kp_ast.specs.declared.tree.Job.{Job}
-use Rattle.kp_debug_report.specs.Sessions.{Debugged}
+use Rattle.kp_debug_report.{specs.Sessions.Debugged, specs.Inspecting.row_or_end, proofs.Standing.row_is}
 use Rattle.kp_run.proofs.Machines.{stages_fit}
 use Rattle.kp_sched.specs.Rows.{row_seen}
-use Rattle.kp_debug_report.{specs.Inspecting.row_or_end, proofs.Standing.row_is}
 use Rattle.kp_debug_report.proofs.commands.print_row.Goals as goal
 
 pub overflow_cast-stages : goal.overflow_cast-stages

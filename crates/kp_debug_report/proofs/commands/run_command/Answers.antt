@@ -1,7 +1,6 @@
 use Rattle.std.proofs.Common.{◌∙◌, ap, subst}
 use Rattle.kp_base.specs.Bytes.{Writes}
-use Rattle.kp_debug_report.specs.Sessions.{Debugged}
-use Rattle.kp_debug_report.specs.{Inspecting.reached, Inspecting.printed_by, inner.Standing.run_of}
+use Rattle.kp_debug_report.specs.{Sessions.Debugged, Inspecting.reached, Inspecting.printed_by, inner.Standing.run_of}
 use Rattle.kp_debug_report.proofs.Standing.{under_at, reached_there}
 use Rattle.kp_debug_report.proofs.commands.run_command.Goals as goal
 

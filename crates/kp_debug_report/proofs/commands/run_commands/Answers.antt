@@ -1,9 +1,8 @@
 use Rattle.std.proofs.{Common.◌∙◌, Common.ap, Common.sym, Common.subst, Common.arith, lemmas.Result.err_from_is_err_and, KnownBytes.Appends-nil}
 use Rattle.kp_base.proofs.Bytes.{written_part, rest_whole}
-use Rattle.kp_debug_report.specs.Sessions.{Debugged}
-use Rattle.kp_tool_report.proofs.Lines.{left_is}
-use Rattle.kp_debug_report.specs.{Inspecting.reached, Inspecting.IsOfTargets, inner.Standing.run_of}
+use Rattle.kp_debug_report.specs.{Sessions.Debugged, Inspecting.reached, Inspecting.IsOfTargets, inner.Standing.run_of}
 use Rattle.kp_debug_report.proofs.Standing.{printed_next, printed_end, ends_end, one_command, one_end, under_at, reached_there}
+use Rattle.kp_tool_report.proofs.Lines.{left_is}
 use Rattle.kp_debug_report.proofs.commands.run_commands.Goals as goal
 
 pub run_command-requires-clause-command : goal.run_command-requires-clause-command

@@ -1,6 +1,5 @@
 use Rattle.std.proofs.Common.{◌∙◌, ◌+◌, sym, subst, arith}
-use Rattle.kp_debug_report.specs.Sessions.{Debugged}
-use Rattle.kp_debug_report.specs.inner.Standing.{IsRegisterOf}
+use Rattle.kp_debug_report.specs.{Sessions.Debugged, inner.Standing.IsRegisterOf}
 use Rattle.kp_debug_report.proofs.Standing.{under_at, search_begins, search_goes_on, search_finds, search_ends}
 use Rattle.kp_debug_report.proofs.commands.search.Goals as goal
 

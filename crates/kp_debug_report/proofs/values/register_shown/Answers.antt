@@ -1,6 +1,5 @@
 use Rattle.std.proofs.Common.{◌∙◌}
-use Rattle.kp_debug_report.specs.Sessions.{state_there}
-use Rattle.kp_debug_report.proofs.Places.{register_there, register_value}
+use Rattle.kp_debug_report.{specs.Sessions.state_there, proofs.Places.register_there, proofs.Places.register_value}
 use Rattle.kp_debug_report.proofs.values.register_shown.Goals as goal
 
 pub value-requires : goal.value-requires

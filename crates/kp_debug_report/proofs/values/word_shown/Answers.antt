@@ -1,6 +1,5 @@
 use Rattle.std.proofs.Common.{◌∙◌}
-use Rattle.kp_debug_report.specs.Sessions.{state_there}
-use Rattle.kp_debug_report.proofs.Places.{file_there, address_there, file_value}
+use Rattle.kp_debug_report.{specs.Sessions.state_there, proofs.Places.file_there, proofs.Places.address_there, proofs.Places.file_value}
 use Rattle.kp_debug_report.proofs.values.word_shown.Goals as goal
 
 pub word-requires-clause-file : goal.word-requires-clause-file

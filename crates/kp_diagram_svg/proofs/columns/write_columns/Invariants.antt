@@ -1,7 +1,6 @@
 use Rattle.std.proofs.Common.{drop}
-use Rattle.kp_diagram_text.specs.inner.Writing.{WroteUpTo}
+use Rattle.kp_diagram_text.specs.{inner.Writing.WroteUpTo, Charts.rows_of}
 use Rattle.kp_sched.specs.Rows.{rows_seen}
-use Rattle.kp_diagram_text.specs.Charts.{rows_of}
 use Rattle.kp_diagram_svg.specs.Rows.{columns_text}
 use Rattle.kp_diagram_svg.proofs.columns.write_columns.Given as goal
 

@@ -1,5 +1,4 @@
-use Rattle.std.proofs.Common.{◌+◌, ◌*◌, ◌++◌}
-use Rattle.std.specs.Prelude.{codes}
+use Rattle.std.{proofs.Common.◌+◌, proofs.Common.◌*◌, proofs.Common.◌++◌, specs.Prelude.codes}
 use Rattle.kp_diagram_text.{specs.Losses.account_shown, proofs.InOrder.wrote_as, proofs.InOrder.wrote_next}
 use Rattle.kp_diagram_svg.specs.{Foot.account_words, Foot.legend_looks, Foot.legend_words, Foot.rate_shown, Foot.spent, Sizes.account_left, Sizes.legend_line}
 use Rattle.kp_diagram_svg.proofs.Tables.{foot_is}

@@ -1,6 +1,7 @@
 use Rattle.std.proofs.Common.{◌++◌}
 use Rattle.kp_diagram_text.proofs.InOrder.{wrote_as, wrote_next}
-use Rattle.kp_diagram_svg.specs.{Sizes.height_of, Sizes.width_of, Symbols.canvas, Symbols.caption, Symbols.description, Symbols.grid, Symbols.shapes, Symbols.stages}
+use Rattle.kp_diagram_svg.specs.Sizes.{height_of, width_of}
+use Rattle.kp_diagram_svg.specs.Symbols.{canvas, caption, description, grid, shapes, stages}
 use Rattle.kp_diagram_svg.proofs.Tables.{head_is}
 use Rattle.kp_diagram_svg.proofs.head.write_head.Goals as goal
 

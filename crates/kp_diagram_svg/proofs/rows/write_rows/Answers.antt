@@ -1,4 +1,5 @@
-use Rattle.std.proofs.{Common.◌≡◌, Common.◌∙◌, Common.ℕ, Common.List, Common.take, Common.ap, Common.ap₂, Common.refl, Common.subst, Common.arith, lemmas.List.length-take-le}
+use Rattle.std.proofs.Common.{◌≡◌, ◌∙◌, ℕ, List, take, ap, ap₂, refl, subst, arith}
+use Rattle.std.proofs.lemmas.List.{length-take-le}
 use Rattle.kp_base.specs.declared.row.Row.{Row}
 use Rattle.kp_pipeline.specs.Rows.{counts}
 use Rattle.kp_sched.specs.{Monitors.HasSeen, Rows.rows_seen}

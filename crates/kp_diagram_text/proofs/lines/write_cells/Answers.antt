@@ -1,6 +1,6 @@
 use Rattle.std.proofs.Common.{refl, arith}
-use Rattle.kp_diagram_text.specs.Charts.{ext_of, names_of}
-use Rattle.kp_diagram_text.proofs.{Steps.cells_end, Steps.cells_gone, Steps.cells_next, InOrder.up_next, InOrder.up_end}
+use Rattle.kp_diagram_text.{specs.Charts.ext_of, specs.Charts.names_of, proofs.Steps.cells_end, proofs.Steps.cells_gone, proofs.Steps.cells_next}
+use Rattle.kp_diagram_text.proofs.InOrder.{up_next, up_end}
 use Rattle.kp_diagram_text.proofs.lines.write_cells.Goals as goal
 
 pub returns-in-None : goal.returns-in-None

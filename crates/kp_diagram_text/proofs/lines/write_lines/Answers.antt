@@ -1,8 +1,10 @@
-use Rattle.std.proofs.{Common.◌≡◌, Common.◌∙◌, Common.ℕ, Common.List, Common.take, Common.ap₂, Common.refl, Common.subst, Common.arith, lemmas.List.length-take-le}
+use Rattle.std.proofs.Common.{◌≡◌, ◌∙◌, ℕ, List, take, ap₂, refl, subst, arith}
+use Rattle.std.proofs.lemmas.List.{length-take-le}
 use Rattle.kp_base.specs.declared.row.Row.{Row}
 use Rattle.kp_pipeline.specs.Rows.{counts}
 use Rattle.kp_sched.specs.{Monitors.HasSeen, Rows.rows_seen}
-use Rattle.kp_diagram_text.{specs.Charts.ext_of, specs.Charts.names_of, proofs.Fetches.take_next, proofs.Steps.lines_end, proofs.Steps.lines_next, proofs.InOrder.up_next, proofs.InOrder.up_end}
+use Rattle.kp_diagram_text.{specs.Charts.ext_of, specs.Charts.names_of, proofs.Fetches.take_next, proofs.Steps.lines_end, proofs.Steps.lines_next}
+use Rattle.kp_diagram_text.proofs.InOrder.{up_next, up_end}
 use Rattle.kp_diagram_text.proofs.lines.write_lines.Goals as goal
 
 pub cycle-requires : goal.cycle-requires

@@ -1,5 +1,4 @@
-use Rattle.std.proofs.Common.{append_assoc}
-use Rattle.std.specs.Prelude.{codes}
+use Rattle.std.{proofs.Common.append_assoc, specs.Prelude.codes}
 use Rattle.kp_diagram_text.{specs.Losses.account_shown, specs.Text.losses_text, specs.Text.rate_text, proofs.InOrder.wrote_next}
 use Rattle.kp_diagram_text.proofs.summary.write_account.Goals as goal
 

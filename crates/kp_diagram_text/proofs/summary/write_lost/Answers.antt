@@ -1,7 +1,6 @@
 use Rattle.std.proofs.Common.{◌≡◌, ◌≢◌, ◌∙◌, ℕ, ◌==◌, List, [], ◌++◌, ap, decimal, sym, ne_eqb}
 use Rattle.std.{specs.Prelude.codes, proofs.lemmas.Bool.cond-false}
-use Rattle.kp_diagram_text.specs.Text.{counted, in_column, lost_line, lost_words}
-use Rattle.kp_diagram_text.proofs.InOrder.{wrote_as}
+use Rattle.kp_diagram_text.{specs.Text.counted, specs.Text.in_column, specs.Text.lost_line, specs.Text.lost_words, proofs.InOrder.wrote_as}
 use Rattle.kp_diagram_text.proofs.summary.write_lost.Goals as goal
 
 lost_is : (count : ℕ) (words cause : List ℕ) → count ≢ 0 → words ≡ counted count (codes " cycle  lost to ") (codes " cycles lost to ")

@@ -1,7 +1,6 @@
 use Rattle.std.proofs.Common.{◌≡◌, ◌≢◌, ◌∙◌, ℕ, ◌/◌, ◌%◌, ◌==◌, List, [], ◌++◌, ap, append_assoc, cond, decimal, ltb, sym, ne_eqb}
 use Rattle.std.{specs.Prelude.codes, proofs.lemmas.Bool.cond-false}
-use Rattle.kp_diagram_text.specs.Text.{hundredths, rate, rate_text}
-use Rattle.kp_diagram_text.proofs.InOrder.{wrote_as}
+use Rattle.kp_diagram_text.{specs.Text.hundredths, specs.Text.rate, specs.Text.rate_text, proofs.InOrder.wrote_as}
 use Rattle.kp_diagram_text.proofs.summary.write_rate_line.Goals as goal
 
 split : (a b c : List ℕ) → codes ", " ++ (a ++ (b ++ (c ++ codes " cycles per instruction\n"))) ≡ (codes ", " ++ (((a ++ b) ++ c) ++ codes " cycles per instruction")) ++ codes "\n"

@@ -1,7 +1,6 @@
 use Rattle.std.proofs.Common.{◌≡◌, ◌∙◌, ℕ, List, ◌++◌, ap₂, append_assoc, decimal}
 use Rattle.std.specs.Prelude.{codes}
-use Rattle.kp_diagram_text.specs.Text.{counted, size_text, title}
-use Rattle.kp_diagram_text.proofs.InOrder.{wrote_as}
+use Rattle.kp_diagram_text.{specs.Text.counted, specs.Text.size_text, specs.Text.title, proofs.InOrder.wrote_as}
 use Rattle.kp_diagram_text.proofs.text.write_title.Goals as goal
 
 split : (name a b c : List ℕ) → name ++ (codes ": " ++ (a ++ (codes " stages, " ++ (b ++ (c ++ codes "\n\ninstruction ")))))

@@ -1,6 +1,6 @@
 use Rattle.std.proofs.Common.{length, sym, ap, subst, arith}
-use Rattle.kp_equiv.specs.inner.Shapes.{Numbered, IsTable, Grown}
-use Rattle.kp_equiv.proofs.{Tables.none_numbered, Growing.classes_determine}
+use Rattle.kp_equiv.{specs.inner.Shapes.Numbered, specs.inner.Shapes.IsTable, specs.inner.Shapes.Grown, proofs.Tables.none_numbered}
+use Rattle.kp_equiv.proofs.Growing.{classes_determine}
 use Rattle.kp_equiv.proofs.building.classes_in.Goals as goal
 
 pub classes_of_net-requires-clause-room : goal.classes_of_net-requires-clause-room

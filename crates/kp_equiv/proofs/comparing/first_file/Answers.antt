@@ -1,6 +1,5 @@
 use Rattle.std.proofs.{Common.◌∙◌, Common.sym, Common.arith, lemmas.Bool.false≢true}
-use Rattle.kp_equiv.specs.Agreement.{File}
-use Rattle.kp_equiv.proofs.{Ordered.roots_differ, Ordered.roots_all, Places.memories}
+use Rattle.kp_equiv.{specs.Agreement.File, proofs.Ordered.roots_differ, proofs.Ordered.roots_all, proofs.Places.memories}
 use Rattle.kp_equiv.proofs.comparing.first_file.Goals as goal
 
 pub returns-then-not-file_agrees-clause-first : goal.returns-then-not-file_agrees-clause-first

@@ -1,6 +1,5 @@
 use Rattle.std.proofs.{Common.◌∙◌, Common.sym, Common.arith, lemmas.Bool.false≢true}
-use Rattle.kp_equiv.specs.Agreement.{Register}
-use Rattle.kp_equiv.proofs.{Ordered.roots_differ, Ordered.roots_all, Places.registers}
+use Rattle.kp_equiv.{specs.Agreement.Register, proofs.Ordered.roots_differ, proofs.Ordered.roots_all, proofs.Places.registers}
 use Rattle.kp_equiv.proofs.comparing.first_register.Goals as goal
 
 pub returns-then-not-register_agrees-clause-first : goal.returns-then-not-register_agrees-clause-first

@@ -1,6 +1,5 @@
 use Rattle.std.proofs.Common.{ℕ, List, subst}
-use Rattle.kp_equiv.specs.Sections.{FirstNew}
-use Rattle.kp_equiv.proofs.Listed.{regs_listed}
+use Rattle.kp_equiv.{specs.Sections.FirstNew, proofs.Listed.regs_listed}
 use Rattle.kp_equiv.proofs.comparing.search_second.Goals as goal
 
 pub returns-clause-first : goal.returns-clause-first

@@ -1,9 +1,7 @@
 use Rattle.std.proofs.Common.{◌≡◌, ◌∙◌, ◌+◌, ◌-◌, ℕ, List, cond, Some, drop, length, map, refl, sym, ap, subst, arith}
-use Rattle.std.proofs.lemmas.List.{drop_all}
-use Rattle.std.specs.Map.{lookup}
+use Rattle.std.{proofs.lemmas.List.drop_all, specs.Map.lookup}
 use Rattle.kp_net.specs.Names.{same}
-use Rattle.kp_equiv.specs.inner.Indexed.{HasIndices}
-use Rattle.kp_equiv.proofs.Naming.{one_before}
+use Rattle.kp_equiv.{specs.inner.Indexed.HasIndices, proofs.Naming.one_before}
 use Rattle.kp_equiv.proofs.names.indices_of.Goals as goal
 
 pub names-init : goal.names-init

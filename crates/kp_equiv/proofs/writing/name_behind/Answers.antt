@@ -1,7 +1,6 @@
 use Rattle.std.proofs.Common.{ap, sym, ◌∙◌, arith}
 use Rattle.kp_net.specs.declared.netlist.NetFile.{NetFile}
-use Rattle.kp_equiv.specs.Texts.{root_name}
-use Rattle.kp_equiv.proofs.Counting.{behind_file}
+use Rattle.kp_equiv.{specs.Texts.root_name, proofs.Counting.behind_file}
 use Rattle.kp_equiv.proofs.writing.name_behind.Goals as goal
 
 pub returns-then-place-files : goal.returns-then-place-files

@@ -1,6 +1,5 @@
 use Rattle.std.{proofs.Common.subst, proofs.Common.sym, specs.List.All}
-use Rattle.kp_frontend.specs.Feeds.{FitsFeed}
-use Rattle.kp_frontend.proofs.Feeding.{givens_fit}
+use Rattle.kp_frontend.{specs.Feeds.FitsFeed, proofs.Feeding.givens_fit}
 use Rattle.kp_frontend.proofs.inputs.feed_for.Goals as goal
 
 pub invariant_of-result : goal.invariant_of-result

@@ -2,8 +2,7 @@ use Rattle.std.proofs.Common.{◌≡◌, ◌∙◌, ℕ, ◌+◌, ◌-◌, ◌<�
 use Rattle.std.proofs.{Math.ListN.length-set, lemmas.List.get_or-replicate}
 use Rattle.kp_net.{specs.Nodes.Cells, specs.Nodes.on, specs.Growth.Wire, proofs.Growing.wire_grown, proofs.Growing.grown_then}
 use Rattle.kp_pipeline.{specs.Pipeline.greatest, proofs.Cycle.greatest-bound}
-use Rattle.kp_net_gates.specs.Misses.{node_at, bit_at}
-use Rattle.kp_net_gates.proofs.Greatest.{sweep_step, at_set}
+use Rattle.kp_net_gates.{specs.Misses.node_at, specs.Misses.bit_at, proofs.Greatest.sweep_step, proofs.Greatest.at_set}
 use Rattle.kp_net_gates.proofs.rollback.swept_of.Goals as goal
 
 pub loop-j-init : goal.loop-j-init

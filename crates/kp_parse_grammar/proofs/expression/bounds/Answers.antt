@@ -1,6 +1,5 @@
 use Rattle.std.proofs.Common.{arith}
-use Rattle.kp_parse_grammar.specs.Language.{counts_one}
-use Rattle.kp_parse_grammar.proofs.Steps.{by_dropped, by_counted, one, exits}
+use Rattle.kp_parse_grammar.{specs.Language.counts_one, proofs.Steps.by_dropped, proofs.Steps.by_counted, proofs.Steps.one, proofs.Steps.exits}
 use Rattle.kp_parse_grammar.proofs.expression.bounds.Goals as goal
 
 pub returns-in_err-place-clause-bounds : goal.returns-in_err-place-clause-bounds

@@ -1,6 +1,6 @@
 use Rattle.std.proofs.Common.{arith}
 use Rattle.kp_base.specs.GrammarMachine.{make}
-use Rattle.kp_parse_grammar.{proofs.Steps.exits, proofs.Picks.prim_literal}
+use Rattle.kp_parse_grammar.proofs.{Steps.exits, Picks.prim_literal}
 use Rattle.kp_parse_grammar.proofs.expression.literal.Goals as goal
 
 pub returns-in_err-lit : goal.returns-in_err-lit

@@ -1,6 +1,5 @@
 use Rattle.std.proofs.Common.{◌∷◌}
-use Rattle.kp_parse_grammar.proofs.Steps.{over, exits, exceeds}
-use Rattle.kp_parse_grammar.specs.Language.{at}
+use Rattle.kp_parse_grammar.{proofs.Steps.over, proofs.Steps.exits, proofs.Steps.exceeds, specs.Language.at}
 use Rattle.kp_parse_grammar.proofs.expression.opened.Goals as goal
 
 pub returns-in_err-place : goal.returns-in_err-place

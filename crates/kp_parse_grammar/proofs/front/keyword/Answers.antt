@@ -1,6 +1,5 @@
 use Rattle.std.{proofs.Common.◌∙◌, proofs.Common.ap, specs.Prelude.find, specs.Str.bytes_eq}
-use Rattle.kp_parse_grammar.specs.Words.{spelling}
-use Rattle.kp_parse_grammar.proofs.Lengths.{found_by_length}
+use Rattle.kp_parse_grammar.{specs.Words.spelling, proofs.Lengths.found_by_length}
 use Rattle.kp_parse_grammar.proofs.front.keyword.Goals as goal
 
 pub returns : goal.returns

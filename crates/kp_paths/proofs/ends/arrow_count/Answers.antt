@@ -1,6 +1,6 @@
 use Rattle.std.proofs.Common.{◌≡◌, ◌∙◌, true, false, sym, arith}
-use Rattle.kp_paths.specs.{Table.cell_at, Arrows.is_shown}
-use Rattle.kp_paths.proofs.{PictureSteps.count_next, ends.arrow_count.Goals.then-is_shown, ends.arrow_count.Goals.else-is_shown}
+use Rattle.kp_paths.{specs.Table.cell_at, specs.Arrows.is_shown, proofs.PictureSteps.count_next}
+use Rattle.kp_paths.proofs.ends.arrow_count.Goals.{then-is_shown, else-is_shown}
 use Rattle.kp_paths.proofs.ends.arrow_count.Goals as goal
 
 pub loop-j-preserved : goal.loop-j-preserved

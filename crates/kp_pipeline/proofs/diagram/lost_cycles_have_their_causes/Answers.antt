@@ -1,5 +1,4 @@
-use Rattle.kp_pipeline.specs.Diagram.{Filling}
-use Rattle.kp_pipeline.proofs.Causes.{causes, counted}
+use Rattle.kp_pipeline.{specs.Diagram.Filling, proofs.Causes.causes, proofs.Causes.counted}
 use Rattle.kp_pipeline.proofs.diagram.lost_cycles_have_their_causes.Goals as goal
 
 pub returns-clause-causes : goal.returns-clause-causes

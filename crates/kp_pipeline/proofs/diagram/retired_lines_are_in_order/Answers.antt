@@ -1,5 +1,4 @@
-use Rattle.kp_pipeline.specs.DiagramClaims.{stalls_of}
-use Rattle.kp_pipeline.proofs.Retired.{retired-in_order}
+use Rattle.kp_pipeline.{specs.DiagramClaims.stalls_of, proofs.Retired.retired-in_order}
 use Rattle.kp_pipeline.proofs.diagram.retired_lines_are_in_order.Goals as goal
 
 pub returns : goal.returns

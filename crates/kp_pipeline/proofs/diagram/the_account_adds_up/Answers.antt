@@ -1,5 +1,4 @@
-use Rattle.kp_pipeline.specs.Diagram.{Filling}
-use Rattle.kp_pipeline.proofs.Adding.{adds-up, retired-passed}
+use Rattle.kp_pipeline.{specs.Diagram.Filling, proofs.Adding.adds-up, proofs.Adding.retired-passed}
 use Rattle.kp_pipeline.proofs.diagram.the_account_adds_up.Goals as goal
 
 pub returns-clause-total : goal.returns-clause-total

@@ -1,5 +1,4 @@
-use Rattle.std.specs.Prelude.{◌≡◌}
-use Rattle.std.proofs.Common.{drop}
+use Rattle.std.{specs.Prelude.◌≡◌, proofs.Common.drop}
 use Rattle.kp_pool.specs.inner.Hashes.{row_of}
 use Rattle.kp_pool.proofs.hash.row.Given as goal
 

@@ -1,6 +1,6 @@
 use Rattle.kp_machine.specs.Machine.{start_hints}
-use Rattle.kp_sched.proofs.{Runs.alike_moves, Runs.alike_stays, Legal.alike_is_legal_from}
-use Rattle.kp_sched.specs.{Naming.value_shown, Traces.inputs_seen, Anew.left_by_reset}
+use Rattle.kp_sched.{proofs.Runs.alike_moves, proofs.Runs.alike_stays, proofs.Legal.alike_is_legal_from, specs.Naming.value_shown, specs.Traces.inputs_seen}
+use Rattle.kp_sched.specs.Anew.{left_by_reset}
 use Rattle.kp_sched.proofs.resets.a_netlist_that_begins_anew_is_legal_and_moves.Goals as goal
 
 pub returns-clause-legal : goal.returns-clause-legal

@@ -1,7 +1,7 @@
 use Rattle.std.specs.Prelude.{drop}
 use Rattle.kp_machine.specs.Machine.{start_hints}
-use Rattle.kp_sched.proofs.{Runs.alike_moves, Legal.alike_is_legal_from, Anew.shown_anew}
-use Rattle.kp_sched.specs.{Traces.trace_of, Traces.inputs_seen, Cuts.to_reset, Cuts.begins_with}
+use Rattle.kp_sched.{proofs.Runs.alike_moves, proofs.Legal.alike_is_legal_from, proofs.Anew.shown_anew, specs.Traces.trace_of, specs.Traces.inputs_seen}
+use Rattle.kp_sched.specs.Cuts.{to_reset, begins_with}
 use Rattle.kp_sched.proofs.resets.every_run_is_legal_and_moves_from_its_last_reset_on.Goals as goal
 
 pub returns-clause-legal : goal.returns-clause-legal

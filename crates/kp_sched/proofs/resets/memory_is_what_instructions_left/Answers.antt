@@ -1,6 +1,5 @@
 use Rattle.std.proofs.Common.{◌∙◌, ◌≤◌, length, drop, sym, arith}
-use Rattle.kp_sched.specs.{Traces.trace_of, Cuts.to_reset, Cuts.since}
-use Rattle.kp_sched.proofs.Anew.{last_shown, rows_many}
+use Rattle.kp_sched.{specs.Traces.trace_of, specs.Cuts.to_reset, specs.Cuts.since, proofs.Anew.last_shown, proofs.Anew.rows_many}
 use Rattle.kp_sched.proofs.resets.memory_is_what_instructions_left.Goals as goal
 
 pub returns : goal.returns

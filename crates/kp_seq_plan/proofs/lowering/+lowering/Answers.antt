@@ -1,7 +1,7 @@
 use Rattle.std.proofs.{Common.subst, lemmas.List.take_all}
-use Rattle.kp_seq_plan.specs.{Plans.meaning, inner.Parts.AreTyped}
 use Rattle.kp_seq_plan.proofs.Typing.{out, made, typed_more, joined_first, first_lacks, joined_next, joined_lacks, joined_over, joined_all, args_lack, args_missing, call_lacks, call_gives}
 use Rattle.kp_seq_plan.proofs.Arms.{as_not, as_slice, as_zext, as_sext, arm_word, arm_one, arm_binary, arm_mux, arm_concat, arm_call, lost_one, lost_binary, lost_test, lost_either}
+use Rattle.kp_seq_plan.specs.{Plans.meaning, inner.Parts.AreTyped}
 use Rattle.kp_seq_plan.proofs.lowering.+lowering.Goals as goal
 
 pub typed_of-returns-in-Word : goal.typed_of-returns-in-Word

@@ -1,8 +1,7 @@
 use Rattle.std.proofs.{Common.subst, Common.sym, Common.◌≡◌, Common.IfSome, lemmas.Result.IfOk-weaker}
 use Rattle.kp_bits.specs.declared.operator.BinOp.{BinOp}
-use Rattle.kp_seq_plan.specs.inner.Parts.{Replaces}
+use Rattle.kp_seq_plan.{specs.inner.Parts.Replaces, proofs.Replacing.regrouped}
 use Rattle.kp_seq_plan.specs.declared.code.Code.TheViews as codes
-use Rattle.kp_seq_plan.proofs.Replacing.{regrouped}
 use Rattle.kp_seq_plan.proofs.lowering.grouped.Goals as goal
 
 pub returns-in-Some : goal.returns-in-Some

@@ -1,4 +1,5 @@
-use Rattle.std.proofs.{Common.arith, Common.refl, Common.ap, Common.subst, Common.sym, Common.take, Common.◌≤◌, Common.◌∙◌, lemmas.Result.IfOk-weaker, lemmas.List.take_all, lemmas.List.Sums.sum_by_push}
+use Rattle.std.proofs.{Common.arith, Common.refl, Common.ap, Common.subst, Common.sym, Common.take, Common.◌≤◌, Common.◌∙◌, lemmas.Result.IfOk-weaker}
+use Rattle.std.proofs.lemmas.List.{take_all, Sums.sum_by_push}
 use Rattle.kp_ast.{specs.declared.tree.Decl.Decl, proofs.Weight.weight, proofs.Weight.weight_of}
 use Rattle.kp_ast.specs.declared.tree.Decl.TheVariants as decls
 use Rattle.kp_seq_plan.specs.declared.plan.Plan.TheViews as plans

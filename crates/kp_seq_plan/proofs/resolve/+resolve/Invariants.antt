@@ -1,6 +1,5 @@
 use Rattle.std.proofs.Common.{◌+◌, ◌*◌, max, take}
-use Rattle.kp_ast.specs.declared.tree.ExprKind.TheViews.{size-Expr}
-use Rattle.kp_ast.proofs.Weight.{weight, weight_of}
+use Rattle.kp_ast.{specs.declared.tree.ExprKind.TheViews.size-Expr, proofs.Weight.weight, proofs.Weight.weight_of}
 use Rattle.kp_seq_plan.specs.Plans.{AllMean}
 use Rattle.kp_seq_plan.proofs.resolve.+resolve.Given as goal
 

@@ -1,8 +1,7 @@
 use Rattle.std.proofs.Common.{◌≡◌, ◌∙◌, ℕ, ◌+◌, ◌*◌, ◌<◌, ◌++◌, ◌∷◌, [], List, length, get_or, take, All, sym, subst, refl, ap, arith}
 use Rattle.std.proofs.lemmas.List.{take_more, length_push, Elements.All-nil, Elements.All-push}
 use Rattle.kp_net.{specs.Nodes.on, proofs.Growing.grown_then, proofs.Growing.grown_more}
-use Rattle.kp_net_gates.specs.{declared.rows.Candidate.Candidate, Forward.CandidateOk}
-use Rattle.kp_net_gates.proofs.Standing.{grown_nothing, candidates_grown}
+use Rattle.kp_net_gates.{specs.declared.rows.Candidate.Candidate, specs.Forward.CandidateOk, proofs.Standing.grown_nothing, proofs.Standing.candidates_grown}
 use Rattle.kp_synth_stage.specs.{declared.row.Row.Row, Rows.asked, Rows.row_hits, Rows.RowOk, inner.Reading.Matched, inner.Reading.ask_width}
 use Rattle.kp_synth_stage.proofs.Nearest.{row_at, row_kept, no_row, ask_width_kept, asked_kept, hits_kept, matched_kept, matched_more}
 use Rattle.kp_synth_stage.proofs.reading.candidates.Goals as goal

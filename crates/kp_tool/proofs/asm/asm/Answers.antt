@@ -1,8 +1,7 @@
 use Rattle.std.proofs.{Common.◌∙◌, Common.Some, Common.ap, lemmas.Result.err_from_is_err_and}
 use Rattle.kp_asm.specs.Image.{image_text_of}
 use Rattle.kp_words.specs.declared.commands.Command.TheVariants.{Assemble}
-use Rattle.kp_tool.specs.Due.{DueFor}
-use Rattle.kp_tool.proofs.{Ends.said, Programs.program_is_due, Programs.refused_program}
+use Rattle.kp_tool.{specs.Due.DueFor, proofs.Ends.said, proofs.Programs.program_is_due, proofs.Programs.refused_program}
 use Rattle.kp_tool.proofs.asm.asm.Goals as goal
 
 pub returns-in_err-words : goal.returns-in_err-words

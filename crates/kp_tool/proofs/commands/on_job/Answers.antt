@@ -1,7 +1,6 @@
 use Rattle.std.proofs.{Common.Some, lemmas.Result.err_from_is_err_and}
 use Rattle.kp_words.specs.declared.commands.Command.TheVariants.{OnJob}
-use Rattle.kp_tool.specs.Due.{DueFor}
-use Rattle.kp_tool.proofs.{Dues.refused_is_due, Ends.refused_job, Ends.accepted_job}
+use Rattle.kp_tool.{specs.Due.DueFor, proofs.Dues.refused_is_due, proofs.Ends.refused_job, proofs.Ends.accepted_job}
 use Rattle.kp_tool.proofs.commands.on_job.Goals as goal
 
 pub returns-in_err-job : goal.returns-in_err-job

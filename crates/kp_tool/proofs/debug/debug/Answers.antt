@@ -1,7 +1,7 @@
 use Rattle.std.proofs.{Common.Ok, Common.Some, lemmas.Result.err_from_is_err_and}
 use Rattle.kp_words.specs.declared.commands.Command.TheVariants.{Debug}
-use Rattle.kp_tool.specs.{Due.DueFor, Scripted.DueOfScriptHead}
-use Rattle.kp_tool.proofs.{Dues.script_head_refused_is_due, Dues.script_is_due, Ends.refused_head, Ends.wider}
+use Rattle.kp_tool.{specs.Due.DueFor, specs.Scripted.DueOfScriptHead, proofs.Dues.script_head_refused_is_due, proofs.Dues.script_is_due}
+use Rattle.kp_tool.proofs.Ends.{refused_head, wider}
 use Rattle.kp_tool.proofs.debug.debug.Goals as goal
 
 pub returns-in_err-head : goal.returns-in_err-head

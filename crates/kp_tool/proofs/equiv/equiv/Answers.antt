@@ -2,8 +2,8 @@ use Rattle.std.proofs.{Common.ℕ, Common.◌≤◌, Common.List, Common.length,
 use Rattle.kp_ast.specs.declared.tree.Job.{Job}
 use Rattle.kp_words.specs.declared.commands.Command.TheVariants.{Compare}
 use Rattle.kp_frontend.specs.Judging.{JudgesHeadText}
-use Rattle.kp_tool.specs.{Due.DueFor, Compared.DueOfPairHead}
-use Rattle.kp_tool.proofs.{Dues.pair_head_refused_is_due, Dues.pair_head_accepted_is_due, Ends.refused_head, Ends.wider}
+use Rattle.kp_tool.{specs.Due.DueFor, specs.Compared.DueOfPairHead, proofs.Dues.pair_head_refused_is_due, proofs.Dues.pair_head_accepted_is_due}
+use Rattle.kp_tool.proofs.Ends.{refused_head, wider}
 use Rattle.kp_tool.proofs.equiv.equiv.Goals as goal
 
 accepted : (input : List ℕ) (job : Job) (rest status : ℕ) (text : List ℕ) → length input ≤ 16777216 → JudgesHeadText input (Ok (job, rest))

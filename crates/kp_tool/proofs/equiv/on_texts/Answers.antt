@@ -1,7 +1,6 @@
 use Rattle.std.proofs.{Common.take, Common.Ok, Common.Err, Common.refl, lemmas.Result.err_from_is_err_and}
 use Rattle.kp_equiv.proofs.Jobs.{comparable}
-use Rattle.kp_tool.specs.Compared.{DueOfPairHead}
-use Rattle.kp_tool.proofs.{Ends.said, Modules.misread_end, Modules.module_named, Modules.module_jobs}
+use Rattle.kp_tool.{specs.Compared.DueOfPairHead, proofs.Ends.said, proofs.Modules.misread_end, proofs.Modules.module_named, proofs.Modules.module_jobs}
 use Rattle.kp_tool.proofs.equiv.on_texts.Goals as goal
 
 pub returns-in_err-first : goal.returns-in_err-first

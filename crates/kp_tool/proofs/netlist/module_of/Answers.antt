@@ -1,6 +1,5 @@
 use Rattle.std.proofs.lemmas.Result.{err_from_is_err_and}
-use Rattle.kp_tool.specs.Compared.{jobs}
-use Rattle.kp_tool.proofs.Modules.{refused_misread, refused_other}
+use Rattle.kp_tool.{specs.Compared.jobs, proofs.Modules.refused_misread, proofs.Modules.refused_other}
 use Rattle.kp_tool.proofs.netlist.module_of.Goals as goal
 
 pub returns-in_err-net : goal.returns-in_err-net

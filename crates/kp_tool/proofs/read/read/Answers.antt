@@ -1,7 +1,6 @@
 use Rattle.std.proofs.Common.{Some}
 use Rattle.kp_words.specs.declared.commands.Command.TheVariants.{Read}
-use Rattle.kp_tool.specs.Due.{DueFor}
-use Rattle.kp_tool.proofs.{Dues.denoted_is_due, Dues.misread_is_due, Ends.said, Ends.misread}
+use Rattle.kp_tool.{specs.Due.DueFor, proofs.Dues.denoted_is_due, proofs.Dues.misread_is_due, proofs.Ends.said, proofs.Ends.misread}
 use Rattle.kp_tool.proofs.read.read.Goals as goal
 
 pub returns-in-Ok : goal.returns-in-Ok

@@ -4,8 +4,8 @@ use Rattle.kp_ast.specs.declared.tree.Job.{Job}
 use Rattle.kp_net.specs.Netlist.{Net}
 use Rattle.kp_tool_report.specs.Texts.{refusal_line}
 use Rattle.kp_tool.specs.Watched.{DueOfHead, DueOfRun, of_other, of_job}
-use Rattle.kp_tool.specs.Compared.{ReadsModule, misread, not_jobs, jobs}
-use Rattle.kp_tool.proofs.{Ends.said, Modules.misread_end, Modules.module_jobs, Modules.module_outputs}
+use Rattle.kp_tool.{specs.Compared.ReadsModule, specs.Compared.misread, specs.Compared.not_jobs, specs.Compared.jobs, proofs.Ends.said}
+use Rattle.kp_tool.proofs.Modules.{misread_end, module_jobs, module_outputs}
 use Rattle.kp_tool.proofs.watch.on_text.Goals as goal
 
 refused : (n : ℕ) (input : List ℕ) (job : Job) (rest : ℕ) (r : Refusal) → ReadsModule job input rest (Err r) → DueOfHead n input (Ok (job, rest)) 6 (refusal_line r)

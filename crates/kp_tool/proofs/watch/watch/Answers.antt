@@ -2,8 +2,8 @@ use Rattle.std.proofs.{Common.ℕ, Common.◌≤◌, Common.List, Common.length,
 use Rattle.kp_ast.specs.declared.tree.Job.{Job}
 use Rattle.kp_words.specs.declared.commands.Command.TheVariants.{Watch}
 use Rattle.kp_frontend.specs.Judging.{JudgesHeadText}
-use Rattle.kp_tool.specs.{Due.DueFor, Watched.DueOfHead}
-use Rattle.kp_tool.proofs.{Dues.head_refused_is_due, Dues.head_accepted_is_due, Ends.refused_head, Ends.wider}
+use Rattle.kp_tool.{specs.Due.DueFor, specs.Watched.DueOfHead, proofs.Dues.head_refused_is_due, proofs.Dues.head_accepted_is_due}
+use Rattle.kp_tool.proofs.Ends.{refused_head, wider}
 use Rattle.kp_tool.proofs.watch.watch.Goals as goal
 
 accepted : (n : ℕ) (input : List ℕ) (job : Job) (rest status : ℕ) (text : List ℕ) → length input ≤ 16777216 → JudgesHeadText input (Ok (job, rest))

@@ -1,5 +1,4 @@
-use Rattle.std.proofs.Common.{ℕ, Err}
-use Rattle.std.proofs.lemmas.Result.{err_from_is_err_and}
+use Rattle.std.proofs.{Common.ℕ, Common.Err, lemmas.Result.err_from_is_err_and}
 use Rattle.kp_base.proofs.Bytes.{part_more, writes_next}
 use Rattle.kp_tool_report.proofs.differing.write_line.Goals as goal
 

@@ -1,7 +1,6 @@
 use Rattle.std.proofs.Common.{arith}
 use Rattle.kp_run.specs.Boards.{due_behind}
-use Rattle.kp_tool_report.proofs.Lines.{past, at_most_one}
-use Rattle.kp_tool_report.proofs.Sums.{sum_more}
+use Rattle.kp_tool_report.proofs.{Lines.past, Lines.at_most_one, Sums.sum_more}
 use Rattle.kp_tool_report.proofs.totals.sum_of.Goals as goal
 
 pub loop-decl-preserved : goal.loop-decl-preserved

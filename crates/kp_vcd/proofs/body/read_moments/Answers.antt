@@ -1,6 +1,5 @@
 use Rattle.std.proofs.{Common.◌∙◌, Common.ℕ, Common.Option, Common.sym, Common.ap, lemmas.Result.err_from_is_err_and}
-use Rattle.kp_vcd.specs.{declared.dump.Dump.Dump, inner.Meeting.gives_behind}
-use Rattle.kp_vcd.proofs.Meeting.{stops, same_dump}
+use Rattle.kp_vcd.{specs.declared.dump.Dump.Dump, specs.inner.Meeting.gives_behind, proofs.Meeting.stops, proofs.Meeting.same_dump}
 use Rattle.kp_vcd.proofs.body.read_moments.Goals as goal
 
 pub returns-in_err-next : goal.returns-in_err-next

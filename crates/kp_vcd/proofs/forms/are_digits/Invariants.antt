@@ -1,5 +1,4 @@
-use Rattle.std.{proofs.Common.◌≡◌, proofs.Common.drop, specs.List.list_all}
-use Rattle.std.specs.Char.{is_digit}
+use Rattle.std.{proofs.Common.◌≡◌, proofs.Common.drop, specs.List.list_all, specs.Char.is_digit}
 use Rattle.kp_vcd.proofs.forms.are_digits.Given as goal
 
 abbrev pub invariant-loop-byte : goal.invariant-loop-byte

@@ -1,6 +1,5 @@
 use Rattle.std.proofs.{Common.◌∙◌, Common.[], lemmas.Result.err_from_is_err_and}
-use Rattle.kp_vcd.specs.Reading.{module_name, declaration, named}
-use Rattle.kp_vcd.proofs.Meeting.{stops, name_wanted}
+use Rattle.kp_vcd.{specs.Reading.module_name, specs.Reading.declaration, specs.Reading.named, proofs.Meeting.stops, proofs.Meeting.name_wanted}
 use Rattle.kp_vcd.proofs.head.read_module.Goals as goal
 
 pub returns-in_err-expect-clause-meets : goal.returns-in_err-expect-clause-meets

@@ -1,6 +1,6 @@
 use Rattle.std.proofs.Common.{◌∙◌, List, sym, ap, ap₂, arith, length, refl, Ok}
-use Rattle.kp_vcd.specs.{declared.dump.Signal.Signal, declared.dump.Moment.Moment, Reading.named, inner.Left.Left}
-use Rattle.kp_vcd.proofs.{Counted.left_few, Meeting.stops, Meeting.from_start}
+use Rattle.kp_vcd.{specs.declared.dump.Signal.Signal, specs.declared.dump.Moment.Moment, specs.Reading.named, specs.inner.Left.Left, proofs.Counted.left_few}
+use Rattle.kp_vcd.proofs.Meeting.{stops, from_start}
 use Rattle.kp_vcd.proofs.reading.read_dump.Goals as goal
 
 pub returns-in_err-module : goal.returns-in_err-module

@@ -1,7 +1,6 @@
 use Rattle.std.proofs.Common.{◌≡◌, ◌∙◌, ap, ℕ, min, List, length, ltb, take, drop, arith, rules}
 use Rattle.std.proofs.lemmas.{List.take_min, List.drop_min, Grind.common_steps}
-use Rattle.kp_view_excerpt.specs.Lines.{from_place}
-use Rattle.kp_view_excerpt.proofs.Cuts.{left_is}
+use Rattle.kp_view_excerpt.{specs.Lines.from_place, proofs.Cuts.left_is}
 use Rattle.kp_view_excerpt.proofs.note.excerpt_at.Goals as goal
 
 pub returns-clause-shows : goal.returns-clause-shows

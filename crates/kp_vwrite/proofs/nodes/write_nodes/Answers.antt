@@ -1,6 +1,5 @@
 use Rattle.std.proofs.{Common.refl, lemmas.List.take_all}
-use Rattle.kp_vwrite.specs.inner.Texts.{nodes_text, node_text}
-use Rattle.kp_vwrite.proofs.{Passing.each_at, Safe.safe_at}
+use Rattle.kp_vwrite.{specs.inner.Texts.nodes_text, specs.inner.Texts.node_text, proofs.Passing.each_at, proofs.Safe.safe_at}
 use Rattle.kp_vwrite.proofs.nodes.write_nodes.Goals as goal
 
 pub write_node-requires : goal.write_node-requires

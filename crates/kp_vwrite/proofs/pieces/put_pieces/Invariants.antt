@@ -1,5 +1,4 @@
-use Rattle.std.proofs.Common.{take}
-use Rattle.std.specs.Prelude.{flat_map}
+use Rattle.std.{proofs.Common.take, specs.Prelude.flat_map}
 use Rattle.kp_vwrite.specs.inner.{Passing.Wrote, Texts.piece_text}
 use Rattle.kp_vwrite.proofs.pieces.put_pieces.Given as goal
 

@@ -1,6 +1,5 @@
 use Rattle.std.proofs.{Common.refl, lemmas.List.take_all}
-use Rattle.kp_vwrite.specs.inner.Texts.{words_text, word_text}
-use Rattle.kp_vwrite.proofs.{Passing.each_at, Safe.get_again}
+use Rattle.kp_vwrite.{specs.inner.Texts.words_text, specs.inner.Texts.word_text, proofs.Passing.each_at, proofs.Safe.get_again}
 use Rattle.kp_vwrite.proofs.state.write_words.Goals as goal
 
 pub loop-address-preserved : goal.loop-address-preserved

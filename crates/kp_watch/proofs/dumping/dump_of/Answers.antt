@@ -1,8 +1,7 @@
 use Rattle.std.proofs.Common.{◌≡◌, ◌∙◌, List, ap, ap₂, sym, subst, map}
 use Rattle.kp_ast.specs.declared.tree.Decl.{Decl}
 use Rattle.kp_net.specs.declared.netlist.NetReg.{NetReg}
-use Rattle.kp_watch.specs.inner.Shown.{places_from, ArePlaces}
-use Rattle.kp_watch.proofs.Placing.{are_places}
+use Rattle.kp_watch.{specs.inner.Shown.places_from, specs.inner.Shown.ArePlaces, proofs.Placing.are_places}
 use Rattle.kp_watch.proofs.dumping.dump_of.Goals as goal
 
 pub moments_of-requires-clause-places : goal.moments_of-requires-clause-places

@@ -1,5 +1,4 @@
-use Rattle.kp_watch.specs.Dumps.{values_at, own_run, vcd_dump}
-use Rattle.kp_watch.proofs.Lasting.{run_lasts}
+use Rattle.kp_watch.{specs.Dumps.values_at, specs.Dumps.own_run, specs.Dumps.vcd_dump, proofs.Lasting.run_lasts}
 use Rattle.std.proofs.Common.{refl}
 use Rattle.kp_watch.proofs.laws.a_dump_holds_its_run.Goals as goal
 

@@ -1,7 +1,6 @@
 use Rattle.std.proofs.Common.{◌≡◌, Some, subst}
 use Rattle.kp_vcd.specs.{Held.held, Held.Changes, declared.dump.Dump.Dump}
-use Rattle.kp_watch.specs.Dumps.{vcd_dump, vcd_text}
-use Rattle.kp_watch.proofs.Reporting.{job_fits, same_dump}
+use Rattle.kp_watch.{specs.Dumps.vcd_dump, specs.Dumps.vcd_text, proofs.Reporting.job_fits, proofs.Reporting.same_dump}
 use Rattle.kp_watch.proofs.round_trip.the_dump_of_a_job_is_read_back.Goals as goal
 
 pub returns-clause-read : goal.returns-clause-read

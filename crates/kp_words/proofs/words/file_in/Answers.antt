@@ -1,6 +1,5 @@
 use Rattle.std.proofs.Common.{◌∙◌, sym, ap, length, string_bytes}
-use Rattle.kp_words.specs.Words.{is_file_after}
-use Rattle.kp_words.proofs.Rests.{file_found, file_none}
+use Rattle.kp_words.{specs.Words.is_file_after, proofs.Rests.file_found, proofs.Rests.file_none}
 use Rattle.kp_words.proofs.words.file_in.Goals as goal
 
 pub returns-then-is_file_after : goal.returns-then-is_file_after

@@ -1,7 +1,6 @@
 use Rattle.std.proofs.{Common.◌∙◌, Common.sym, Common.ap, Common.map, Common.string_bytes, lemmas.List.Folds.list_all-map}
 use Rattle.std.specs.List.{list_all}
-use Rattle.kp_words.specs.Words.{is_name}
-use Rattle.kp_words.proofs.Rests.{run_none, run_some}
+use Rattle.kp_words.{specs.Words.is_name, proofs.Rests.run_none, proofs.Rests.run_some}
 use Rattle.kp_words.proofs.words.run_with.Goals as goal
 
 pub returns-then-are_names : goal.returns-then-are_names

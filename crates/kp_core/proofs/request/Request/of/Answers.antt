@@ -1,6 +1,5 @@
 use Rattle.std.specs.Prelude.{string_bytes}
-use Rattle.kp_core.specs.Words.{asked}
-use Rattle.kp_core.proofs.Asking.{helped, versioned, filed}
+use Rattle.kp_core.{specs.Words.asked, proofs.Asking.helped, proofs.Asking.versioned, proofs.Asking.filed}
 use Rattle.kp_core.proofs.request.Request.of.Goals as goal
 
 pub returns-then-has_help : goal.returns-then-has_help

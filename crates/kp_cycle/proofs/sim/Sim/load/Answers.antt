@@ -1,8 +1,7 @@
 use Rattle.std.proofs.Common.{ℕ, List, length, sym, subst, ap, ◌∙◌}
 use Rattle.std.specs.Prelude.{IsSome}
 use Rattle.kp_cycle.specs.{Steps.Running, Steps.saved_in, inner.Settling.AreFixed}
-use Rattle.kp_cycle_plan.specs.Storage.{FitsBelow, SlotsFit, state_of}
-use Rattle.kp_cycle_plan.proofs.Copies.{fits_loaded}
+use Rattle.kp_cycle_plan.{specs.Storage.FitsBelow, specs.Storage.SlotsFit, specs.Storage.state_of, proofs.Copies.fits_loaded}
 use Rattle.kp_cycle.proofs.sim.Sim.load.Goals as goal
 
 pub load-requires : goal.load-requires

@@ -1,7 +1,6 @@
 use Rattle.std.proofs.Common.{List, subst, ◌∙◌}
-use Rattle.kp_cycle_plan.specs.declared.codes.Step.{Step}
+use Rattle.kp_cycle_plan.{specs.declared.codes.Step.Step, proofs.Copies.none_saved}
 use Rattle.kp_cycle.{specs.inner.Settling.AreFixed, proofs.Reached.start_fits}
-use Rattle.kp_cycle_plan.proofs.Copies.{none_saved}
 use Rattle.kp_cycle.proofs.sim.Sim.open_with.Goals as goal
 
 pub invariant_of-result : goal.invariant_of-result

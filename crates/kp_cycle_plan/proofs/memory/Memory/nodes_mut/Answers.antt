@@ -1,7 +1,6 @@
 use Rattle.std.proofs.Common.{ℕ, ◌++◌, length, map, take, drop, refl, ap, ◌∙◌}
 use Rattle.std.specs.List.{refill}
-use Rattle.kp_cycle_plan.specs.{inner.Spans.first_span, inner.Spans.held, Storage.Stored}
-use Rattle.kp_cycle_plan.proofs.Spans.{stored_in}
+use Rattle.kp_cycle_plan.{specs.inner.Spans.first_span, specs.inner.Spans.held, specs.Storage.Stored, proofs.Spans.stored_in}
 use Rattle.kp_cycle_plan.proofs.memory.Memory.nodes_mut.Goals as goal
 
 pub returns : goal.returns

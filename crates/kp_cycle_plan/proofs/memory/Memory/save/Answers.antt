@@ -1,6 +1,5 @@
 use Rattle.std.proofs.Common.{Some, set, sym, ap, ◌∙◌, arith}
-use Rattle.kp_cycle_plan.specs.{inner.Spans.first_span, Storage.Stored, Storage.state_of}
-use Rattle.kp_cycle_plan.proofs.Spans.{other_way}
+use Rattle.kp_cycle_plan.{specs.inner.Spans.first_span, specs.Storage.Stored, specs.Storage.state_of, proofs.Spans.other_way}
 use Rattle.kp_cycle_plan.proofs.Storing.{slot_there, slot_size, slot_inside, slot_beside, laid_marked, view_marked}
 use Rattle.kp_cycle_plan.proofs.memory.Memory.save.Goals as goal
 

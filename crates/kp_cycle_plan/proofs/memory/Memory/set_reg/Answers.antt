@@ -1,7 +1,7 @@
 use Rattle.std.proofs.Common.{◌<◌, ◌∷◌, List, Option, length, map, set, sym, subst, ap, ◌∙◌, arith}
 use Rattle.kp_cycle_plan.specs.{Words.Words, Words.written, inner.Spans.first_span, inner.Spans.Laid, inner.Spans.held, Storage.Stored}
-use Rattle.kp_net.specs.Netlist.{State}
 use Rattle.kp_cycle_plan.proofs.{Spans.span_length, Spans.write_one, Spans.stored, Spans.stored_in, Copies.laid_written, Copies.part_written}
+use Rattle.kp_net.specs.Netlist.{State}
 use Rattle.kp_cycle_plan.proofs.memory.Memory.set_reg.Goals as goal
 
 pub put-requires-clause-within : goal.put-requires-clause-within

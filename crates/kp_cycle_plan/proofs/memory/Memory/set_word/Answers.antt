@@ -1,8 +1,8 @@
 use Rattle.std.proofs.Common.{◌<◌, List, Option, get_or, map, set, suc, [], sym, subst, ap, ◌∙◌, arith}
 use Rattle.kp_cycle_plan.specs.{declared.span.Span.Span, Words.Words, Words.written}
 use Rattle.kp_cycle_plan.specs.{inner.Spans.first_span, inner.Spans.Laid, inner.Spans.held, inner.Spans.no_span, Storage.Stored}
-use Rattle.kp_net.specs.Netlist.{State}
 use Rattle.kp_cycle_plan.proofs.{Spans.file_span, Spans.write_file, Spans.stored_in, Copies.laid_written, Copies.part_written}
+use Rattle.kp_net.specs.Netlist.{State}
 use Rattle.kp_cycle_plan.proofs.memory.Memory.set_word.Goals as goal
 
 pub overflow_cast-address : goal.overflow_cast-address

@@ -1,7 +1,6 @@
 use Rattle.std.proofs.Common.{◌≡◌, ℕ, ◌++◌, List, length, map, take, drop, ap, ◌∙◌, arith}
 use Rattle.std.proofs.lemmas.List.{with_items_is}
-use Rattle.kp_cycle_plan.specs.{Words.span_words, inner.Spans.first_span, inner.Spans.held, Storage.Stored}
-use Rattle.kp_cycle_plan.proofs.Spans.{stored_in}
+use Rattle.kp_cycle_plan.{specs.Words.span_words, specs.inner.Spans.first_span, specs.inner.Spans.held, specs.Storage.Stored, proofs.Spans.stored_in}
 use Rattle.kp_cycle_plan.proofs.memory.Memory.show_regs.Goals as goal
 
 pub words-regs-requires : goal.words-regs-requires

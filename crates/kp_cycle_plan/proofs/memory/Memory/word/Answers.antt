@@ -1,6 +1,5 @@
 use Rattle.std.proofs.Common.{map, arith}
-use Rattle.kp_cycle_plan.specs.inner.Spans.{first_span, held}
-use Rattle.kp_cycle_plan.proofs.Spans.{file_span}
+use Rattle.kp_cycle_plan.{specs.inner.Spans.first_span, specs.inner.Spans.held, proofs.Spans.file_span}
 use Rattle.kp_cycle_plan.proofs.memory.Memory.word.Goals as goal
 
 pub overflow_cast-address : goal.overflow_cast-address

@@ -1,6 +1,7 @@
 use Rattle.std.proofs.Common.{◌≡◌, ◌<◌, ℕ, length, ap, ◌∙◌, arith}
 use Rattle.kp_cycle.specs.Steps.{Running}
-use Rattle.kp_debug_report.{specs.Sessions.Debugged, proofs.Feeding.inputs_many, proofs.AtCycle.gone_on, proofs.AtCycle.session_more, proofs.AtCycle.session_kept}
+use Rattle.kp_debug_report.{specs.Sessions.Debugged, proofs.Feeding.inputs_many}
+use Rattle.kp_debug_report.proofs.AtCycle.{gone_on, session_more, session_kept}
 use Rattle.kp_debug_report.proofs.session.Session.advance.Goals as goal
 
 pub run_one-requires-clause-there : goal.run_one-requires-clause-there

@@ -1,7 +1,6 @@
 use Rattle.std.proofs.Common.{List, ap, ◌∙◌}
 use Rattle.kp_net.specs.declared.node.NodeId.{NodeId}
-use Rattle.kp_equiv.specs.Classes.{class_in}
-use Rattle.kp_equiv.proofs.Determined.{alike_found}
+use Rattle.kp_equiv.{specs.Classes.class_in, proofs.Determined.alike_found}
 use Rattle.kp_equiv.proofs.classes.Classes.alike.Goals as goal
 
 pub returns : goal.returns

@@ -1,8 +1,7 @@
 use Rattle.std.proofs.Common.{◌∙◌, ap, get_or}
-use Rattle.kp_net.specs.declared.node.Kind.TheVariants.{Sample, Reg, Word}
-use Rattle.kp_net.specs.{declared.netlist.Parts.Parts, Parts.no_port, Parts.no_reg, Parts.no_file}
-use Rattle.kp_equiv.specs.Classes.{place}
-use Rattle.kp_equiv.proofs.Growing.{source_shape}
+use Rattle.kp_net.specs.declared.{node.Kind.TheVariants.Sample, node.Kind.TheVariants.Reg, node.Kind.TheVariants.Word, netlist.Parts.Parts}
+use Rattle.kp_net.specs.Parts.{no_port, no_reg, no_file}
+use Rattle.kp_equiv.{specs.Classes.place, proofs.Growing.source_shape}
 use Rattle.kp_equiv.proofs.known.Known.kind.Goals as goal
 
 pub returns-in-Sample : goal.returns-in-Sample

@@ -1,8 +1,7 @@
 use Rattle.std.proofs.Common.{◌≡◌, ◌<◌, List, ℕ, length, MatchOption, ap, subst, ◌∙◌}
 use Rattle.std.specs.Map.{lookup}
 use Rattle.kp_net.specs.Names.{same}
-use Rattle.kp_equiv.specs.Classes.{place}
-use Rattle.kp_equiv.proofs.Naming.{placed}
+use Rattle.kp_equiv.{specs.Classes.place, proofs.Naming.placed}
 use Rattle.kp_equiv.proofs.names.Names.find.Goals as goal
 
 pub returns : goal.returns

@@ -1,5 +1,4 @@
-use Rattle.std.proofs.Common.{List, ℕ, ap, ◌∙◌}
-use Rattle.std.specs.{Map.lookup, Option.is_some}
+use Rattle.std.{proofs.Common.List, proofs.Common.ℕ, proofs.Common.ap, proofs.Common.◌∙◌, specs.Map.lookup, specs.Option.is_some}
 use Rattle.kp_net.specs.Names.{same, among}
 use Rattle.kp_equiv.proofs.Naming.{present}
 use Rattle.kp_equiv.proofs.names.Names.has.Goals as goal

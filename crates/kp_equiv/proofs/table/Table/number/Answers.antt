@@ -1,8 +1,7 @@
 use Rattle.std.proofs.Common.{◌≡◌, ◌∙◌, ◌+◌, ℕ, Option, None, length, sym, ap, subst}
 use Rattle.std.specs.{Prelude.if◌then◌else◌, Option.is_some, Map.lookup}
 use Rattle.kp_net.proofs.Found.{is}
-use Rattle.kp_equiv.specs.inner.Shapes.{Numbered, Puts, IsTable}
-use Rattle.kp_equiv.proofs.Tables.{found, added}
+use Rattle.kp_equiv.{specs.inner.Shapes.Numbered, specs.inner.Shapes.Puts, specs.inner.Shapes.IsTable, proofs.Tables.found, proofs.Tables.added}
 use Rattle.kp_equiv.proofs.table.Table.number.Goals as goal
 
 pub returns-in-Some : goal.returns-in-Some

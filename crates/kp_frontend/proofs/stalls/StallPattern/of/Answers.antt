@@ -1,6 +1,5 @@
 use Rattle.std.{proofs.Common.subst, proofs.Common.sym, specs.List.All}
-use Rattle.kp_frontend.specs.Spans.{IsSpan}
-use Rattle.kp_frontend.proofs.Patterns.{spans_right}
+use Rattle.kp_frontend.{specs.Spans.IsSpan, proofs.Patterns.spans_right}
 use Rattle.kp_frontend.proofs.stalls.StallPattern.of.Goals as goal
 
 pub invariant_of-result : goal.invariant_of-result

@@ -1,6 +1,5 @@
 use Rattle.std.proofs.Common.{◌∙◌, arith}
-use Rattle.kp_frontend.specs.Spans.{some_stalls}
-use Rattle.kp_frontend.proofs.Loops.{word_same}
+use Rattle.kp_frontend.{specs.Spans.some_stalls, proofs.Loops.word_same}
 use Rattle.kp_frontend.proofs.stalls.StallPattern.word.Goals as goal
 
 pub returns : goal.returns

@@ -1,6 +1,5 @@
 use Rattle.std.proofs.Common.{◌≡◌, ◌+◌, ℕ, List, [], ◌∷◌, ◌++◌, length, get_or, sym, ap, subst, ◌∙◌, rules}
-use Rattle.std.proofs.lemmas.{List.get_or_default}
-use Rattle.std.proofs.Math.ListN.{set}
+use Rattle.std.proofs.{lemmas.List.get_or_default, Math.ListN.set}
 use Rattle.kp_pool.{specs.inner.Chains.Chains, proofs.Chains.chained}
 use Rattle.kp_pool.proofs.index.Index.append.Goals as goal
 

@@ -1,6 +1,7 @@
 use Rattle.std.proofs.Common.{◌∙◌, refl, ap, None, []}
 use Rattle.kp_stage.specs.Facts.{largest}
-use Rattle.kp_stage.{specs.inner.Tables.look_up, specs.inner.Tables.between, specs.inner.Tables.none_named, specs.inner.Tables.decls_noted, specs.inner.Tables.blocks_noted, proofs.Noted.facts_fit}
+use Rattle.kp_stage.specs.inner.Tables.{look_up, between, none_named, decls_noted, blocks_noted}
+use Rattle.kp_stage.proofs.Noted.{facts_fit}
 use Rattle.kp_stage.proofs.facts.Facts.of.Goals as goal
 
 pub returns : goal.returns

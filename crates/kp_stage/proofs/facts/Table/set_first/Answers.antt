@@ -1,5 +1,4 @@
-use Rattle.std.proofs.{Common.◌≡◌, Common.◌∙◌, Common.false, lemmas.Result.on_ok_weaker}
-use Rattle.std.specs.Prelude.{is_some}
+use Rattle.std.{proofs.Common.◌≡◌, proofs.Common.◌∙◌, proofs.Common.false, proofs.lemmas.Result.on_ok_weaker, specs.Prelude.is_some}
 use Rattle.kp_stage.{specs.inner.Tables.look_up, specs.inner.Tables.with_value, proofs.Noted.first_is}
 use Rattle.kp_stage.proofs.facts.Table.set_first.Goals as goal
 

@@ -1,6 +1,5 @@
 use Rattle.std.proofs.Common.{◌∙◌, ◌+◌, sym, ap, arith}
-use Rattle.kp_vcd.specs.inner.Left.{Left}
-use Rattle.kp_vcd.proofs.Left.{next_word, no_word, same_end, part_is, within_is}
+use Rattle.kp_vcd.{specs.inner.Left.Left, proofs.Left.next_word, proofs.Left.no_word, proofs.Left.same_end, proofs.Left.part_is, proofs.Left.within_is}
 use Rattle.kp_vcd.proofs.words.Words.next.Goals as goal
 
 pub returns-then-start-end-clause-none : goal.returns-then-start-end-clause-none

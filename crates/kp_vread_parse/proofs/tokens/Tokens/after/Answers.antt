@@ -1,6 +1,5 @@
 use Rattle.std.proofs.Common.{true, false}
-use Rattle.kp_vread_parse.specs.inner.Words.{class_of}
-use Rattle.kp_vread_parse.proofs.Taking.{end_at, fixed_isnt_end, kind_at, reads_kind}
+use Rattle.kp_vread_parse.{specs.inner.Words.class_of, proofs.Taking.end_at, proofs.Taking.fixed_isnt_end, proofs.Taking.kind_at, proofs.Taking.reads_kind}
 use Rattle.kp_vread_parse.proofs.tokens.Tokens.after.Goals as goal
 
 pub returns-in_default : goal.returns-in_default

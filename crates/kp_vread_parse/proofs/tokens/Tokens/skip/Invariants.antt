@@ -1,5 +1,5 @@
 use Rattle.std.proofs.Common.{[], drop, map}
-use Rattle.kp_vread_parse.specs.{inner.Reading.TurnsYet, inner.Words.symbol}
+use Rattle.kp_vread_parse.specs.inner.{Reading.TurnsYet, Words.symbol}
 use Rattle.kp_vread_parse.proofs.tokens.Tokens.skip.Given as goal
 
 abbrev pub invariant-loop-fixed : goal.invariant-loop-fixed

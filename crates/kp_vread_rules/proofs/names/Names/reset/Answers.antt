@@ -1,5 +1,4 @@
-use Rattle.kp_vread_rules.specs.Tables.{found}
-use Rattle.kp_vread_rules.proofs.Starting.{reset_done}
+use Rattle.kp_vread_rules.{specs.Tables.found, proofs.Starting.reset_done}
 use Rattle.kp_vread_rules.proofs.names.Names.reset.Goals as goal
 
 pub returns-in_ok-starts-in-Some : goal.returns-in_ok-starts-in-Some

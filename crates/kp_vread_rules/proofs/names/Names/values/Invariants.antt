@@ -1,6 +1,5 @@
 use Rattle.std.proofs.Common.{◌≡◌, ◌++◌, drop}
-use Rattle.kp_vread_rules.specs.Tables.{found}
-use Rattle.kp_vread_rules.specs.inner.Starting.{values_by}
+use Rattle.kp_vread_rules.specs.{Tables.found, inner.Starting.values_by}
 use Rattle.kp_vread_rules.proofs.names.Names.values.Given as goal
 
 abbrev pub invariant-loop-value : goal.invariant-loop-value

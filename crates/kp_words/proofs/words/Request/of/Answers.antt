@@ -1,6 +1,5 @@
 use Rattle.std.proofs.Common.{◌∙◌, sym, ap, option_map, Some, None, string_bytes}
-use Rattle.kp_words.specs.{Asked.task_seen, Words.bad_words}
-use Rattle.kp_words.proofs.Asking.{shown, versioned}
+use Rattle.kp_words.{specs.Asked.task_seen, specs.Words.bad_words, proofs.Asking.shown, proofs.Asking.versioned}
 use Rattle.kp_words.proofs.words.Request.of.Goals as goal
 
 pub returns-then-has_version_flag : goal.returns-then-has_version_flag
