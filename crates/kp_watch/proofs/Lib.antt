@@ -1,3 +1,4 @@
+mod FewDecls
 pub mod Lanes
 pub mod Comparing
 pub mod Kept

@@ -7,7 +7,7 @@ use Rattle.kp_ast.specs.declared.tree.Job.{Job}
 use Rattle.kp_pipeline.specs.{Pipeline.Inputs, Pipeline.pipeline_start, Rows.Row}
 use Rattle.kp_stage.specs.{Start.start_of as job_start, Stages.broken_of}
 use Rattle.kp_machine.specs.{Machine.machine_of, Machine.state_of, Machine.start_hints, Machine.pipe_of, Machine.inputs_from, Slots.targets_of, Words.target}
-use Rattle.kp_synth_tables.proofs.Limits.{few}
+use Rattle.kp_watch.proofs.FewDecls.{decls_few}
 use Rattle.kp_cycle.specs.Steps.{Running, reg_shown}
 use Rattle.kp_net.specs.Netlist.{Net, State, start_of, row_of, last_of, run}
 use Rattle.kp_net.proofs.Runs.{rows_more}
@@ -124,7 +124,7 @@ module _ (job : Job) (net : Net) (n : ℕ) (shows : Shows net job) (seen : input
 pub values_few : (job : Job) (net : Net) (places : List ℕ) (sim : Running) (outputs now registers : Values) → broken_of job ≡ None → ArePlaces job net places → length outputs ≡ 3
     → registers ≡ shown_at sim places → now ≡ outputs ++ registers → length now < 2 ^ 32
 values_few job net places sim outputs now registers right are three shown is =
-    let decls = (few job right).decls in
+    let decls = decls_few job right in
     let many : length registers ≡ length places = ap (λ (l : Values). length l) shown ∙ length-map places (λ (p : ℕ). Some (reg_shown sim p)) in
     let all : length now ≡ length outputs + length registers = ap (λ (l : Values). length l) is ∙ length-append outputs registers in
     omega (arith, decls, many, all, three, are.few)
