@@ -1,7 +1,7 @@
 -- The arguments and an input have exactly one specified outcome: one status with one text.
 use Rattle.std.proofs.Common.{◌≡◌, ◌∙◌, ◌≤◌, ℕ, List, take, drop, Bool, true, false, Result, Ok, Err, Some, None, length, inl, inr, sym, subst, refl, ap, arith}
 use Rattle.std.{proofs.lemmas.Bool.cases_lt, proofs.lemmas.Bool.Decides.not_from_Decides, specs.declared.option.Option.Option}
-use Rattle.kp_vread.{specs.inner.Tests.is_of_job, proofs.Matches.is_found}
+use Rattle.kp_vread.{specs.inner.Tests.is_of_job, proofs.JobMatches.is_found}
 use Rattle.kp_base.specs.declared.refusal.Refusal.{Refusal}
 use Rattle.kp_ast.specs.declared.tree.Job.{Job}
 use Rattle.kp_stage.specs.Counts.{summary_of}

@@ -7,4 +7,4 @@ pub mod Reading
 pub mod Whole
 pub mod Tests
 pub mod Names
-pub mod Matches
+pub mod JobMatches

@@ -1,7 +1,7 @@
 use Rattle.std.proofs.{Common.◌≡◌, Common.◌∙◌, Common.List, Common.[], Common.drop, Common.ap, Common.sym, Common.arith, lemmas.List.drop_all}
 use Rattle.kp_ast.specs.declared.tree.Decl.{Decl}
 use Rattle.kp_machine.specs.Slots.{samples_of}
-use Rattle.kp_vread.{specs.inner.Tests.are_ports_of, proofs.Matches.none_left}
+use Rattle.kp_vread.{specs.inner.Tests.are_ports_of, proofs.JobMatches.none_left}
 use Rattle.kp_vread.proofs.matching.are_ports.Goals as goal
 
 pub returns : goal.returns

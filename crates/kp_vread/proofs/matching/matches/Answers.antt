@@ -1,5 +1,5 @@
 use Rattle.std.proofs.{Common.◌≡◌, Common.true, Common.false, lemmas.Bool.Decides.not_from_Decides}
-use Rattle.kp_vread.{specs.inner.Tests.is_of_job, proofs.Matches.is_found}
+use Rattle.kp_vread.{specs.inner.Tests.is_of_job, proofs.JobMatches.is_found}
 use Rattle.kp_vread.proofs.matching.matches.Goals as goal
 
 pub returns-then-is_of_job : goal.returns-then-is_of_job
