@@ -2,7 +2,7 @@
 use Rattle.std.proofs.Common.{true, sym, subst, IfSome, ap, drop, [], ◌++◌, ◌⊎◌, ◌∙◌, inl, None, arith, append-nil, length-append, ◌≡◌, ℕ, ◌<◌, ◌≤◌, List, length, refl, inr, Some, Ok, Err}
 use Rattle.std.{proofs.lemmas.Bool.lt-ltb, specs.declared.option.Option.Option, specs.Io.KnownBytes.Consumes, specs.declared.result.Result.Result}
 use Rattle.kp_words.specs.declared.commands.Command.TheVariants.{OnJob, Assemble, Read, Watch, Compare, Debug, Generate}
-use Rattle.kp_words.specs.{declared.words.Command.Command, declared.words.JobCommand.JobCommand, Commands.command_of, Commands.reads_input}
+use Rattle.kp_words.specs.{declared.commands.Command.Command, declared.commands.JobCommand.JobCommand, Commands.command_of, Commands.reads_input}
 use Rattle.kp_base.specs.declared.refusal.Refusal.{Refusal}
 use Rattle.kp_ast.specs.declared.tree.Job.{Job}
 use Rattle.kp_frontend.specs.Judging.{Judges, JudgesText, JudgesHeadText, too_long, JudgesHead, JudgesHead.head_over, JudgesHead.head_within}
