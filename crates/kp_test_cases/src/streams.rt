@@ -1,4 +1,6 @@
 //! The source and the sinks of a call.
+ghost use Rattle.std.specs.Prelude.{◌≤◌};
+
 use crate::head::{cut, number_or, numbers_in, option};
 use kp_base::{MemSink, MemSource};
 use std::alloc::{AllocError, Global};
@@ -27,7 +29,9 @@ impl Streams {
     }
 }
 
-fn most(head: &[u8]) -> usize {
+fn most(head: &[u8]) -> usize
+    ensures { 1 ≤ result }
+{
     (number_or(head, b"most", MOST) as usize).max(1)
 }
 
