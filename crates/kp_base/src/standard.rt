@@ -1,5 +1,7 @@
-// The real ends of a program: std's readers and writers, whose ghost values have no bytes.
-ghost use Rattle.std.specs.Prelude.{◌≡◌, None, List, ℕ};
+// The real ends of a program: std's readers and writers. Their bytes are those that the reader or the writer specifies.
+ghost use Rattle.std.specs.Prelude.{◌≡◌, List, ℕ};
+ghost use Rattle.std.specs.Io.KnownBytes.{Keeps};
+ghost use Rattle.kp_base.specs.Causes.{HasCause};
 
 use crate::{Failed, Sink, Source};
 use std::io::{Read, Write};
@@ -14,14 +16,15 @@ pub struct StdSource<R: Read> {
 impl<R: Read> StdSource<R> {
     /// A source that has not failed yet.
     pub fn new(reader: R) -> Self
-        ensures { result.faults ≡ 0 }
+        ensures reader { result.reader ≡ reader }
+        ensures faults { result.faults ≡ 0 }
     {
         StdSource { reader, faults: 0 }
     }
 }
 
 impl<R: Read> Source for StdSource<R> {
-    ghost left = { λ _. None };
+    ghost left = { λ s. R.remaining s.reader };
 
     ghost faults = { λ s. s.faults };
 
@@ -46,24 +49,29 @@ pub struct StdSink<W: Write> {
 impl<W: Write> StdSink<W> {
     /// A sink that has not failed yet.
     pub fn new(writer: W) -> Self
-        ensures { result.faults ≡ 0 }
+        ensures writer { result.writer ≡ writer }
+        ensures faults { result.faults ≡ 0 }
     {
         StdSink { writer, faults: 0 }
     }
 
-    /// Writes what a writer that buffers still has.
+    /// Writes what a writer that buffers still has. An error of the writer counts as a fault.
     pub fn finish(&mut self) -> Result<(), Failed>
-        ensures { self.new.faults ≡ self.old.faults }
+        ensures bytes { Keeps (W.contents self.old.writer) (W.contents self.new.writer) }
+        ensures cause { HasCause self.old.faults self.new.faults result }
     {
         match self.writer.flush() {
             Ok(()) => Ok(()),
-            Err(_) => Err(Failed),
+            Err(_) => {
+                self.faults = self.faults.saturating_add(1);
+                Err(Failed)
+            }
         }
     }
 }
 
 impl<W: Write> Sink for StdSink<W> {
-    ghost held = { λ _. None };
+    ghost held = { λ s. W.contents s.writer };
 
     ghost faults = { λ s. s.faults };
 

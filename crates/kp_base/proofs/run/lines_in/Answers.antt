@@ -1,6 +1,6 @@
-use Rattle.std.proofs.Common.{◌≡◌, ◌+◌, ◌<◌, ◌≤◌, ℕ, Bool, true, false, List, [], ◌∷◌, ◌++◌, length, get_or, map, All, refl, sym, subst, ap, ◌∙◌, arith, ⊎_elim}
+use Rattle.std.proofs.Common.{◌≡◌, ◌<◌, ◌≤◌, ℕ, Bool, true, false, [], ◌∷◌, ◌++◌, length, get_or, map, All, refl, sym, subst, ap, ◌∙◌, arith, ⊎_elim}
 use Rattle.std.proofs.lemmas.{Bool.cases_lt, List.Elements.All-append}
-use Rattle.kp_base.specs.{Lines.Piece, Lines.is_break, Lines.piece_of, Lines.IsWithin, declared.run.Run.Run}
+use Rattle.kp_base.specs.{Lines.is_break, Lines.piece_of, Lines.IsWithin}
 use Rattle.kp_base.proofs.Splitting.{between, lines_more, lines_last, run_within}
 use Rattle.kp_base.proofs.run.lines_in.Goals as goal
 
