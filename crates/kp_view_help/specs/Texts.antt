@@ -1,8 +1,12 @@
--- The text of a word, and of the token at a place.
-use Rattle.std.specs.Prelude.{ℕ, List, ◌++◌, take, length, nat_lt, if◌then◌else◌, flat_map, codes}
+-- The texts of terms: a word, the token at a place, a kind of names, a number of bits.
+use Rattle.std.specs.Prelude.{ℕ, List, ◌++◌, Bool, true, false, ◌&&◌, take, length, nat_lt, ◌==◌, if◌then◌else◌, flat_map, codes, decimal}
 use Rattle.std.specs.Char.{encode_utf8}
-use Rattle.kp_view_help.specs.declared.{word.Word.Word, found.FoundToken.FoundToken}
+use Rattle.kp_view_expected.specs.Texts.{class_text}
+use Rattle.kp_view_help.specs.declared.{word.Word.Word, found.FoundToken.FoundToken, kind.Kind.Kind, kind.Wanted.Wanted, phrase.Term.Term}
 use Rattle.kp_view_help.specs.declared.found.FoundToken.TheVariants as tokens
+use Rattle.kp_view_help.specs.declared.kind.Kind.TheVariants as kinds
+use Rattle.kp_view_help.specs.declared.kind.Wanted.TheVariants as wanted
+use Rattle.kp_view_help.specs.declared.phrase.Term.TheVariants as term
 
 -- bytes, each as a character; of more than 80 the first 80
 abbrev pub shown : List ℕ → List ℕ
@@ -18,3 +22,59 @@ found_text (tokens.Name w) = codes "the name `" ++ word_text w ++ codes "`"
 found_text (tokens.Number w) = codes "the number `" ++ word_text w ++ codes "`"
 found_text (tokens.Literal w) = codes "the literal `" ++ word_text w ++ codes "`"
 found_text tokens.End = codes "the end of the text"
+
+abbrev pub bits_text : ℕ → List ℕ
+bits_text count = if count == 1 then codes "1 bit" else decimal count ++ codes " bits"
+
+abbrev pub kind_text : Kind → List ℕ
+kind_text kinds.Register = codes "register"
+kind_text kinds.File = codes "file"
+kind_text kinds.Pipe = codes "pipe"
+kind_text kinds.Output = codes "result"
+kind_text kinds.Hint = codes "hint"
+kind_text kinds.Sample = codes "sample"
+kind_text kinds.Function = codes "function"
+kind_text kinds.Parameter = codes "parameter"
+kind_text kinds.Read = codes "name given by `read`"
+kind_text kinds.Local = codes "name given by `let`"
+
+abbrev pub wanted_text : Wanted → List ℕ
+wanted_text wanted.Value = codes "a pipe, a sample, or a name of this stage"
+wanted_text wanted.Parameter = codes "a parameter of the function"
+wanted_text wanted.Register = codes "a register"
+wanted_text wanted.File = codes "a file"
+wanted_text wanted.Pipe = codes "a pipe"
+wanted_text wanted.Output = codes "a result"
+wanted_text wanted.Hint = codes "a hint"
+wanted_text wanted.Function = codes "a function"
+
+-- whether a name of the kind may stand where this is wanted
+abbrev pub takes : Wanted → Kind → Bool
+takes wanted.Value kinds.Pipe = true
+takes wanted.Value kinds.Hint = true
+takes wanted.Value kinds.Sample = true
+takes wanted.Value kinds.Read = true
+takes wanted.Value kinds.Local = true
+takes wanted.Parameter kinds.Parameter = true
+takes wanted.Register kinds.Register = true
+takes wanted.File kinds.File = true
+takes wanted.Pipe kinds.Pipe = true
+takes wanted.Output kinds.Output = true
+takes wanted.Hint kinds.Hint = true
+takes wanted.Function kinds.Function = true
+takes _ _ = false
+
+-- a byte that no token begins with: the character, where ASCII prints one, and else its number
+abbrev pub byte_text : ℕ → List ℕ
+byte_text byte = if nat_lt 32 byte && nat_lt byte 127 then codes "`" ++ encode_utf8 byte ++ codes "`" else codes "the byte " ++ decimal byte
+
+abbrev pub term_text : Term → List ℕ
+term_text (term.Number n) = decimal n
+term_text (term.Bits count) = bits_text count
+term_text (term.Word w) = word_text w
+term_text (term.Kind k) = kind_text k
+term_text (term.Wanted w) = wanted_text w
+term_text (term.Class c) = class_text c
+term_text (term.Found t) = found_text t
+term_text (term.Byte byte) = byte_text byte
+term_text (term.Text text) = text.now

@@ -1,4 +1,7 @@
 // What helps where a rule is broken.
+ghost use Rattle.std.specs.Prelude.{IsTrue, ◌↔◌};
+ghost use Rattle.kp_view_help.specs.Helps.{Ends, HelpsAt, HelpsAtKeyword, HelpsAtMark, IsHelpForWords};
+
 use crate::found::FoundToken;
 use crate::phrase::{Term, Terms, write_phrase};
 use crate::word::Word;
@@ -77,7 +80,9 @@ impl<'t> Help<'t> {
         found: FoundToken<'t>,
         expected: Expected,
         width: Option<u64>,
-    ) -> Option<Help<'t>> {
+    ) -> Option<Help<'t>>
+        ensures { HelpsAt found.entry expected width result }
+    {
         match found {
             FoundToken::Number(word) => {
                 if expected.has(TokenClass::Literal) {
@@ -86,37 +91,50 @@ impl<'t> Help<'t> {
                     None
                 }
             }
-            FoundToken::Mark(Word(b"[")) => {
-                if has_mark(expected, Mark::CloseBracket) && !has_mark(expected, Mark::Plus) {
-                    Some(Help::AddressInPipe)
-                } else {
-                    None
-                }
-            }
-            FoundToken::Keyword(Word(b"when")) => {
-                if has_mark(expected, Mark::Semicolon) && !has_mark(expected, Mark::Plus) {
-                    Some(Help::WhenBeforeAt)
-                } else {
-                    None
-                }
-            }
+            FoundToken::Mark(word) => Help::at_mark(word, expected),
+            FoundToken::Keyword(word) => Help::at_keyword(word, expected),
             _ => None,
         }
     }
 
-    /// What helps where the number of words is in the place of the width of their addresses.
-    pub fn words(value: u64) -> Option<Help<'t>> {
-        if value > 16 && value <= 65536 && value.is_power_of_two() {
-            let bits = value.trailing_zeros();
-            Some(Help::AddressWords { words: value, bits })
+    fn at_mark(word: Word<'t>, expected: Expected) -> Option<Help<'t>>
+        ensures { HelpsAtMark word.entry expected result }
+    {
+        if word.0 == b"[".as_slice() && ends(expected, Mark::CloseBracket) {
+            Some(Help::AddressInPipe)
         } else {
             None
         }
     }
+
+    fn at_keyword(word: Word<'t>, expected: Expected) -> Option<Help<'t>>
+        ensures { HelpsAtKeyword word.entry expected result }
+    {
+        if word.0 == b"when".as_slice() && ends(expected, Mark::Semicolon) {
+            Some(Help::WhenBeforeAt)
+        } else {
+            None
+        }
+    }
+
+    /// What helps where the number of words is in the place of the width of their addresses.
+    pub fn words(value: u64) -> Option<Help<'t>>
+        ensures { IsHelpForWords value result }
+    {
+        for bits in 5..17 {
+            if value == 1u64 << bits {
+                return Some(Help::AddressWords { words: value, bits });
+            }
+        }
+        None
+    }
 }
 
-fn has_mark(expected: Expected, mark: Mark) -> bool {
-    expected.has(TokenClass::Mark(mark))
+// Whether a text goes on with the mark, and doesn't with an operator.
+fn ends(expected: Expected, mark: Mark) -> bool
+    ensures { IsTrue result ↔ Ends expected mark }
+{
+    expected.has(TokenClass::Mark(mark)) && !expected.has(TokenClass::Mark(Mark::Plus))
 }
 
 impl<'t> Help<'t> {

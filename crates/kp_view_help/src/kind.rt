@@ -1,4 +1,7 @@
 // What names are, and what is wanted at a place.
+ghost use Rattle.std.specs.Prelude.{◌≡◌, Some};
+ghost use Rattle.kp_view_help.specs.Texts.{kind_text, takes, wanted_text};
+
 use std::fmt;
 
 /// What a name names.
@@ -17,7 +20,9 @@ pub enum Kind {
 }
 
 impl Kind {
-    fn text(self) -> &'static str {
+    fn text(self) -> &'static str
+        ensures { result.now ≡ kind_text self }
+    {
         match self {
             Kind::Register => "register",
             Kind::File => "file",
@@ -34,6 +39,8 @@ impl Kind {
 }
 
 impl fmt::Display for Kind {
+    ghost output = { λ kind. Some (kind_text kind) };
+
     fn fmt<W: fmt::Write>(&self, f: &mut fmt::Formatter<W>) -> fmt::Result {
         f.write_str(self.text())
     }
@@ -56,7 +63,9 @@ pub enum Wanted {
 
 impl Wanted {
     /// Whether a name of this kind may stand there.
-    pub fn takes(self, kind: Kind) -> bool {
+    pub fn takes(self, kind: Kind) -> bool
+        ensures { result ≡ takes self kind }
+    {
         match (self, kind) {
             (Wanted::Value, Kind::Pipe | Kind::Hint | Kind::Sample | Kind::Read | Kind::Local)
             | (Wanted::Parameter, Kind::Parameter)
@@ -70,7 +79,9 @@ impl Wanted {
         }
     }
 
-    fn text(self) -> &'static str {
+    fn text(self) -> &'static str
+        ensures { result.now ≡ wanted_text self }
+    {
         match self {
             Wanted::Value => "a pipe, a sample, or a name of this stage",
             Wanted::Parameter => "a parameter of the function",
@@ -85,6 +96,8 @@ impl Wanted {
 }
 
 impl fmt::Display for Wanted {
+    ghost output = { λ wanted. Some (wanted_text wanted) };
+
     fn fmt<W: fmt::Write>(&self, f: &mut fmt::Formatter<W>) -> fmt::Result {
         f.write_str(self.text())
     }

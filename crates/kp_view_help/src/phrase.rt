@@ -1,4 +1,10 @@
 // Sentences with terms in them.
+ghost use Rattle.std.specs.Prelude.{[], Some, slice_index_or};
+ghost use Rattle.std.specs.Fmt.{WritesOnOk};
+ghost use Rattle.kp_view_help.specs.Texts.{byte_text, term_text};
+ghost use Rattle.kp_view_help.specs.Phrases.{phrase_text, terms_texts};
+ghost use Rattle.kp_view_help.specs.inner.Terms.{IsTermAt};
+
 use crate::found::FoundToken;
 use crate::kind::{Kind, Wanted};
 use crate::word::{Bits, Word};
@@ -22,6 +28,8 @@ pub enum Term<'t> {
 }
 
 impl<'t> Display for Term<'t> {
+    ghost output = { λ term. Some (term_text term) };
+
     fn fmt<W: fmt::Write>(&self, f: &mut fmt::Formatter<W>) -> fmt::Result {
         match self {
             Term::Number(number) => number.fmt(f),
@@ -38,7 +46,9 @@ impl<'t> Display for Term<'t> {
 }
 
 // A byte, as the character that it is, or as its number where that isn't printed.
-fn write_byte<W: fmt::Write>(f: &mut fmt::Formatter<W>, byte: u8) -> fmt::Result {
+fn write_byte<W: fmt::Write>(f: &mut fmt::Formatter<W>, byte: u8) -> fmt::Result
+    ensures { WritesOnOk W.write_str_gives f.old result (byte_text byte) f.new }
+{
     let shown = char::from(byte);
     if byte > 32 && byte < 127 {
         write!(f, "`{shown}`")
@@ -60,15 +70,22 @@ pub enum Terms<'t> {
 
 impl<'t> Terms<'t> {
     // The term of this number, counted from 0.
-    fn get(&self, number: usize) -> Option<&Term<'t>> {
+    fn get(&self, number: usize) -> Option<&Term<'t>>
+        ensures { IsTermAt self.now number result }
+    {
         match number {
             0 => self.first(),
             1 => self.second(),
-            _ => self.later(number),
+            2 => self.third(),
+            3 => self.fourth(),
+            4 => self.fifth(),
+            _ => None,
         }
     }
 
-    fn first(&self) -> Option<&Term<'t>> {
+    fn first(&self) -> Option<&Term<'t>>
+        ensures { IsTermAt self.now 0 result }
+    {
         Some(match self {
             Terms::None => return None,
             Terms::One(term)
@@ -79,7 +96,9 @@ impl<'t> Terms<'t> {
         })
     }
 
-    fn second(&self) -> Option<&Term<'t>> {
+    fn second(&self) -> Option<&Term<'t>>
+        ensures { IsTermAt self.now 1 result }
+    {
         Some(match self {
             Terms::None | Terms::One(_) => return None,
             Terms::Two(_, term)
@@ -89,17 +108,32 @@ impl<'t> Terms<'t> {
         })
     }
 
-    // One after the second.
-    fn later(&self, number: usize) -> Option<&Term<'t>> {
-        Some(match (self, number) {
-            (Terms::Three(_, _, term), 2)
-            | (Terms::Four(_, _, term, _), 2)
-            | (Terms::Five(_, _, term, _, _), 2)
-            | (Terms::Four(_, _, _, term), 3)
-            | (Terms::Five(_, _, _, term, _), 3)
-            | (Terms::Five(_, _, _, _, term), 4) => term,
+    fn third(&self) -> Option<&Term<'t>>
+        ensures { IsTermAt self.now 2 result }
+    {
+        Some(match self {
+            Terms::Three(_, _, term) | Terms::Four(_, _, term, _) | Terms::Five(_, _, term, _, _) =>
+                term,
             _ => return None,
         })
+    }
+
+    fn fourth(&self) -> Option<&Term<'t>>
+        ensures { IsTermAt self.now 3 result }
+    {
+        Some(match self {
+            Terms::Four(_, _, _, term) | Terms::Five(_, _, _, term, _) => term,
+            _ => return None,
+        })
+    }
+
+    fn fifth(&self) -> Option<&Term<'t>>
+        ensures { IsTermAt self.now 4 result }
+    {
+        match self {
+            Terms::Five(_, _, _, _, term) => Some(term),
+            _ => None,
+        }
     }
 }
 
@@ -109,12 +143,14 @@ pub fn write_phrase<W: fmt::Write>(
     f: &mut fmt::Formatter<W>,
     text: &str,
     terms: &Terms<'_>,
-) -> fmt::Result {
+) -> fmt::Result
+    ensures { WritesOnOk W.write_str_gives f.old result (phrase_text text.now (terms_texts terms.now)) f.new }
+{
     let mut number = 0usize;
     for byte in text.as_bytes() {
         match *byte {
             b'{' => {
-                write_term(f, terms.get(number))?;
+                write_term(f, terms, number)?;
                 number = number.saturating_add(1);
             }
             b'}' => {}
@@ -124,8 +160,15 @@ pub fn write_phrase<W: fmt::Write>(
     Ok(())
 }
 
-fn write_term<W: fmt::Write>(f: &mut fmt::Formatter<W>, term: Option<&Term<'_>>) -> fmt::Result {
-    match term {
+// Writes the term of this number, if there is one.
+fn write_term<W: fmt::Write>(
+    f: &mut fmt::Formatter<W>,
+    terms: &Terms<'_>,
+    number: usize,
+) -> fmt::Result
+    ensures { WritesOnOk W.write_str_gives f.old result (slice_index_or (terms_texts terms.now) number []) f.new }
+{
+    match terms.get(number) {
         Some(term) => term.fmt(f),
         None => Ok(()),
     }

@@ -2,7 +2,7 @@
 ghost use Rattle.std.specs.Prelude.{◌≡◌, flat_map, Some};
 ghost use Rattle.std.specs.Char.{encode_utf8};
 ghost use Rattle.std.specs.Fmt.{WritesOnOk};
-ghost use Rattle.kp_view_help.specs.Texts.{word_text};
+ghost use Rattle.kp_view_help.specs.Texts.{bits_text, word_text};
 
 use kp_ast::Name;
 use std::fmt;
@@ -53,6 +53,8 @@ fn write_bytes<W: fmt::Write>(f: &mut fmt::Formatter<W>, bytes: &[u8]) -> fmt::R
 pub struct Bits(pub u64);
 
 impl fmt::Display for Bits {
+    ghost output = { λ bits. Some (bits_text bits.0) };
+
     fn fmt<W: fmt::Write>(&self, f: &mut fmt::Formatter<W>) -> fmt::Result {
         let count = self.0;
         if count == 1 {
