@@ -1,5 +1,9 @@
 // A wrong guess, hint or sample, or a write that a guess forbids.
-use kp_view_help::{Help, Term, Terms, Word};
+ghost use Rattle.std.specs.Prelude.{◌≡◌};
+ghost use Rattle.kp_view_message.specs.{Helps.guess_help, Rules.guess_rule};
+
+use crate::sentence::Sentence;
+use kp_view_help::{Help, Word};
 
 /// A wrong guess, hint or sample, or a write that a guess forbids.
 #[derive(Clone, Copy)]
@@ -32,7 +36,9 @@ pub enum GuessFault<'t> {
 
 impl<'t> GuessFault<'t> {
     /// The number of the rule.
-    pub fn rule(&self) -> u8 {
+    pub fn rule(&self) -> u8
+        ensures { result ≡ guess_rule self.now }
+    {
         match self {
             GuessFault::GuessedFile(_)
             | GuessFault::GuessWithoutResult(_)
@@ -45,7 +51,9 @@ impl<'t> GuessFault<'t> {
     }
 
     // What helps, if anything is known to.
-    pub(crate) fn help(&self) -> Option<Help<'t>> {
+    pub(crate) fn help(&self) -> Option<Help<'t>>
+        ensures { result ≡ guess_help self.now }
+    {
         Some(match self {
             GuessFault::EarlyWrite { .. } => Help::NotWritten,
             GuessFault::EarlySample { .. } => Help::NotSampled,
@@ -54,43 +62,44 @@ impl<'t> GuessFault<'t> {
         })
     }
 
-    // The sentence, in which the terms are printed.
-    pub(crate) fn text(&self) -> &'static str {
+    // The sentence, with its terms.
+    pub(crate) fn sentence(&self) -> Sentence<'t> {
         match self {
-            GuessFault::GuessedFile(_) => "`{}` is a file, and only a register can be guessed",
-            GuessFault::GuessWithoutResult(_) =>
+            GuessFault::GuessedFile(name) => return Sentence::of_name(
+                "`{}` is a file, and only a register can be guessed",
+                *name,
+            ),
+            GuessFault::GuessWithoutResult(name) => return Sentence::of_name(
                 "`{}` has no result: it never changes, and there is nothing to guess",
-            GuessFault::GuessLate { .. } =>
+                *name,
+            ),
+            GuessFault::GuessLate { name, write, here } => return Sentence::of_name_and_numbers(
                 "`{}` is written in stage {}; a guess stands at least two stages before, and this is stage {}",
-            GuessFault::EarlyWrite { .. } =>
+                *name,
+                *write,
+                *here as u64,
+            ),
+            GuessFault::EarlyWrite { top } => return Sentence::of_numbers(
                 "beside a guess of a register that is written in stage {}, a result is written in stage {} at the earliest",
-            GuessFault::EarlySample { .. } =>
+                *top,
+                top.saturating_sub(1),
+            ),
+            GuessFault::EarlySample { top } => return Sentence::of_numbers(
                 "beside a guess of a register that is written in stage {}, a sample is taken in stage {} at the earliest",
-            GuessFault::HintAsValue(_) => "`{}` is a hint, and counts in `guess` and `aim` alone",
-            GuessFault::SampleElsewhere { .. } =>
-                "the sample `{}` is seen in stage {} alone (line {})",
-        }
-    }
-
-    // The terms of the sentence.
-    pub(crate) fn terms(&self) -> Terms<'t> {
-        match self {
-            GuessFault::GuessedFile(name)
-            | GuessFault::GuessWithoutResult(name)
-            | GuessFault::HintAsValue(name) => Terms::One(Term::Word(*name)),
-            GuessFault::EarlyWrite { top } | GuessFault::EarlySample { top } => {
-                Terms::Two(Term::Number(*top), Term::Number(top.saturating_sub(1)))
-            }
-            GuessFault::GuessLate { name, write, here } => Terms::Three(
-                Term::Word(*name),
-                Term::Number(*write),
-                Term::Number(*here as u64),
+                *top,
+                top.saturating_sub(1),
             ),
-            GuessFault::SampleElsewhere { name, stage, line } => Terms::Three(
-                Term::Word(*name),
-                Term::Number(*stage),
-                Term::Number(*line as u64),
+            GuessFault::HintAsValue(name) => return Sentence::of_name(
+                "`{}` is a hint, and counts in `guess` and `aim` alone",
+                *name,
             ),
+            GuessFault::SampleElsewhere { name, stage, line } =>
+                return Sentence::of_name_and_numbers(
+                    "the sample `{}` is seen in stage {} alone (line {})",
+                    *name,
+                    *stage,
+                    *line as u64,
+                ),
         }
     }
 }

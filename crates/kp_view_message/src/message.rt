@@ -1,13 +1,15 @@
 // The message for a violated rule.
-ghost use Rattle.kp_view_message.specs.Texts.{message_text};
+ghost use Rattle.std.specs.Prelude.{◌≡◌};
+ghost use Rattle.kp_view_message.specs.{Helps.AreHelps, Helps.IsHelp, Helps.second_help, Rules.rule_of, Sentences.places, Texts.message_text};
 
 use crate::guess_fault::GuessFault;
 use crate::name_fault::NameFault;
 use crate::reading_fault::ReadingFault;
 use crate::section_fault::SectionFault;
+use crate::sentence::Sentence;
 use crate::stage_fault::StageFault;
 use crate::width_fault::WidthFault;
-use kp_view_help::{Help, Terms, write_phrase};
+use kp_view_help::Help;
 use std::fmt::{self, Display};
 
 /// A way to violate a rule, with the facts that it rests on. Lines are those of declarations and earlier statements.
@@ -25,7 +27,9 @@ pub enum Message<'t> {
 
 impl<'t> Message<'t> {
     /// The number of the rule.
-    pub fn rule(&self) -> u8 {
+    pub fn rule(&self) -> u8
+        ensures { result ≡ rule_of self.now }
+    {
         match self {
             Message::Reading(fault) => fault.rule(),
             Message::Name(fault) => fault.rule(),
@@ -38,11 +42,15 @@ impl<'t> Message<'t> {
     }
 
     /// What helps, in up to three lines.
-    pub fn helps(&self) -> [Option<Help<'t>>; 3] {
+    pub fn helps(&self) -> [Option<Help<'t>>; 3]
+        ensures { AreHelps self.now result }
+    {
         [self.help(), self.second_help(), None]
     }
 
-    fn help(&self) -> Option<Help<'t>> {
+    fn help(&self) -> Option<Help<'t>>
+        ensures { IsHelp self.now result }
+    {
         match self {
             Message::Reading(fault) => fault.help(),
             Message::Name(fault) => fault.help(),
@@ -54,34 +62,25 @@ impl<'t> Message<'t> {
         }
     }
 
-    fn second_help(&self) -> Option<Help<'t>> {
+    fn second_help(&self) -> Option<Help<'t>>
+        ensures { result ≡ second_help self.now }
+    {
         match self {
             Message::Name(fault) => fault.second_help(),
             _ => None,
         }
     }
 
-    fn text(&self) -> &'static str {
+    // The sentence, with its terms.
+    fn sentence(&self) -> Sentence<'t> {
         match self {
-            Message::Reading(fault) => fault.text(),
-            Message::Name(fault) => fault.text(),
-            Message::Width(fault) => fault.text(),
-            Message::Stage(fault) => fault.text(),
-            Message::Guess(fault) => fault.text(),
-            Message::Section(fault) => fault.text(),
-            Message::Fixed(number) => fixed(*number),
-        }
-    }
-
-    fn terms(&self) -> Terms<'t> {
-        match self {
-            Message::Reading(fault) => fault.terms(),
-            Message::Name(fault) => fault.terms(),
-            Message::Width(fault) => fault.terms(),
-            Message::Stage(fault) => fault.terms(),
-            Message::Guess(fault) => fault.terms(),
-            Message::Section(fault) => fault.terms(),
-            Message::Fixed(_) => Terms::None,
+            Message::Reading(fault) => return fault.sentence(),
+            Message::Name(fault) => return fault.sentence(),
+            Message::Width(fault) => return fault.sentence(),
+            Message::Stage(fault) => return fault.sentence(),
+            Message::Guess(fault) => return fault.sentence(),
+            Message::Section(fault) => return fault.sentence(),
+            Message::Fixed(number) => return Sentence::plain(fixed(*number)),
         }
     }
 }
@@ -98,13 +97,15 @@ impl<'t> Display for Message<'t> {
                     ..
                 },
             ) => { write!(f, "expected {expected}, found {found}") }
-            _ => { write_phrase(f, self.text(), &self.terms()) }
+            _ => { self.sentence().fmt(f) }
         }
     }
 }
 
 // The sentence for a rule where no more is known.
-fn fixed(number: u8) -> &'static str {
+fn fixed(number: u8) -> &'static str
+    ensures { places result.now ≡ 0 }
+{
     match number {
         1 => "no word of the language begins here",
         4 => "no description goes on here",

@@ -1,6 +1,10 @@
 // Why a text is no sentence of the language.
+ghost use Rattle.std.specs.Prelude.{◌≡◌};
+ghost use Rattle.kp_view_message.specs.{Helps.IsReadingHelp, Rules.reading_rule};
+
+use crate::sentence::Sentence;
 use kp_view_expected::Expected;
-use kp_view_help::{FoundToken, Help, Term, Terms};
+use kp_view_help::{FoundToken, Help, Term};
 
 /// Why a text is no sentence of the language.
 #[derive(Clone, Copy)]
@@ -24,7 +28,9 @@ pub enum ReadingFault<'t> {
 
 impl<'t> ReadingFault<'t> {
     /// The number of the rule.
-    pub fn rule(&self) -> u8 {
+    pub fn rule(&self) -> u8
+        ensures { result ≡ reading_rule self.now }
+    {
         match self {
             ReadingFault::NoToken(_) | ReadingFault::LongName(_) => 1,
             ReadingFault::NoNumber => 2,
@@ -34,7 +40,9 @@ impl<'t> ReadingFault<'t> {
     }
 
     // What helps, if anything is known to.
-    pub(crate) fn help(&self) -> Option<Help<'t>> {
+    pub(crate) fn help(&self) -> Option<Help<'t>>
+        ensures { IsReadingHelp self.now result }
+    {
         match self {
             ReadingFault::Unexpected {
                 found,
@@ -46,26 +54,27 @@ impl<'t> ReadingFault<'t> {
         }
     }
 
-    // The sentence, in which the terms are printed. Where a token is unexpected, the message has a list in it and is printed apart.
-    pub(crate) fn text(&self) -> &'static str {
+    // The sentence. Where a token is unexpected, the message has a list in it and is printed apart.
+    pub(crate) fn sentence(&self) -> Sentence<'t> {
         match self {
-            ReadingFault::NoToken(_) => "no word of the language begins with {}",
-            ReadingFault::LongName(_) =>
+            ReadingFault::NoToken(byte) => return Sentence::one(
+                "no word of the language begins with {}",
+                Term::Byte(*byte),
+            ),
+            ReadingFault::LongName(length) => return Sentence::of_number(
                 "a name has at most 64 letters, digits and `_`; this has {}",
-            ReadingFault::NoNumber => "neither a number below 2^64 nor a literal such as `8'h1f`",
-            ReadingFault::Unexpected { .. } => "expected ",
-            ReadingFault::AfterEnd => "expected the end of the text after `end`",
-            ReadingFault::TooDeep =>
+                *length as u64,
+            ),
+            ReadingFault::NoNumber => return Sentence::plain(
+                "neither a number below 2^64 nor a literal such as `8'h1f`",
+            ),
+            ReadingFault::Unexpected { .. } => return Sentence::plain("expected "),
+            ReadingFault::AfterEnd => return Sentence::plain(
+                "expected the end of the text after `end`",
+            ),
+            ReadingFault::TooDeep => return Sentence::plain(
                 "more than 64 brackets and operators of this expression are open here",
-        }
-    }
-
-    // The terms of the sentence.
-    pub(crate) fn terms(&self) -> Terms<'t> {
-        match self {
-            ReadingFault::NoToken(byte) => Terms::One(Term::Byte(*byte)),
-            ReadingFault::LongName(length) => Terms::One(Term::Number(*length as u64)),
-            _ => Terms::None,
+            ),
         }
     }
 }

@@ -1,5 +1,9 @@
 // A wrong entry of a section.
-use kp_view_help::{Help, Kind, Term, Terms, Word};
+ghost use Rattle.std.specs.Prelude.{◌≡◌};
+ghost use Rattle.kp_view_message.specs.{Helps.section_help, Rules.section_rule};
+
+use crate::sentence::Sentence;
+use kp_view_help::{Help, Kind, Word};
 
 /// A wrong entry of a section.
 #[derive(Clone, Copy)]
@@ -51,7 +55,9 @@ pub enum SectionFault<'t> {
 
 impl<'t> SectionFault<'t> {
     /// The number of the rule.
-    pub fn rule(&self) -> u8 {
+    pub fn rule(&self) -> u8
+        ensures { result ≡ section_rule self.now }
+    {
         match self {
             SectionFault::Unknown(_)
             | SectionFault::Empty { .. }
@@ -67,64 +73,72 @@ impl<'t> SectionFault<'t> {
     }
 
     // What helps, if anything is known to.
-    pub(crate) fn help(&self) -> Option<Help<'t>> {
+    pub(crate) fn help(&self) -> Option<Help<'t>>
+        ensures { result ≡ section_help self.now }
+    {
         match self {
             SectionFault::NoAddress { name, .. } => Some(Help::WithNumber(*name)),
             _ => None,
         }
     }
 
-    // The sentence, in which the terms are printed.
-    pub(crate) fn text(&self) -> &'static str {
+    // The sentence, with its terms.
+    pub(crate) fn sentence(&self) -> Sentence<'t> {
         match self {
-            SectionFault::Unknown(_) =>
+            SectionFault::Unknown(name) => return Sentence::of_name(
                 "`{}` is declared nowhere; an image fills registers and files",
-            SectionFault::Empty { .. } =>
+                *name,
+            ),
+            SectionFault::Empty { name, kind, line } => return Sentence::of_kind(
                 "`{}` is a {} (line {}); an image fills registers and files",
-            SectionFault::NoAddress { .. } => "`{}` is a file (line {}), and needs an address",
-            SectionFault::NeedlessAddress { .. } =>
+                *name,
+                *kind,
+                *line,
+            ),
+            SectionFault::NoAddress { name, line } => return Sentence::of_name_and_number(
+                "`{}` is a file (line {}), and needs an address",
+                *name,
+                *line as u64,
+            ),
+            SectionFault::NeedlessAddress { name, line } => return Sentence::of_name_and_number(
                 "`{}` is a register (line {}), and has no address",
-            SectionFault::AddressBeyond { .. } =>
-                "the addresses of `{}` are 0 to {}, and {} isn't one of them",
-            SectionFault::WordBeyond { .. } =>
+                *name,
+                *line as u64,
+            ),
+            SectionFault::AddressBeyond { name, last, value } =>
+                return Sentence::of_name_and_numbers(
+                    "the addresses of `{}` are 0 to {}, and {} isn't one of them",
+                    *name,
+                    *last,
+                    *value,
+                ),
+            SectionFault::WordBeyond { name, last } => return Sentence::of_name_and_number(
                 "this word lies after the last one of `{}`, whose address is {}",
-            SectionFault::SecondStart(_) => "`{}` is a register, and has one value",
-            SectionFault::NoStage { .. } => "there is no stage {}: the stages are 0 to {}",
-            SectionFault::UnknownSample(_) =>
+                *name,
+                *last,
+            ),
+            SectionFault::SecondStart(name) => return Sentence::of_name(
+                "`{}` is a register, and has one value",
+                *name,
+            ),
+            SectionFault::NoStage { found, stages } => return Sentence::of_numbers(
+                "there is no stage {}: the stages are 0 to {}",
+                *found,
+                stages.saturating_sub(1),
+            ),
+            SectionFault::UnknownSample(name) => return Sentence::of_name(
                 "`{}` is declared nowhere; inputs are the values of samples",
-            SectionFault::NoSample { .. } =>
+                *name,
+            ),
+            SectionFault::NoSample { name, kind, line } => return Sentence::of_kind(
                 "`{}` is a {} (line {}); inputs are the values of samples",
-            SectionFault::StallStep | SectionFault::InputStep => "a step is 1 or more",
-        }
-    }
-
-    // The terms of the sentence.
-    pub(crate) fn terms(&self) -> Terms<'t> {
-        match self {
-            SectionFault::Unknown(name)
-            | SectionFault::SecondStart(name)
-            | SectionFault::UnknownSample(name) => Terms::One(Term::Word(*name)),
-            SectionFault::NoAddress { name, line } | SectionFault::NeedlessAddress { name, line } =>
-                { Terms::Two(Term::Word(*name), Term::Number(*line as u64)) }
-            SectionFault::Empty { name, kind, line }
-            | SectionFault::NoSample { name, kind, line } => Terms::Three(
-                Term::Word(*name),
-                Term::Kind(*kind),
-                Term::Number(*line as u64),
+                *name,
+                *kind,
+                *line,
             ),
-            SectionFault::AddressBeyond { name, last, value } => Terms::Three(
-                Term::Word(*name),
-                Term::Number(*last),
-                Term::Number(*value),
+            SectionFault::StallStep | SectionFault::InputStep => return Sentence::plain(
+                "a step is 1 or more",
             ),
-            SectionFault::WordBeyond { name, last } => {
-                Terms::Two(Term::Word(*name), Term::Number(*last))
-            }
-            SectionFault::NoStage { found, stages } => Terms::Two(
-                Term::Number(*found),
-                Term::Number(stages.saturating_sub(1)),
-            ),
-            SectionFault::StallStep | SectionFault::InputStep => Terms::None,
         }
     }
 }

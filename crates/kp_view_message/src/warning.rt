@@ -1,5 +1,9 @@
 // What is said of an accepted job that may not be meant so.
-use kp_view_help::{Help, Kind, Term, Terms, Word, write_phrase};
+ghost use Rattle.std.specs.Prelude.{◌≡◌};
+ghost use Rattle.kp_view_message.specs.{Helps.warning_helps, Rules.warning_number};
+
+use crate::sentence::Sentence;
+use kp_view_help::{Help, Kind, Term, Word};
 use std::fmt::{self, Display};
 
 /// A warning, with the facts that it rests on.
@@ -46,7 +50,9 @@ pub enum Warning<'t> {
 
 impl<'t> Warning<'t> {
     /// The number of the warning.
-    pub fn number(&self) -> u8 {
+    pub fn number(&self) -> u8
+        ensures { result ≡ warning_number self.now }
+    {
         match self {
             Warning::NeverSet { .. } | Warning::MaybeUnset { .. } => 1,
             Warning::SetInVain { .. } => 3,
@@ -58,7 +64,9 @@ impl<'t> Warning<'t> {
     }
 
     /// What helps, in up to three lines.
-    pub fn helps(&self) -> [Option<Help<'t>>; 3] {
+    pub fn helps(&self) -> [Option<Help<'t>>; 3]
+        ensures { result ≡ warning_helps self.now }
+    {
         match self {
             Warning::MaybeUnset {
                 result,
@@ -83,55 +91,71 @@ impl<'t> Warning<'t> {
         }
     }
 
-    // The sentence, in which the terms are printed.
-    fn text(&self) -> &'static str {
+    // The sentence, with its terms.
+    fn sentence(&self) -> Sentence<'t> {
         match self {
-            Warning::NeverSet { .. } =>
+            Warning::NeverSet { result, target } => return Sentence::of_names(
                 "`{}` is never set: each instruction that writes `{}` makes it 0",
-            Warning::MaybeUnset { file: true, .. } =>
+                *result,
+                *target,
+            ),
+            Warning::MaybeUnset {
+                result,
+                target,
+                file: true,
+                ..
+            } => return Sentence::of_names(
                 "an instruction that sets no `{}` writes 0 to `{}[..]`",
-            Warning::MaybeUnset { file: false, .. } =>
+                *result,
+                *target,
+            ),
+            Warning::MaybeUnset {
+                result,
+                target,
+                file: false,
+                ..
+            } => return Sentence::of_names(
                 "an instruction that sets no `{}` writes 0 to `{}`",
-            Warning::SetInVain { .. } =>
-                "this `set` never takes place: stage {} (line {}) has set `{}` in every instruction",
-            Warning::UnusedPipe(_) => "the pipe `{}` is used nowhere",
-            Warning::UnusedLocal { .. } => "`{}` is used nowhere in stage {}",
-            Warning::UnusedName { .. } => "the {} `{}` is used nowhere",
-            Warning::PutLate { .. } =>
-                "the pipe `{}` can be put in stage {} already: instructions that read `{}` wait until it is put",
-            Warning::NoResult(_) => "the register `{}` has no result, and never changes",
-        }
-    }
-
-    // The terms of the sentence.
-    fn terms(&self) -> Terms<'t> {
-        match self {
-            Warning::NeverSet { result, target } | Warning::MaybeUnset { result, target, .. } =>
-                Terms::Two(Term::Word(*result), Term::Word(*target)),
+                *result,
+                *target,
+            ),
             Warning::SetInVain {
                 result,
                 stage,
                 line,
-            } => Terms::Three(
+            } => return Sentence::three(
+                "this `set` never takes place: stage {} (line {}) has set `{}` in every instruction",
                 Term::Number(*stage as u64),
                 Term::Number(*line as u64),
                 Term::Word(*result),
             ),
-            Warning::UnusedPipe(name) | Warning::NoResult(name) => Terms::One(Term::Word(*name)),
-            Warning::UnusedLocal { name, stage } => {
-                Terms::Two(Term::Word(*name), Term::Number(*stage as u64))
-            }
-            Warning::UnusedName { name, kind } => {
-                Terms::Two(Term::Kind(*kind), Term::Word(*name))
-            }
+            Warning::UnusedPipe(name) => return Sentence::of_name(
+                "the pipe `{}` is used nowhere",
+                *name,
+            ),
+            Warning::UnusedLocal { name, stage } => return Sentence::of_name_and_number(
+                "`{}` is used nowhere in stage {}",
+                *name,
+                *stage as u64,
+            ),
+            Warning::UnusedName { name, kind } => return Sentence::two(
+                "the {} `{}` is used nowhere",
+                Term::Kind(*kind),
+                Term::Word(*name),
+            ),
             Warning::PutLate {
                 name,
                 target,
                 earliest,
-            } => Terms::Three(
+            } => return Sentence::three(
+                "the pipe `{}` can be put in stage {} already: instructions that read `{}` wait until it is put",
                 Term::Word(*name),
                 Term::Number(*earliest as u64),
                 Term::Word(*target),
+            ),
+            Warning::NoResult(name) => return Sentence::of_name(
+                "the register `{}` has no result, and never changes",
+                *name,
             ),
         }
     }
@@ -139,6 +163,6 @@ impl<'t> Warning<'t> {
 
 impl<'t> Display for Warning<'t> {
     fn fmt<W: fmt::Write>(&self, f: &mut fmt::Formatter<W>) -> fmt::Result {
-        write_phrase(f, self.text(), &self.terms())
+        self.sentence().fmt(f)
     }
 }

@@ -1,7 +1,11 @@
 // A wrong width.
+ghost use Rattle.std.specs.Prelude.{◌≡◌};
+ghost use Rattle.kp_view_message.specs.{Helps.IsWidthHelp, Helps.fit, Helps.widen, Rules.width_rule};
+
+use crate::sentence::Sentence;
 use kp_parse_grammar::Mark;
 use kp_view_expected::TokenClass;
-use kp_view_help::{Help, Kind, Term, Terms, Word};
+use kp_view_help::{Help, Kind, Term, Word};
 
 /// What a value goes to, or comes from.
 #[derive(Clone, Copy)]
@@ -89,7 +93,9 @@ pub enum WidthFault<'t> {
 
 impl<'t> WidthFault<'t> {
     /// The number of the rule.
-    pub fn rule(&self) -> u8 {
+    pub fn rule(&self) -> u8
+        ensures { result ≡ width_rule self.now }
+    {
         match self {
             WidthFault::WidthRange(_) | WidthFault::LiteralWidth(_) | WidthFault::JoinedWidth => 8,
             WidthFault::Operands { .. } | WidthFault::Branches { .. } => 9,
@@ -104,7 +110,9 @@ impl<'t> WidthFault<'t> {
     }
 
     // What helps, if anything is known to.
-    pub(crate) fn help(&self) -> Option<Help<'t>> {
+    pub(crate) fn help(&self) -> Option<Help<'t>>
+        ensures { IsWidthHelp self.now result }
+    {
         Some(match self {
             WidthFault::Operands {
                 left: a,
@@ -134,127 +142,127 @@ impl<'t> WidthFault<'t> {
         })
     }
 
-    // The sentence, in which the terms are printed.
-    pub(crate) fn text(&self) -> &'static str {
+    // The sentence, with its terms.
+    pub(crate) fn sentence(&self) -> Sentence<'t> {
         match self {
-            WidthFault::WidthRange(_) => "a width is 1 to 64, not {}",
-            WidthFault::LiteralWidth(_) => "a literal has 1 to 64 bits, not {}",
-            WidthFault::JoinedWidth => "the parts have more than 64 bits together",
-            WidthFault::Operands { .. } => "the operands of {} have different widths: {} and {}",
-            WidthFault::Branches { .. } =>
-                "the branches of this choice have different widths: {} and {}",
-            WidthFault::ValueWidth { goal, .. } => goal.text(),
-            WidthFault::StartWidth { .. } => "the start value has {}; `{}` has {}",
-            WidthFault::TargetWidth { .. } => "the result has {}; the {} `{}` (line {}) has {}",
-            WidthFault::Condition { .. } => "a condition has 1 bit; this has {}",
-            WidthFault::Enable { .. } => "an enable has 1 bit; the pipe `{}` (line {}) has {}",
-            WidthFault::Slice { hi, lo, .. } if *hi < *lo =>
-                "the high number stands first: `[{}:{}]`",
-            WidthFault::Slice { .. } => "bits {} to {} of {}: the bits are numbered {} to 0",
-            WidthFault::Shortened { .. } => "an extension of {} can't give {}",
-            WidthFault::LiteralValue { width, .. } if largest(*width).is_some() =>
-                "{} doesn't fit {}: the largest value is {}",
-            WidthFault::LiteralValue { .. } => "{} doesn't fit {}",
-            WidthFault::AddressRange(_) => "an address has 1 to 16 bits, not {}",
-            WidthFault::Address { .. } =>
-                "this address has {}; addresses of `{}` (line {}) have {}",
-        }
-    }
-
-    // The terms of the sentence.
-    pub(crate) fn terms(&self) -> Terms<'t> {
-        match self {
-            WidthFault::WidthRange(value)
-            | WidthFault::LiteralWidth(value)
-            | WidthFault::AddressRange(value) => Terms::One(Term::Number(*value)),
-            WidthFault::JoinedWidth => Terms::None,
-            WidthFault::Branches { yes, no, .. } => Terms::Two(bits(*yes), bits(*no)),
-            WidthFault::ValueWidth {
-                found,
-                wanted,
-                goal,
-                ..
-            } => goal.terms(bits(*found), Term::Bits(*wanted)),
-            WidthFault::Condition { found } => Terms::One(bits(*found)),
-            WidthFault::Slice { hi, lo, width } => slice(*hi, *lo, *width),
-            WidthFault::Shortened { to, from } => Terms::Two(bits(*from), Term::Bits(*to)),
-            WidthFault::LiteralValue { value, width } => literal_value(*value, *width),
-            _ => self.named_terms(),
-        }
-    }
-
-    // The terms of a sentence with a name or an operator in it.
-    fn named_terms(&self) -> Terms<'t> {
-        match self {
+            WidthFault::WidthRange(value) => return Sentence::of_number(
+                "a width is 1 to 64, not {}",
+                *value,
+            ),
+            WidthFault::LiteralWidth(value) => return Sentence::of_number(
+                "a literal has 1 to 64 bits, not {}",
+                *value,
+            ),
+            WidthFault::JoinedWidth => return Sentence::plain(
+                "the parts have more than 64 bits together",
+            ),
             WidthFault::Operands {
                 mark,
                 left,
                 right,
                 ..
-            } => Terms::Three(
+            } => return Sentence::three(
+                "the operands of {} have different widths: {} and {}",
                 Term::Class(TokenClass::Mark(*mark)),
                 bits(*left),
                 bits(*right),
             ),
+            WidthFault::Branches { yes, no, .. } => return Sentence::two(
+                "the branches of this choice have different widths: {} and {}",
+                bits(*yes),
+                bits(*no),
+            ),
+            WidthFault::ValueWidth {
+                found,
+                wanted,
+                goal,
+                ..
+            } => return goal.sentence(bits(*found), Term::Bits(*wanted)),
             WidthFault::StartWidth {
                 found,
                 wanted,
                 name,
                 ..
-            } => Terms::Three(bits(*found), Term::Word(*name), bits(*wanted)),
+            } => return Sentence::three(
+                "the start value has {}; `{}` has {}",
+                bits(*found),
+                Term::Word(*name),
+                bits(*wanted),
+            ),
             WidthFault::TargetWidth {
                 result,
                 target,
                 name,
                 kind,
                 line,
-            } => Terms::Five(
+            } => return Sentence::five(
+                "the result has {}; the {} `{}` (line {}) has {}",
                 bits(*result),
                 Term::Kind(*kind),
                 Term::Word(*name),
                 Term::Number(*line as u64),
                 bits(*target),
             ),
-            WidthFault::Enable { found, name, line } => Terms::Three(
+            WidthFault::Condition { found } => return Sentence::one(
+                "a condition has 1 bit; this has {}",
+                bits(*found),
+            ),
+            WidthFault::Enable { found, name, line } => return Sentence::three(
+                "an enable has 1 bit; the pipe `{}` (line {}) has {}",
                 Term::Word(*name),
                 Term::Number(*line as u64),
                 bits(*found),
+            ),
+            WidthFault::Slice { hi, lo, width } => return slice(*hi, *lo, *width),
+            WidthFault::Shortened { to, from } => return Sentence::two(
+                "an extension of {} can't give {}",
+                bits(*from),
+                Term::Bits(*to),
+            ),
+            WidthFault::LiteralValue { value, width } => return literal_value(*value, *width),
+            WidthFault::AddressRange(value) => return Sentence::of_number(
+                "an address has 1 to 16 bits, not {}",
+                *value,
             ),
             WidthFault::Address {
                 found,
                 wanted,
                 file,
                 line,
-            } => Terms::Four(
+            } => return Sentence::four(
+                "this address has {}; addresses of `{}` (line {}) have {}",
                 bits(*found),
                 Term::Word(*file),
                 Term::Number(*line as u64),
                 bits(*wanted),
             ),
-            _ => Terms::None,
         }
     }
 }
 
 impl<'t> Goal<'t> {
     // The sentence for a value of another width.
-    fn text(self) -> &'static str {
+    fn sentence(self, found: Term<'t>, wanted: Term<'t>) -> Sentence<'t> {
         match self {
-            Goal::Named(_, _) => "this value has {}; the {} `{}` has {}",
-            Goal::Argument(_) => "this value has {}; the parameter `{}` has {}",
-            Goal::Body(_) => "this value has {}; the function `{}` has {}",
-        }
-    }
-
-    // Its terms.
-    fn terms(self, found: Term<'t>, wanted: Term<'t>) -> Terms<'t> {
-        match self {
-            Goal::Named(kind, name) => {
-                Terms::Four(found, Term::Kind(kind), Term::Word(name), wanted)
-            }
-            Goal::Argument(name) | Goal::Body(name) => {
-                Terms::Three(found, Term::Word(name), wanted)
-            }
+            Goal::Named(kind, name) => return Sentence::four(
+                "this value has {}; the {} `{}` has {}",
+                found,
+                Term::Kind(kind),
+                Term::Word(name),
+                wanted,
+            ),
+            Goal::Argument(name) => return Sentence::three(
+                "this value has {}; the parameter `{}` has {}",
+                found,
+                Term::Word(name),
+                wanted,
+            ),
+            Goal::Body(name) => return Sentence::three(
+                "this value has {}; the function `{}` has {}",
+                found,
+                Term::Word(name),
+                wanted,
+            ),
         }
     }
 }
@@ -264,7 +272,9 @@ fn bits<'t>(count: u8) -> Term<'t> {
 }
 
 // Two values that are to have one width. A literal among them, with the width of the other, is what to change where its value fits.
-fn widen<'t>(left: u8, right: u8, literal: Option<(u8, u64)>) -> Help<'t> {
+fn widen<'t>(left: u8, right: u8, literal: Option<(u8, u64)>) -> Help<'t>
+    ensures { result ≡ widen left right literal }
+{
     match literal {
         Some((width, value)) => Help::Literal(width as u64, value),
         None => Help::Extend(left.max(right) as u64),
@@ -272,7 +282,9 @@ fn widen<'t>(left: u8, right: u8, literal: Option<(u8, u64)>) -> Help<'t> {
 }
 
 // A value that is to have another width.
-fn fit<'t>(found: u8, wanted: u64, literal: Option<u64>) -> Help<'t> {
+fn fit<'t>(found: u8, wanted: u64, literal: Option<u64>) -> Help<'t>
+    ensures { result ≡ fit found wanted literal }
+{
     match literal {
         Some(value) => Help::Literal(wanted, value),
         None if (found as u64) < wanted => Help::Extend(wanted),
@@ -280,19 +292,30 @@ fn fit<'t>(found: u8, wanted: u64, literal: Option<u64>) -> Help<'t> {
     }
 }
 
-fn slice<'t>(hi: u64, lo: u64, width: u8) -> Terms<'t> {
+fn slice<'t>(hi: u64, lo: u64, width: u8) -> Sentence<'t> {
     if hi < lo {
-        Terms::Two(Term::Number(lo), Term::Number(hi))
+        Sentence::of_numbers("the high number stands first: `[{}:{}]`", lo, hi)
     } else {
         let last = Term::Number(width.saturating_sub(1) as u64);
-        Terms::Four(Term::Number(hi), Term::Number(lo), bits(width), last)
+        Sentence::four(
+            "bits {} to {} of {}: the bits are numbered {} to 0",
+            Term::Number(hi),
+            Term::Number(lo),
+            bits(width),
+            last,
+        )
     }
 }
 
-fn literal_value<'t>(value: u64, width: u64) -> Terms<'t> {
+fn literal_value<'t>(value: u64, width: u64) -> Sentence<'t> {
     match largest(width) {
-        Some(most) => Terms::Three(Term::Number(value), Term::Bits(width), Term::Number(most)),
-        None => Terms::Two(Term::Number(value), Term::Bits(width)),
+        Some(most) => return Sentence::three(
+            "{} doesn't fit {}: the largest value is {}",
+            Term::Number(value),
+            Term::Bits(width),
+            Term::Number(most),
+        ),
+        None => return Sentence::two("{} doesn't fit {}", Term::Number(value), Term::Bits(width)),
     }
 }
 
