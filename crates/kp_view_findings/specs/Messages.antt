@@ -3,6 +3,8 @@ use Rattle.std.specs.Prelude.{◌≡◌, ℕ, ◌-◌, List, [], ◌∷◌, ◌+
 use Rattle.kp_base.specs.declared.place.Place.{Place}
 use Rattle.kp_view_excerpt.specs.{Excerpts.IsExcerpt, Excerpts.excerpt_text, Lines.from_place, Lines.line_at, Tokens.token_length}
 use Rattle.kp_view_excerpt.specs.declared.excerpt.Excerpt.{Excerpt}
+use Rattle.kp_view_message.specs.{Rules.rule_of, Rules.warning_number, Texts.message_text}
+use Rattle.kp_view_findings.specs.declared.finding.{Finding.Finding, Caution.Caution}
 
 -- The new text is the old one, a line with the text of a message, where that is known, and what follows it.
 abbrev pub AppendsMessage : List ℕ → List ℕ → Option (List ℕ) → Type 0
@@ -20,21 +22,23 @@ AppendsExcerpt text p old new =
 abbrev pub AppendsShown : List ℕ → Place → List ℕ → List ℕ → Type 0
 AppendsShown text p old new = (line : List ℕ) × AppendsExcerpt text p ((old ++ line) ++ 10 ∷ []) new
 
--- an empty line, the name of a file, a place, and the number of the rule that is violated there
-abbrev pub finding_head : List ℕ → Place → ℕ → List ℕ
-finding_head file p number =
-    10 ∷ (file ++ (codes ":" ++ (decimal p.line ++ (codes ":" ++ (decimal p.col ++ (codes ": error E" ++ (decimal number ++ codes ": ")))))))
+-- the name of a file, a place, and what is reported there, with its number
+abbrev pub head_text : List ℕ → Place → List ℕ → ℕ → List ℕ
+head_text file p class number =
+    file ++ (codes ":" ++ (decimal p.line ++ (codes ":" ++ (decimal p.col ++ (codes ": " ++ (class ++ (decimal number ++ codes ": ")))))))
 
--- A message and an excerpt after such a head.
-abbrev pub AppendsFinding : List ℕ → List ℕ → Place → Option (List ℕ) → List ℕ → List ℕ → Type 0
-AppendsFinding text file p message old new =
-    (number : ℕ) × (AppendsMessage (old ++ finding_head file p number) new message × AppendsShown text p (old ++ finding_head file p number) new)
+-- After an empty line and such a head with the number of the rule, the message and the excerpt at the place of a finding.
+abbrev pub AppendsFinding : List ℕ → List ℕ → Finding → List ℕ → List ℕ → Type 0
+AppendsFinding text file f old new =
+    let begun = (old ++ 10 ∷ []) ++ head_text file f.place (codes "error E") (rule_of f.message) in
+    AppendsMessage begun new (message_text f.message) × AppendsShown text f.place begun new
 
 -- an empty line, if there is something before it
 abbrev pub gap : List ℕ → List ℕ
 gap [] = []
 gap (byte ∷ rest) = 10 ∷ []
 
--- An excerpt after such a line, the name of a file, and the rest of the line of a warning.
-abbrev pub AppendsCaution : List ℕ → List ℕ → Place → List ℕ → List ℕ → Type 0
-AppendsCaution text file p old new = (line : List ℕ) × AppendsExcerpt text p (((old ++ gap old) ++ file) ++ line) new
+-- After such a line and a head with the number of the warning, the rest of its line and the excerpt at its place.
+abbrev pub AppendsCaution : List ℕ → List ℕ → Caution → List ℕ → List ℕ → Type 0
+AppendsCaution text file c old new =
+    (line : List ℕ) × AppendsExcerpt text c.place (((old ++ gap old) ++ head_text file c.place (codes "warning W") (warning_number c.warning)) ++ line) new

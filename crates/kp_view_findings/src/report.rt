@@ -1,6 +1,6 @@
 // The report: for each finding a line with the file, the place and the rule, the excerpt at the place, and lines of help.
 ghost use Rattle.std.specs.Prelude.{◌≡◌, ◌++◌, OnOk};
-ghost use Rattle.kp_view_findings.specs.Messages.{AppendsCaution, AppendsExcerpt, AppendsFinding, AppendsMessage, AppendsShown, Grows, gap};
+ghost use Rattle.kp_view_findings.specs.Messages.{AppendsCaution, AppendsExcerpt, AppendsFinding, AppendsMessage, AppendsShown, Grows, gap, head_text};
 ghost use Rattle.kp_view_message.specs.Texts.{message_text};
 
 use crate::finding::{Caution, Finding};
@@ -36,15 +36,30 @@ pub fn write_finding(
     file: &[u8],
     finding: &Finding<'_>,
 ) -> Result<(), NoMemory>
-    ensures { OnOk result (AppendsFinding text.now file.now finding.now.place (message_text finding.now.message) out.old.items out.new.items) }
+    ensures { OnOk result (AppendsFinding text.now file.now finding.now out.old.items out.new.items) }
 {
-    let Place { line, col } = finding.place;
     let number = finding.message.rule();
-    let head = format!(in alloc; ":{line}:{col}: error E{number}: ")?;
     out.push(b'\n')?;
+    write_head(alloc, out, file, finding.place, "error E", number)?;
+    write_message(alloc, out, text, finding.place, finding.message)?;
+    Ok(())
+}
+
+// The name of the file, the place, and what is reported there, with its number.
+fn write_head(
+    alloc: Global,
+    out: &mut Vec<u8>,
+    file: &[u8],
+    place: Place,
+    class: &str,
+    number: u8,
+) -> Result<(), NoMemory>
+    ensures { OnOk result (out.new.items ≡ out.old.items ++ head_text file.now place class.now number) }
+{
+    let Place { line, col } = place;
+    let head = format!(in alloc; ":{line}:{col}: {class}{number}: ")?;
     out.extend_from_slice(file)?;
     out.extend_from_slice(head.as_bytes())?;
-    write_message(alloc, out, text, finding.place, finding.message)?;
     Ok(())
 }
 
@@ -56,15 +71,20 @@ pub fn write_caution(
     file: &[u8],
     caution: &Caution<'_>,
 ) -> Result<(), NoMemory>
-    ensures { OnOk result (AppendsCaution text.now file.now caution.now.place out.old.items out.new.items) }
+    ensures { OnOk result (AppendsCaution text.now file.now caution.now out.old.items out.new.items) }
 {
-    let Place { line, col } = caution.place;
     let warning = caution.warning;
-    let number = warning.number();
-    let head = format!(in alloc; ":{line}:{col}: warning W{number}: {warning}\n")?;
+    let line = format!(in alloc; "{warning}\n")?;
     write_gap(out)?;
-    out.extend_from_slice(file)?;
-    out.extend_from_slice(head.as_bytes())?;
+    write_head(
+        alloc,
+        out,
+        file,
+        caution.place,
+        "warning W",
+        warning.number(),
+    )?;
+    out.extend_from_slice(line.as_bytes())?;
     write_excerpt(alloc, out, text, caution.place, &warning.helps())?;
     Ok(())
 }
