@@ -1,9 +1,9 @@
 // A wrong guess, hint or sample, or a write that a guess forbids.
 ghost use Rattle.std.specs.Prelude.{◌≡◌};
 ghost use Rattle.kp_view_message.specs.{Helps.guess_help, Rules.guess_rule};
+ghost use Rattle.kp_view_message.specs.inner.Places.{count, of_guess, places};
 
-use crate::sentence::Sentence;
-use kp_view_help::{Help, Word};
+use kp_view_help::{Help, Term, Terms, Word};
 
 /// A wrong guess, hint or sample, or a write that a guess forbids.
 #[derive(Clone, Copy)]
@@ -62,44 +62,47 @@ impl<'t> GuessFault<'t> {
         })
     }
 
-    // The sentence, with its terms.
-    pub(crate) fn sentence(&self) -> Sentence<'t> {
+    // The sentence, in which the terms are printed.
+    pub(crate) fn text(&self) -> &'static str
+        ensures { places result.now ≡ of_guess self.now }
+    {
         match self {
-            GuessFault::GuessedFile(name) => return Sentence::of_name(
-                "`{}` is a file, and only a register can be guessed",
-                *name,
-            ),
-            GuessFault::GuessWithoutResult(name) => return Sentence::of_name(
+            GuessFault::GuessedFile(_) => "`{}` is a file, and only a register can be guessed",
+            GuessFault::GuessWithoutResult(_) =>
                 "`{}` has no result: it never changes, and there is nothing to guess",
-                *name,
-            ),
-            GuessFault::GuessLate { name, write, here } => return Sentence::of_name_and_numbers(
+            GuessFault::GuessLate { .. } =>
                 "`{}` is written in stage {}; a guess stands at least two stages before, and this is stage {}",
-                *name,
-                *write,
-                *here as u64,
-            ),
-            GuessFault::EarlyWrite { top } => return Sentence::of_numbers(
+            GuessFault::EarlyWrite { .. } =>
                 "beside a guess of a register that is written in stage {}, a result is written in stage {} at the earliest",
-                *top,
-                top.saturating_sub(1),
-            ),
-            GuessFault::EarlySample { top } => return Sentence::of_numbers(
+            GuessFault::EarlySample { .. } =>
                 "beside a guess of a register that is written in stage {}, a sample is taken in stage {} at the earliest",
-                *top,
-                top.saturating_sub(1),
+            GuessFault::HintAsValue(_) => "`{}` is a hint, and counts in `guess` and `aim` alone",
+            GuessFault::SampleElsewhere { .. } =>
+                "the sample `{}` is seen in stage {} alone (line {})",
+        }
+    }
+
+    // The terms of the sentence.
+    pub(crate) fn terms(&self) -> Terms<'t>
+        ensures { count result ≡ of_guess self.now }
+    {
+        match self {
+            GuessFault::GuessedFile(name)
+            | GuessFault::GuessWithoutResult(name)
+            | GuessFault::HintAsValue(name) => Terms::One(Term::Word(*name)),
+            GuessFault::EarlyWrite { top } | GuessFault::EarlySample { top } => {
+                Terms::Two(Term::Number(*top), Term::Number(top.saturating_sub(1)))
+            }
+            GuessFault::GuessLate { name, write, here } => Terms::Three(
+                Term::Word(*name),
+                Term::Number(*write),
+                Term::Number(*here as u64),
             ),
-            GuessFault::HintAsValue(name) => return Sentence::of_name(
-                "`{}` is a hint, and counts in `guess` and `aim` alone",
-                *name,
+            GuessFault::SampleElsewhere { name, stage, line } => Terms::Three(
+                Term::Word(*name),
+                Term::Number(*stage),
+                Term::Number(*line as u64),
             ),
-            GuessFault::SampleElsewhere { name, stage, line } =>
-                return Sentence::of_name_and_numbers(
-                    "the sample `{}` is seen in stage {} alone (line {})",
-                    *name,
-                    *stage,
-                    *line as u64,
-                ),
         }
     }
 }

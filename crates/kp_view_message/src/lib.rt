@@ -8,7 +8,6 @@ mod message;
 mod name_fault;
 mod reading_fault;
 mod section_fault;
-mod sentence;
 mod stage_fault;
 mod warning;
 mod width_fault;

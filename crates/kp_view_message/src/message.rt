@@ -1,15 +1,15 @@
 // The message for a violated rule.
 ghost use Rattle.std.specs.Prelude.{◌≡◌};
-ghost use Rattle.kp_view_message.specs.{Helps.AreHelps, Helps.IsHelp, Helps.second_help, Rules.rule_of, Sentences.places, Texts.message_text};
+ghost use Rattle.kp_view_message.specs.{Helps.AreHelps, Helps.IsHelp, Helps.second_help, Rules.rule_of, Texts.message_text};
+ghost use Rattle.kp_view_message.specs.inner.Places.{count, of_message, places};
 
 use crate::guess_fault::GuessFault;
 use crate::name_fault::NameFault;
 use crate::reading_fault::ReadingFault;
 use crate::section_fault::SectionFault;
-use crate::sentence::Sentence;
 use crate::stage_fault::StageFault;
 use crate::width_fault::WidthFault;
-use kp_view_help::Help;
+use kp_view_help::{Help, Terms, write_phrase};
 use std::fmt::{self, Display};
 
 /// A way to violate a rule, with the facts that it rests on. Lines are those of declarations and earlier statements.
@@ -71,16 +71,31 @@ impl<'t> Message<'t> {
         }
     }
 
-    // The sentence, with its terms.
-    fn sentence(&self) -> Sentence<'t> {
+    fn text(&self) -> &'static str
+        ensures { places result.now ≡ of_message self.now }
+    {
         match self {
-            Message::Reading(fault) => return fault.sentence(),
-            Message::Name(fault) => return fault.sentence(),
-            Message::Width(fault) => return fault.sentence(),
-            Message::Stage(fault) => return fault.sentence(),
-            Message::Guess(fault) => return fault.sentence(),
-            Message::Section(fault) => return fault.sentence(),
-            Message::Fixed(number) => return Sentence::plain(fixed(*number)),
+            Message::Reading(fault) => fault.text(),
+            Message::Name(fault) => fault.text(),
+            Message::Width(fault) => fault.text(),
+            Message::Stage(fault) => fault.text(),
+            Message::Guess(fault) => fault.text(),
+            Message::Section(fault) => fault.text(),
+            Message::Fixed(number) => fixed(*number),
+        }
+    }
+
+    fn terms(&self) -> Terms<'t>
+        ensures { count result ≡ of_message self.now }
+    {
+        match self {
+            Message::Reading(fault) => fault.terms(),
+            Message::Name(fault) => fault.terms(),
+            Message::Width(fault) => fault.terms(),
+            Message::Stage(fault) => fault.terms(),
+            Message::Guess(fault) => fault.terms(),
+            Message::Section(fault) => fault.terms(),
+            Message::Fixed(_) => Terms::None,
         }
     }
 }
@@ -97,7 +112,7 @@ impl<'t> Display for Message<'t> {
                     ..
                 },
             ) => { write!(f, "expected {expected}, found {found}") }
-            _ => { self.sentence().fmt(f) }
+            _ => { write_phrase(f, self.text(), &self.terms()) }
         }
     }
 }

@@ -1,9 +1,9 @@
 // A wrong name.
 ghost use Rattle.std.specs.Prelude.{◌≡◌};
-ghost use Rattle.kp_view_message.specs.{Helps.instead, Helps.name_help, Helps.name_second_help, Rules.name_rule, Sentences.places};
+ghost use Rattle.kp_view_message.specs.{Helps.instead, Helps.name_help, Helps.name_second_help, Rules.name_rule};
+ghost use Rattle.kp_view_message.specs.inner.Places.{count, of_name, places};
 
-use crate::sentence::Sentence;
-use kp_view_help::{Help, Kind, Term, Wanted, Word};
+use kp_view_help::{Help, Kind, Term, Terms, Wanted, Word};
 
 /// A wrong name.
 #[derive(Clone, Copy)]
@@ -121,100 +121,93 @@ impl<'t> NameFault<'t> {
         }
     }
 
-    // The sentence, with its terms.
-    pub(crate) fn sentence(&self) -> Sentence<'t> {
+    // The sentence, in which the terms are printed.
+    pub(crate) fn text(&self) -> &'static str
+        ensures { places result.now ≡ of_name self.now }
+    {
         match self {
+            NameFault::Redeclared { .. } => "`{}` is declared already, as a {} (line {})",
+            NameFault::Undeclared { .. } => "`{}` is declared nowhere before this",
+            NameFault::DeclaredBelow { .. } => "`{}` is declared only in line {}, after this use",
+            NameFault::OtherStage {
+                kind: Kind::Read,
+                ..
+            } => "`{}` isn't known here: it is read in stage {} (line {})",
+            NameFault::OtherStage { .. } =>
+                "`{}` isn't known here: it is defined by `let` in stage {} (line {})",
+            NameFault::WrongKind { .. } => "`{}` is a {} (line {}); {} is wanted here",
+            NameFault::NoAddress { .. } => "`{}` is a file (line {}), and needs an address",
+            NameFault::NeedlessAddress { .. } => "`{}` is a register (line {}), and has no address",
+            NameFault::Arguments { .. } =>
+                "the function `{}` (line {}) takes {} arguments; this call has {}",
+            NameFault::CalledEarly { own: true, .. } => "the function `{}` can't call itself",
+            NameFault::CalledEarly { own: false, .. } =>
+                "the function `{}` is declared only in line {}, after this call",
+        }
+    }
+
+    // The terms of the sentence.
+    pub(crate) fn terms(&self) -> Terms<'t>
+        ensures { count result ≡ of_name self.now }
+    {
+        match self {
+            NameFault::Undeclared { name }
+            | NameFault::CalledEarly {
+                name,
+                own: true,
+                ..
+            } => { Terms::One(Term::Word(*name)) }
+            NameFault::DeclaredBelow { name, line }
+            | NameFault::NoAddress { name, line }
+            | NameFault::NeedlessAddress { name, line }
+            | NameFault::CalledEarly {
+                name,
+                line,
+                own: false,
+            } => { Terms::Two(Term::Word(*name), Term::Number(*line as u64)) }
             NameFault::Redeclared {
                 name,
                 kind,
                 line,
                 ..
-            } => return Sentence::of_kind(
-                "`{}` is declared already, as a {} (line {})",
-                *name,
-                *kind,
-                *line,
-            ),
-            NameFault::Undeclared { name } => return Sentence::of_name(
-                "`{}` is declared nowhere before this",
-                *name,
-            ),
-            NameFault::DeclaredBelow { name, line } => return Sentence::of_name_and_number(
-                "`{}` is declared only in line {}, after this use",
-                *name,
-                *line as u64,
+            } => Terms::Three(
+                Term::Word(*name),
+                Term::Kind(*kind),
+                Term::Number(*line as u64),
             ),
             NameFault::OtherStage {
                 name,
-                kind,
                 line,
                 stage,
                 ..
-            } => return Sentence::of_name_and_numbers(
-                elsewhere(*kind),
-                *name,
-                *stage as u64,
-                *line as u64,
+            } => Terms::Three(
+                Term::Word(*name),
+                Term::Number(*stage as u64),
+                Term::Number(*line as u64),
             ),
             NameFault::WrongKind {
                 name,
                 kind,
                 line,
                 wanted,
-            } => return Sentence::four(
-                "`{}` is a {} (line {}); {} is wanted here",
+            } => Terms::Four(
                 Term::Word(*name),
                 Term::Kind(*kind),
                 Term::Number(*line as u64),
                 Term::Wanted(*wanted),
-            ),
-            NameFault::NoAddress { name, line } => return Sentence::of_name_and_number(
-                "`{}` is a file (line {}), and needs an address",
-                *name,
-                *line as u64,
-            ),
-            NameFault::NeedlessAddress { name, line } => return Sentence::of_name_and_number(
-                "`{}` is a register (line {}), and has no address",
-                *name,
-                *line as u64,
             ),
             NameFault::Arguments {
                 name,
                 line,
                 wanted,
                 found,
-            } => return Sentence::of_name_and_three(
-                "the function `{}` (line {}) takes {} arguments; this call has {}",
-                *name,
-                *line as u64,
-                *wanted as u64,
-                *found as u64,
-            ),
-            NameFault::CalledEarly {
-                name,
-                own: true,
-                ..
-            } => return Sentence::of_name("the function `{}` can't call itself", *name),
-            NameFault::CalledEarly {
-                name,
-                line,
-                own: false,
-            } => return Sentence::of_name_and_number(
-                "the function `{}` is declared only in line {}, after this call",
-                *name,
-                *line as u64,
+            } => Terms::Four(
+                Term::Word(*name),
+                Term::Number(*line as u64),
+                Term::Number(*wanted as u64),
+                Term::Number(*found as u64),
             ),
         }
-    }
-}
-
-// The text for a name of another stage.
-fn elsewhere(kind: Kind) -> &'static str
-    ensures { places result.now ≡ 3 }
-{
-    match kind {
-        Kind::Read => "`{}` isn't known here: it is read in stage {} (line {})",
-        _ => "`{}` isn't known here: it is defined by `let` in stage {} (line {})",
     }
 }
 

@@ -1,10 +1,10 @@
 // Why a text is no sentence of the language.
 ghost use Rattle.std.specs.Prelude.{◌≡◌};
 ghost use Rattle.kp_view_message.specs.{Helps.IsReadingHelp, Rules.reading_rule};
+ghost use Rattle.kp_view_message.specs.inner.Places.{count, of_reading, places};
 
-use crate::sentence::Sentence;
 use kp_view_expected::Expected;
-use kp_view_help::{FoundToken, Help, Term};
+use kp_view_help::{FoundToken, Help, Term, Terms};
 
 /// Why a text is no sentence of the language.
 #[derive(Clone, Copy)]
@@ -54,27 +54,30 @@ impl<'t> ReadingFault<'t> {
         }
     }
 
-    // The sentence. Where a token is unexpected, the message has a list in it and is printed apart.
-    pub(crate) fn sentence(&self) -> Sentence<'t> {
+    // The sentence, in which the terms are printed. Where a token is unexpected, the message has a list in it and is printed apart.
+    pub(crate) fn text(&self) -> &'static str
+        ensures { places result.now ≡ of_reading self.now }
+    {
         match self {
-            ReadingFault::NoToken(byte) => return Sentence::one(
-                "no word of the language begins with {}",
-                Term::Byte(*byte),
-            ),
-            ReadingFault::LongName(length) => return Sentence::of_number(
+            ReadingFault::NoToken(_) => "no word of the language begins with {}",
+            ReadingFault::LongName(_) =>
                 "a name has at most 64 letters, digits and `_`; this has {}",
-                *length as u64,
-            ),
-            ReadingFault::NoNumber => return Sentence::plain(
-                "neither a number below 2^64 nor a literal such as `8'h1f`",
-            ),
-            ReadingFault::Unexpected { .. } => return Sentence::plain("expected "),
-            ReadingFault::AfterEnd => return Sentence::plain(
-                "expected the end of the text after `end`",
-            ),
-            ReadingFault::TooDeep => return Sentence::plain(
+            ReadingFault::NoNumber => "neither a number below 2^64 nor a literal such as `8'h1f`",
+            ReadingFault::Unexpected { .. } => "expected ",
+            ReadingFault::AfterEnd => "expected the end of the text after `end`",
+            ReadingFault::TooDeep =>
                 "more than 64 brackets and operators of this expression are open here",
-            ),
+        }
+    }
+
+    // The terms of the sentence.
+    pub(crate) fn terms(&self) -> Terms<'t>
+        ensures { count result ≡ of_reading self.now }
+    {
+        match self {
+            ReadingFault::NoToken(byte) => Terms::One(Term::Byte(*byte)),
+            ReadingFault::LongName(length) => Terms::One(Term::Number(*length as u64)),
+            _ => Terms::None,
         }
     }
 }

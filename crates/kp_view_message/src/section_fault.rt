@@ -1,9 +1,9 @@
 // A wrong entry of a section.
 ghost use Rattle.std.specs.Prelude.{◌≡◌};
 ghost use Rattle.kp_view_message.specs.{Helps.section_help, Rules.section_rule};
+ghost use Rattle.kp_view_message.specs.inner.Places.{count, of_section, places};
 
-use crate::sentence::Sentence;
-use kp_view_help::{Help, Kind, Word};
+use kp_view_help::{Help, Kind, Term, Terms, Word};
 
 /// A wrong entry of a section.
 #[derive(Clone, Copy)]
@@ -82,63 +82,61 @@ impl<'t> SectionFault<'t> {
         }
     }
 
-    // The sentence, with its terms.
-    pub(crate) fn sentence(&self) -> Sentence<'t> {
+    // The sentence, in which the terms are printed.
+    pub(crate) fn text(&self) -> &'static str
+        ensures { places result.now ≡ of_section self.now }
+    {
         match self {
-            SectionFault::Unknown(name) => return Sentence::of_name(
+            SectionFault::Unknown(_) =>
                 "`{}` is declared nowhere; an image fills registers and files",
-                *name,
-            ),
-            SectionFault::Empty { name, kind, line } => return Sentence::of_kind(
+            SectionFault::Empty { .. } =>
                 "`{}` is a {} (line {}); an image fills registers and files",
-                *name,
-                *kind,
-                *line,
-            ),
-            SectionFault::NoAddress { name, line } => return Sentence::of_name_and_number(
-                "`{}` is a file (line {}), and needs an address",
-                *name,
-                *line as u64,
-            ),
-            SectionFault::NeedlessAddress { name, line } => return Sentence::of_name_and_number(
+            SectionFault::NoAddress { .. } => "`{}` is a file (line {}), and needs an address",
+            SectionFault::NeedlessAddress { .. } =>
                 "`{}` is a register (line {}), and has no address",
-                *name,
-                *line as u64,
-            ),
-            SectionFault::AddressBeyond { name, last, value } =>
-                return Sentence::of_name_and_numbers(
-                    "the addresses of `{}` are 0 to {}, and {} isn't one of them",
-                    *name,
-                    *last,
-                    *value,
-                ),
-            SectionFault::WordBeyond { name, last } => return Sentence::of_name_and_number(
+            SectionFault::AddressBeyond { .. } =>
+                "the addresses of `{}` are 0 to {}, and {} isn't one of them",
+            SectionFault::WordBeyond { .. } =>
                 "this word lies after the last one of `{}`, whose address is {}",
-                *name,
-                *last,
-            ),
-            SectionFault::SecondStart(name) => return Sentence::of_name(
-                "`{}` is a register, and has one value",
-                *name,
-            ),
-            SectionFault::NoStage { found, stages } => return Sentence::of_numbers(
-                "there is no stage {}: the stages are 0 to {}",
-                *found,
-                stages.saturating_sub(1),
-            ),
-            SectionFault::UnknownSample(name) => return Sentence::of_name(
+            SectionFault::SecondStart(_) => "`{}` is a register, and has one value",
+            SectionFault::NoStage { .. } => "there is no stage {}: the stages are 0 to {}",
+            SectionFault::UnknownSample(_) =>
                 "`{}` is declared nowhere; inputs are the values of samples",
-                *name,
-            ),
-            SectionFault::NoSample { name, kind, line } => return Sentence::of_kind(
+            SectionFault::NoSample { .. } =>
                 "`{}` is a {} (line {}); inputs are the values of samples",
-                *name,
-                *kind,
-                *line,
+            SectionFault::StallStep | SectionFault::InputStep => "a step is 1 or more",
+        }
+    }
+
+    // The terms of the sentence.
+    pub(crate) fn terms(&self) -> Terms<'t>
+        ensures { count result ≡ of_section self.now }
+    {
+        match self {
+            SectionFault::Unknown(name)
+            | SectionFault::SecondStart(name)
+            | SectionFault::UnknownSample(name) => Terms::One(Term::Word(*name)),
+            SectionFault::NoAddress { name, line } | SectionFault::NeedlessAddress { name, line } =>
+                { Terms::Two(Term::Word(*name), Term::Number(*line as u64)) }
+            SectionFault::Empty { name, kind, line }
+            | SectionFault::NoSample { name, kind, line } => Terms::Three(
+                Term::Word(*name),
+                Term::Kind(*kind),
+                Term::Number(*line as u64),
             ),
-            SectionFault::StallStep | SectionFault::InputStep => return Sentence::plain(
-                "a step is 1 or more",
+            SectionFault::AddressBeyond { name, last, value } => Terms::Three(
+                Term::Word(*name),
+                Term::Number(*last),
+                Term::Number(*value),
             ),
+            SectionFault::WordBeyond { name, last } => {
+                Terms::Two(Term::Word(*name), Term::Number(*last))
+            }
+            SectionFault::NoStage { found, stages } => Terms::Two(
+                Term::Number(*found),
+                Term::Number(stages.saturating_sub(1)),
+            ),
+            SectionFault::StallStep | SectionFault::InputStep => Terms::None,
         }
     }
 }

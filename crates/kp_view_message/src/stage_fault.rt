@@ -1,9 +1,9 @@
 // A wrong stage, or too many of something.
 ghost use Rattle.std.specs.Prelude.{◌≡◌};
-ghost use Rattle.kp_view_message.specs.{Helps.stage_help, Rules.stage_rule, Sentences.places};
+ghost use Rattle.kp_view_message.specs.{Helps.stage_help, Rules.stage_rule};
+ghost use Rattle.kp_view_message.specs.inner.Places.{count, of_stage, places};
 
-use crate::sentence::Sentence;
-use kp_view_help::{Help, Term, Word};
+use kp_view_help::{Help, Term, Terms, Word};
 
 /// What a machine has a limited number of.
 #[derive(Clone, Copy)]
@@ -140,97 +140,96 @@ impl<'t> StageFault<'t> {
         })
     }
 
-    // The sentence, with its terms.
-    pub(crate) fn sentence(&self) -> Sentence<'t> {
+    // The sentence, in which the terms are printed.
+    pub(crate) fn text(&self) -> &'static str
+        ensures { places result.now ≡ of_stage self.now }
+    {
         match self {
-            StageFault::StageCount(count) => return Sentence::of_number(
-                "a machine has 2 to 12 stages, not {}",
-                *count,
-            ),
-            StageFault::FewBlocks { stages, blocks } => return Sentence::of_numbers(
-                "{} stages are declared, but there are {} blocks",
-                *stages,
-                *blocks as u64,
-            ),
-            StageFault::BlockNumber { found, wanted } => return Sentence::of_numbers(
-                "blocks stand in order: this is stage {}, not {}",
-                *wanted as u64,
-                *found,
-            ),
-            StageFault::BlockBeyond { stages } => return Sentence::of_number(
-                "only {} stages are declared; this is one more",
-                *stages,
-            ),
-            StageFault::NoStage { found, stages } => return Sentence::of_numbers(
-                "there is no stage {}: the stages are 0 to {}",
-                *found,
-                stages.saturating_sub(1),
-            ),
-            StageFault::NeverPut(name) => return Sentence::of_name(
-                "the pipe `{}` is never put",
-                *name,
-            ),
-            StageFault::PutAgain { name, line } => return Sentence::of_name_and_number(
+            StageFault::StageCount(_) => "a machine has 2 to 12 stages, not {}",
+            StageFault::FewBlocks { .. } => "{} stages are declared, but there are {} blocks",
+            StageFault::BlockNumber { .. } => "blocks stand in order: this is stage {}, not {}",
+            StageFault::BlockBeyond { .. } => "only {} stages are declared; this is one more",
+            StageFault::NoStage { .. } => "there is no stage {}: the stages are 0 to {}",
+            StageFault::NeverPut(_) => "the pipe `{}` is never put",
+            StageFault::PutAgain { .. } =>
                 "the pipe `{}` is put a second time; the first is in line {}",
-                *name,
-                *line as u64,
+            StageFault::UsedEarly { .. } =>
+                "the pipe `{}` is put in stage {} (line {}), and can be used in later stages only; this is stage {}",
+            StageFault::ReadLate { .. } =>
+                "`{}` is written in stage {} (line {}), and can't be read in a later stage",
+            StageFault::PutLate { .. } =>
+                "the pipe `{}` is put in stage {}, which isn't before the write stage {}",
+            StageFault::SetLate { .. } =>
+                "`{}` is written at the end of stage {} (line {}), and can't be set later",
+            StageFault::SetAgain { .. } =>
+                "`{}` is set a second time in this stage; the first is in line {}",
+            StageFault::AimedAgain { .. } => "the hint `{}` is aimed already in line {}",
+            StageFault::SecondResult { .. } => "`{}` has a result already: `{}` (line {})",
+            StageFault::TooMany(counted) => counted.most(),
+        }
+    }
+
+    // The terms of the sentence.
+    pub(crate) fn terms(&self) -> Terms<'t>
+        ensures { count result ≡ of_stage self.now }
+    {
+        match self {
+            StageFault::StageCount(count) | StageFault::BlockBeyond { stages: count } => {
+                Terms::One(Term::Number(*count))
+            }
+            StageFault::NeverPut(name) => Terms::One(Term::Word(*name)),
+            StageFault::PutAgain { name, line }
+            | StageFault::SetAgain { name, line }
+            | StageFault::AimedAgain { name, line } => {
+                Terms::Two(Term::Word(*name), Term::Number(*line as u64))
+            }
+            StageFault::ReadLate { name, write, line }
+            | StageFault::SetLate {
+                name,
+                write,
+                line,
+                ..
+            } => Terms::Three(
+                Term::Word(*name),
+                Term::Number(*write),
+                Term::Number(*line as u64),
+            ),
+            StageFault::PutLate { name, put, write } => Terms::Three(
+                Term::Word(*name),
+                Term::Number(*put as u64),
+                Term::Number(*write),
+            ),
+            StageFault::SecondResult {
+                target,
+                first,
+                line,
+            } => Terms::Three(
+                Term::Word(*target),
+                Term::Word(*first),
+                Term::Number(*line as u64),
             ),
             StageFault::UsedEarly {
                 name,
                 put,
                 here,
                 line,
-            } => return Sentence::of_name_and_three(
-                "the pipe `{}` is put in stage {} (line {}), and can be used in later stages only; this is stage {}",
-                *name,
-                *put as u64,
-                *line as u64,
-                *here as u64,
-            ),
-            StageFault::ReadLate { name, write, line } => return Sentence::of_name_and_numbers(
-                "`{}` is written in stage {} (line {}), and can't be read in a later stage",
-                *name,
-                *write,
-                *line as u64,
-            ),
-            StageFault::PutLate { name, put, write } => return Sentence::of_name_and_numbers(
-                "the pipe `{}` is put in stage {}, which isn't before the write stage {}",
-                *name,
-                *put as u64,
-                *write,
-            ),
-            StageFault::SetLate {
-                name,
-                write,
-                line,
-                ..
-            } => return Sentence::of_name_and_numbers(
-                "`{}` is written at the end of stage {} (line {}), and can't be set later",
-                *name,
-                *write,
-                *line as u64,
-            ),
-            StageFault::SetAgain { name, line } => return Sentence::of_name_and_number(
-                "`{}` is set a second time in this stage; the first is in line {}",
-                *name,
-                *line as u64,
-            ),
-            StageFault::AimedAgain { name, line } => return Sentence::of_name_and_number(
-                "the hint `{}` is aimed already in line {}",
-                *name,
-                *line as u64,
-            ),
-            StageFault::SecondResult {
-                target,
-                first,
-                line,
-            } => return Sentence::three(
-                "`{}` has a result already: `{}` (line {})",
-                Term::Word(*target),
-                Term::Word(*first),
+            } => Terms::Four(
+                Term::Word(*name),
+                Term::Number(*put as u64),
                 Term::Number(*line as u64),
+                Term::Number(*here as u64),
             ),
-            StageFault::TooMany(counted) => return Sentence::plain(counted.most()),
+            StageFault::FewBlocks { stages, blocks } => {
+                Terms::Two(Term::Number(*stages), Term::Number(*blocks as u64))
+            }
+            StageFault::BlockNumber { found, wanted } => {
+                Terms::Two(Term::Number(*wanted as u64), Term::Number(*found))
+            }
+            StageFault::NoStage { found, stages } => Terms::Two(
+                Term::Number(*found),
+                Term::Number(stages.saturating_sub(1)),
+            ),
+            StageFault::TooMany(_) => Terms::None,
         }
     }
 }

@@ -1,9 +1,9 @@
 // What is said of an accepted job that may not be meant so.
 ghost use Rattle.std.specs.Prelude.{◌≡◌};
 ghost use Rattle.kp_view_message.specs.{Helps.warning_helps, Rules.warning_number};
+ghost use Rattle.kp_view_message.specs.inner.Places.{count, of_warning, places};
 
-use crate::sentence::Sentence;
-use kp_view_help::{Help, Kind, Term, Word};
+use kp_view_help::{Help, Kind, Term, Terms, Word, write_phrase};
 use std::fmt::{self, Display};
 
 /// A warning, with the facts that it rests on.
@@ -91,71 +91,59 @@ impl<'t> Warning<'t> {
         }
     }
 
-    // The sentence, with its terms.
-    fn sentence(&self) -> Sentence<'t> {
+    // The sentence, in which the terms are printed.
+    fn text(&self) -> &'static str
+        ensures { places result.now ≡ of_warning self.now }
+    {
         match self {
-            Warning::NeverSet { result, target } => return Sentence::of_names(
+            Warning::NeverSet { .. } =>
                 "`{}` is never set: each instruction that writes `{}` makes it 0",
-                *result,
-                *target,
-            ),
-            Warning::MaybeUnset {
-                result,
-                target,
-                file: true,
-                ..
-            } => return Sentence::of_names(
+            Warning::MaybeUnset { file: true, .. } =>
                 "an instruction that sets no `{}` writes 0 to `{}[..]`",
-                *result,
-                *target,
-            ),
-            Warning::MaybeUnset {
-                result,
-                target,
-                file: false,
-                ..
-            } => return Sentence::of_names(
+            Warning::MaybeUnset { file: false, .. } =>
                 "an instruction that sets no `{}` writes 0 to `{}`",
-                *result,
-                *target,
-            ),
+            Warning::SetInVain { .. } =>
+                "this `set` never takes place: stage {} (line {}) has set `{}` in every instruction",
+            Warning::UnusedPipe(_) => "the pipe `{}` is used nowhere",
+            Warning::UnusedLocal { .. } => "`{}` is used nowhere in stage {}",
+            Warning::UnusedName { .. } => "the {} `{}` is used nowhere",
+            Warning::PutLate { .. } =>
+                "the pipe `{}` can be put in stage {} already: instructions that read `{}` wait until it is put",
+            Warning::NoResult(_) => "the register `{}` has no result, and never changes",
+        }
+    }
+
+    // The terms of the sentence.
+    fn terms(&self) -> Terms<'t>
+        ensures { count result ≡ of_warning self.now }
+    {
+        match self {
+            Warning::NeverSet { result, target } | Warning::MaybeUnset { result, target, .. } =>
+                Terms::Two(Term::Word(*result), Term::Word(*target)),
             Warning::SetInVain {
                 result,
                 stage,
                 line,
-            } => return Sentence::three(
-                "this `set` never takes place: stage {} (line {}) has set `{}` in every instruction",
+            } => Terms::Three(
                 Term::Number(*stage as u64),
                 Term::Number(*line as u64),
                 Term::Word(*result),
             ),
-            Warning::UnusedPipe(name) => return Sentence::of_name(
-                "the pipe `{}` is used nowhere",
-                *name,
-            ),
-            Warning::UnusedLocal { name, stage } => return Sentence::of_name_and_number(
-                "`{}` is used nowhere in stage {}",
-                *name,
-                *stage as u64,
-            ),
-            Warning::UnusedName { name, kind } => return Sentence::two(
-                "the {} `{}` is used nowhere",
-                Term::Kind(*kind),
-                Term::Word(*name),
-            ),
+            Warning::UnusedPipe(name) | Warning::NoResult(name) => Terms::One(Term::Word(*name)),
+            Warning::UnusedLocal { name, stage } => {
+                Terms::Two(Term::Word(*name), Term::Number(*stage as u64))
+            }
+            Warning::UnusedName { name, kind } => {
+                Terms::Two(Term::Kind(*kind), Term::Word(*name))
+            }
             Warning::PutLate {
                 name,
                 target,
                 earliest,
-            } => return Sentence::three(
-                "the pipe `{}` can be put in stage {} already: instructions that read `{}` wait until it is put",
+            } => Terms::Three(
                 Term::Word(*name),
                 Term::Number(*earliest as u64),
                 Term::Word(*target),
-            ),
-            Warning::NoResult(name) => return Sentence::of_name(
-                "the register `{}` has no result, and never changes",
-                *name,
             ),
         }
     }
@@ -163,6 +151,6 @@ impl<'t> Warning<'t> {
 
 impl<'t> Display for Warning<'t> {
     fn fmt<W: fmt::Write>(&self, f: &mut fmt::Formatter<W>) -> fmt::Result {
-        self.sentence().fmt(f)
+        write_phrase(f, self.text(), &self.terms())
     }
 }

@@ -1,11 +1,11 @@
 // A wrong width.
-ghost use Rattle.std.specs.Prelude.{◌≡◌};
+ghost use Rattle.std.specs.Prelude.{◌≡◌, is_some};
 ghost use Rattle.kp_view_message.specs.{Helps.IsWidthHelp, Helps.fit, Helps.widen, Rules.width_rule};
+ghost use Rattle.kp_view_message.specs.inner.Places.{count, has_largest, of_goal, of_named, of_slice, of_value, of_width, places};
 
-use crate::sentence::Sentence;
 use kp_parse_grammar::Mark;
 use kp_view_expected::TokenClass;
-use kp_view_help::{Help, Kind, Term, Word};
+use kp_view_help::{Help, Kind, Term, Terms, Word};
 
 /// What a value goes to, or comes from.
 #[derive(Clone, Copy)]
@@ -142,127 +142,137 @@ impl<'t> WidthFault<'t> {
         })
     }
 
-    // The sentence, with its terms.
-    pub(crate) fn sentence(&self) -> Sentence<'t> {
+    // The sentence, in which the terms are printed.
+    pub(crate) fn text(&self) -> &'static str
+        ensures { places result.now ≡ of_width self.now }
+    {
         match self {
-            WidthFault::WidthRange(value) => return Sentence::of_number(
-                "a width is 1 to 64, not {}",
-                *value,
-            ),
-            WidthFault::LiteralWidth(value) => return Sentence::of_number(
-                "a literal has 1 to 64 bits, not {}",
-                *value,
-            ),
-            WidthFault::JoinedWidth => return Sentence::plain(
-                "the parts have more than 64 bits together",
-            ),
-            WidthFault::Operands {
-                mark,
-                left,
-                right,
-                ..
-            } => return Sentence::three(
-                "the operands of {} have different widths: {} and {}",
-                Term::Class(TokenClass::Mark(*mark)),
-                bits(*left),
-                bits(*right),
-            ),
-            WidthFault::Branches { yes, no, .. } => return Sentence::two(
+            WidthFault::WidthRange(_) => "a width is 1 to 64, not {}",
+            WidthFault::LiteralWidth(_) => "a literal has 1 to 64 bits, not {}",
+            WidthFault::JoinedWidth => "the parts have more than 64 bits together",
+            WidthFault::Operands { .. } => "the operands of {} have different widths: {} and {}",
+            WidthFault::Branches { .. } =>
                 "the branches of this choice have different widths: {} and {}",
-                bits(*yes),
-                bits(*no),
-            ),
+            WidthFault::ValueWidth { goal, .. } => goal.text(),
+            WidthFault::StartWidth { .. } => "the start value has {}; `{}` has {}",
+            WidthFault::TargetWidth { .. } => "the result has {}; the {} `{}` (line {}) has {}",
+            WidthFault::Condition { .. } => "a condition has 1 bit; this has {}",
+            WidthFault::Enable { .. } => "an enable has 1 bit; the pipe `{}` (line {}) has {}",
+            WidthFault::Slice { hi, lo, .. } if *hi < *lo =>
+                "the high number stands first: `[{}:{}]`",
+            WidthFault::Slice { .. } => "bits {} to {} of {}: the bits are numbered {} to 0",
+            WidthFault::Shortened { .. } => "an extension of {} can't give {}",
+            WidthFault::LiteralValue { width, .. } if largest(*width).is_some() =>
+                "{} doesn't fit {}: the largest value is {}",
+            WidthFault::LiteralValue { .. } => "{} doesn't fit {}",
+            WidthFault::AddressRange(_) => "an address has 1 to 16 bits, not {}",
+            WidthFault::Address { .. } =>
+                "this address has {}; addresses of `{}` (line {}) have {}",
+        }
+    }
+
+    // The terms of the sentence.
+    pub(crate) fn terms(&self) -> Terms<'t>
+        ensures { count result ≡ of_width self.now }
+    {
+        match self {
+            WidthFault::WidthRange(value)
+            | WidthFault::LiteralWidth(value)
+            | WidthFault::AddressRange(value) => Terms::One(Term::Number(*value)),
+            WidthFault::JoinedWidth => Terms::None,
+            WidthFault::Branches { yes, no, .. } => Terms::Two(bits(*yes), bits(*no)),
             WidthFault::ValueWidth {
                 found,
                 wanted,
                 goal,
                 ..
-            } => return goal.sentence(bits(*found), Term::Bits(*wanted)),
+            } => goal.terms(bits(*found), Term::Bits(*wanted)),
+            WidthFault::Condition { found } => Terms::One(bits(*found)),
+            WidthFault::Slice { hi, lo, width } => slice(*hi, *lo, *width),
+            WidthFault::Shortened { to, from } => Terms::Two(bits(*from), Term::Bits(*to)),
+            WidthFault::LiteralValue { value, width } => literal_value(*value, *width),
+            _ => self.named_terms(),
+        }
+    }
+
+    // The terms of a sentence with a name or an operator in it.
+    fn named_terms(&self) -> Terms<'t>
+        ensures { count result ≡ of_named self.now }
+    {
+        match self {
+            WidthFault::Operands {
+                mark,
+                left,
+                right,
+                ..
+            } => Terms::Three(
+                Term::Class(TokenClass::Mark(*mark)),
+                bits(*left),
+                bits(*right),
+            ),
             WidthFault::StartWidth {
                 found,
                 wanted,
                 name,
                 ..
-            } => return Sentence::three(
-                "the start value has {}; `{}` has {}",
-                bits(*found),
-                Term::Word(*name),
-                bits(*wanted),
-            ),
+            } => Terms::Three(bits(*found), Term::Word(*name), bits(*wanted)),
             WidthFault::TargetWidth {
                 result,
                 target,
                 name,
                 kind,
                 line,
-            } => return Sentence::five(
-                "the result has {}; the {} `{}` (line {}) has {}",
+            } => Terms::Five(
                 bits(*result),
                 Term::Kind(*kind),
                 Term::Word(*name),
                 Term::Number(*line as u64),
                 bits(*target),
             ),
-            WidthFault::Condition { found } => return Sentence::one(
-                "a condition has 1 bit; this has {}",
-                bits(*found),
-            ),
-            WidthFault::Enable { found, name, line } => return Sentence::three(
-                "an enable has 1 bit; the pipe `{}` (line {}) has {}",
+            WidthFault::Enable { found, name, line } => Terms::Three(
                 Term::Word(*name),
                 Term::Number(*line as u64),
                 bits(*found),
-            ),
-            WidthFault::Slice { hi, lo, width } => return slice(*hi, *lo, *width),
-            WidthFault::Shortened { to, from } => return Sentence::two(
-                "an extension of {} can't give {}",
-                bits(*from),
-                Term::Bits(*to),
-            ),
-            WidthFault::LiteralValue { value, width } => return literal_value(*value, *width),
-            WidthFault::AddressRange(value) => return Sentence::of_number(
-                "an address has 1 to 16 bits, not {}",
-                *value,
             ),
             WidthFault::Address {
                 found,
                 wanted,
                 file,
                 line,
-            } => return Sentence::four(
-                "this address has {}; addresses of `{}` (line {}) have {}",
+            } => Terms::Four(
                 bits(*found),
                 Term::Word(*file),
                 Term::Number(*line as u64),
                 bits(*wanted),
             ),
+            _ => Terms::None,
         }
     }
 }
 
 impl<'t> Goal<'t> {
     // The sentence for a value of another width.
-    fn sentence(self, found: Term<'t>, wanted: Term<'t>) -> Sentence<'t> {
+    fn text(self) -> &'static str
+        ensures { places result.now ≡ of_goal self.entry }
+    {
         match self {
-            Goal::Named(kind, name) => return Sentence::four(
-                "this value has {}; the {} `{}` has {}",
-                found,
-                Term::Kind(kind),
-                Term::Word(name),
-                wanted,
-            ),
-            Goal::Argument(name) => return Sentence::three(
-                "this value has {}; the parameter `{}` has {}",
-                found,
-                Term::Word(name),
-                wanted,
-            ),
-            Goal::Body(name) => return Sentence::three(
-                "this value has {}; the function `{}` has {}",
-                found,
-                Term::Word(name),
-                wanted,
-            ),
+            Goal::Named(_, _) => "this value has {}; the {} `{}` has {}",
+            Goal::Argument(_) => "this value has {}; the parameter `{}` has {}",
+            Goal::Body(_) => "this value has {}; the function `{}` has {}",
+        }
+    }
+
+    // Its terms.
+    fn terms(self, found: Term<'t>, wanted: Term<'t>) -> Terms<'t>
+        ensures { count result ≡ of_goal self.entry }
+    {
+        match self {
+            Goal::Named(kind, name) => {
+                Terms::Four(found, Term::Kind(kind), Term::Word(name), wanted)
+            }
+            Goal::Argument(name) | Goal::Body(name) => {
+                Terms::Three(found, Term::Word(name), wanted)
+            }
         }
     }
 }
@@ -292,35 +302,30 @@ fn fit<'t>(found: u8, wanted: u64, literal: Option<u64>) -> Help<'t>
     }
 }
 
-fn slice<'t>(hi: u64, lo: u64, width: u8) -> Sentence<'t> {
+fn slice<'t>(hi: u64, lo: u64, width: u8) -> Terms<'t>
+    ensures { count result ≡ of_slice hi lo }
+{
     if hi < lo {
-        Sentence::of_numbers("the high number stands first: `[{}:{}]`", lo, hi)
+        Terms::Two(Term::Number(lo), Term::Number(hi))
     } else {
         let last = Term::Number(width.saturating_sub(1) as u64);
-        Sentence::four(
-            "bits {} to {} of {}: the bits are numbered {} to 0",
-            Term::Number(hi),
-            Term::Number(lo),
-            bits(width),
-            last,
-        )
+        Terms::Four(Term::Number(hi), Term::Number(lo), bits(width), last)
     }
 }
 
-fn literal_value<'t>(value: u64, width: u64) -> Sentence<'t> {
+fn literal_value<'t>(value: u64, width: u64) -> Terms<'t>
+    ensures { count result ≡ of_value width }
+{
     match largest(width) {
-        Some(most) => return Sentence::three(
-            "{} doesn't fit {}: the largest value is {}",
-            Term::Number(value),
-            Term::Bits(width),
-            Term::Number(most),
-        ),
-        None => return Sentence::two("{} doesn't fit {}", Term::Number(value), Term::Bits(width)),
+        Some(most) => Terms::Three(Term::Number(value), Term::Bits(width), Term::Number(most)),
+        None => Terms::Two(Term::Number(value), Term::Bits(width)),
     }
 }
 
 // The largest value of a width of 1 to 63.
-fn largest(width: u64) -> Option<u64> {
+fn largest(width: u64) -> Option<u64>
+    ensures { is_some result ≡ has_largest width }
+{
     if width >= 1 && width < 64 {
         Some(u64::MAX >> (64 - width))
     } else {
