@@ -1,1 +1,5 @@
+pub mod Forms
 pub mod Heads
+pub mod Helps
+pub mod Marks
+pub mod Notes

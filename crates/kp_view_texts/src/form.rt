@@ -1,4 +1,7 @@
 // The forms of instructions.
+ghost use Rattle.std.specs.Prelude.{◌≡◌};
+ghost use Rattle.std.specs.{Map.lookup, Str.str_eq_ignore_ascii_case};
+ghost use Rattle.kp_view_texts.specs.Forms.{form_of, form_text, operand_text, operands_of};
 
 /// A part of an instruction after its mnemonic.
 #[derive(Clone, Copy)]
@@ -20,7 +23,9 @@ pub(crate) enum Operand {
 
 impl Operand {
     /// How a message names it.
-    pub fn text(self) -> &'static str {
+    pub fn text(self) -> &'static str
+        ensures { result.now ≡ operand_text self }
+    {
         match self {
             Operand::Register => "a register such as `r1`",
             Operand::Signed | Operand::Unsigned | Operand::Any => "a number",
@@ -89,17 +94,16 @@ const FORMS: [(&'static str, Form); 26] = [
 
 impl Form {
     /// The form of the instruction with this mnemonic, upper and lower case taken as the same.
-    pub fn of(mnemonic: &[u8]) -> Option<Form> {
-        for row in &FORMS {
-            if row.0.as_bytes().eq_ignore_ascii_case(mnemonic) {
-                return Some(row.1);
-            }
-        }
-        None
+    pub fn of(mnemonic: &[u8]) -> Option<Form>
+        ensures { result ≡ form_of mnemonic.now }
+    {
+        form_among(&FORMS, mnemonic)
     }
 
     /// The parts after the mnemonic.
-    pub fn operands(self) -> &'static [Operand] {
+    pub fn operands(self) -> &'static [Operand]
+        ensures { result.now ≡ operands_of self }
+    {
         match self {
             Form::Registers => &[
                 Operand::Register,
@@ -154,9 +158,23 @@ impl Form {
     }
 }
 
+// The form in the first of these rows that has the mnemonic.
+fn form_among(rows: &[(&'static str, Form)], mnemonic: &[u8]) -> Option<Form>
+    ensures { result ≡ lookup (λ word. str_eq_ignore_ascii_case word.now mnemonic.now) rows.now }
+{
+    for row in rows {
+        if row.0.as_bytes().eq_ignore_ascii_case(mnemonic) {
+            return Some(row.1);
+        }
+    }
+    None
+}
+
 impl Form {
     /// The text of what follows the mnemonic.
-    pub fn text(self) -> &'static str {
+    pub fn text(self) -> &'static str
+        ensures { result.now ≡ form_text self }
+    {
         match self {
             Form::Registers => " rd, ra, rb",
             Form::Signed | Form::Unsigned => " rd, ra, number",

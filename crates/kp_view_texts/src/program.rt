@@ -1,4 +1,8 @@
 // Why an assembler program is rejected.
+ghost use Rattle.std.specs.Prelude.{◌≡◌, OnOk, drop, length};
+ghost use Rattle.kp_view_excerpt.specs.Lines.{offset_at};
+ghost use Rattle.kp_view_texts.specs.{Marks.after_blanks, Marks.line_token_length, Marks.mark_in_line, Marks.program_mark, Notes.AppendsNoteAt};
+
 use crate::form::{Form, Operand};
 use crate::program_fault::{Found, ProgramFault};
 use crate::tokens::{count_tokens, is_name, next_token};
@@ -7,13 +11,16 @@ use kp_view_excerpt::{excerpt_at, offset_of, write_fault};
 use kp_view_help::Word;
 use std::alloc::Global;
 
-/// Appends what follows the head of a rule of programs: the message, the excerpt at its place, and what helps.
+/// Appends what follows the head of a rule of programs: the message, the excerpt at its place, and what helps. The only error is out of memory; what
+/// `out` contains then isn't specified.
 pub fn write_program(
     alloc: Global,
     out: &mut Vec<u8>,
     text: &[u8],
     refusal: Refusal,
-) -> Result<(), NoMemory> {
+) -> Result<(), NoMemory>
+    ensures { OnOk result (AppendsNoteAt text.now refusal.place (program_mark text.now refusal) out.old.items out.new.items) }
+{
     let spot = Spot::of(text, refusal.place);
     let fault = fault_of(text, spot, refusal.number);
     let excerpt = excerpt_at(text, refusal.place, marked(spot, refusal.number));
@@ -28,7 +35,9 @@ struct Spot<'t> {
 }
 
 impl<'t> Spot<'t> {
-    fn of(text: &'t [u8], place: Place) -> Spot<'t> {
+    fn of(text: &'t [u8], place: Place) -> Spot<'t>
+        ensures { result.rest.now ≡ drop (offset_at text.now place) text.now }
+    {
         let start = offset_of(
             text,
             Place {
@@ -44,7 +53,9 @@ impl<'t> Spot<'t> {
     }
 
     // The token at the place, or no bytes at the end of a line.
-    fn token(self) -> &'t [u8] {
+    fn token(self) -> &'t [u8]
+        ensures { length result.now ≡ line_token_length (after_blanks self.entry.rest.now) }
+    {
         match next_token(self.rest) {
             Some((token, _after)) => token,
             None => &[],
@@ -68,7 +79,9 @@ impl<'t> Spot<'t> {
 }
 
 // The number of bytes that are marked.
-fn marked(spot: Spot<'_>, rule: u8) -> usize {
+fn marked(spot: Spot<'_>, rule: u8) -> usize
+    ensures { result ≡ mark_in_line rule spot.entry.rest.now }
+{
     if rule == 1 {
         word_length(spot.rest).max(1)
     } else {

@@ -1,4 +1,7 @@
 // A way to violate a rule of assembler programs.
+ghost use Rattle.std.specs.Prelude.{◌≡◌, option_map};
+ghost use Rattle.kp_view_texts.specs.Helps.{printed, program_help};
+
 use crate::form::{Form, Operand};
 use crate::sentence::{Help, write_words};
 use kp_view_help::{Term, Word};
@@ -160,7 +163,9 @@ fn range(kind: Operand) -> &'static str {
 
 impl<'t> ProgramFault<'t> {
     /// What helps, if anything is known to.
-    pub fn help(&self) -> Option<Help<'t>> {
+    pub fn help(&self) -> Option<Help<'t>>
+        ensures { option_map printed result ≡ program_help self.now }
+    {
         match self {
             ProgramFault::NoToken(b'#' | b'/') => Some(Help {
                 text: "a comment begins with `;`",

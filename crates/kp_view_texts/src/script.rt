@@ -1,6 +1,9 @@
 // Why the script of the debugger is rejected.
+ghost use Rattle.std.specs.Prelude.{◌≡◌, OnOk, length};
+ghost use Rattle.kp_view_texts.specs.{Marks.first_word_length, Marks.is_of_word, Marks.script_mark, Notes.AppendsNoteAt};
+
 use crate::script_fault::{ScriptFault, Verb};
-use crate::tokens::is_blank;
+use crate::tokens::{after_blanks, is_blank};
 use kp_ast::{Decl, Named};
 use kp_base::{NoMemory, Refusal, is_digit, run_length};
 use kp_bits::{LiteralFault, read_literal};
@@ -9,13 +12,16 @@ use kp_view_help::{Kind, Word};
 use std::alloc::Global;
 
 /// Appends what follows the head of a rule of scripts, for a job with these declarations: the message, the excerpt at its place, and what helps.
+/// The only error is out of memory; what `out` contains then isn't specified.
 pub fn write_script(
     alloc: Global,
     out: &mut Vec<u8>,
     text: &[u8],
     decls: &[Decl],
     refusal: Refusal,
-) -> Result<(), NoMemory> {
+) -> Result<(), NoMemory>
+    ensures { OnOk result (AppendsNoteAt text.now refusal.place (script_mark text.now refusal) out.old.items out.new.items) }
+{
     let (before, rest) = text.split_at(offset_of(text, refusal.place));
     let (word, after) = next_word(rest);
     let fault = match refusal.number {
@@ -29,9 +35,18 @@ pub fn write_script(
 }
 
 // The first word of a line, and what follows it; no bytes where the line ends.
-fn next_word(line: &[u8]) -> (&[u8], &[u8]) {
-    let (_blanks, rest) = line.split_at(run_length(line, |byte| is_blank(byte)));
-    rest.split_at(run_length(rest, |byte| byte != b'\n' && !is_blank(byte)))
+fn next_word(line: &[u8]) -> (&[u8], &[u8])
+    ensures { length result.0.now ≡ first_word_length line.now }
+{
+    let rest = after_blanks(line);
+    rest.split_at(run_length(rest, is_of_word))
+}
+
+// A byte of a word.
+fn is_of_word(byte: u8) -> bool
+    ensures { result ≡ is_of_word byte }
+{
+    byte != b'\n' && !is_blank(byte)
 }
 
 // E39.

@@ -1,4 +1,7 @@
 // A way to violate a rule of scripts.
+ghost use Rattle.std.specs.Prelude.{◌≡◌, Some};
+ghost use Rattle.kp_view_texts.specs.Helps.{HelpsScript, IsExample, IsOfVerb, keyword, verb_of};
+
 use crate::sentence::write_words;
 use kp_view_help::{Kind, Term, Terms, Word, write_phrase};
 use std::fmt::{self, Display};
@@ -17,7 +20,9 @@ const VERBS: [Verb; 5] = [Verb::Step, Verb::Back, Verb::Until, Verb::Show, Verb:
 
 impl Verb {
     /// The keyword that this word is, if it is one.
-    pub fn of(word: &[u8]) -> Option<Verb> {
+    pub fn of(word: &[u8]) -> Option<Verb>
+        ensures { result ≡ verb_of word.now }
+    {
         for verb in &VERBS {
             if word == verb.spelling().as_bytes() {
                 return Some(*verb);
@@ -26,7 +31,9 @@ impl Verb {
         None
     }
 
-    fn spelling(self) -> &'static str {
+    fn spelling(self) -> &'static str
+        ensures { result.now ≡ keyword self }
+    {
         match self {
             Verb::Step => "step",
             Verb::Back => "back",
@@ -37,7 +44,9 @@ impl Verb {
     }
 
     /// An example of the command.
-    fn example(self) -> &'static str {
+    fn example(self) -> &'static str
+        ensures { IsOfVerb self result.now }
+    {
         match self {
             Verb::Step => "step 10",
             Verb::Back => "back 10",
@@ -194,7 +203,9 @@ pub(crate) enum ScriptHelp {
 
 impl<'t> ScriptFault<'t> {
     /// What helps, if anything is known to.
-    pub fn help(&self) -> Option<ScriptHelp> {
+    pub fn help(&self) -> Option<ScriptHelp>
+        ensures { HelpsScript self.now result }
+    {
         match self {
             ScriptFault::NoCommand(_) => Some(ScriptHelp::Line {
                 text: "a line is `step N`, `back N`, `until R LIT N`, `show` or `row`, or empty",
@@ -222,7 +233,9 @@ impl<'t> ScriptFault<'t> {
 }
 
 // An example of a command.
-fn example_of(verb: Verb) -> ScriptHelp {
+fn example_of(verb: Verb) -> ScriptHelp
+    ensures { IsExample verb (Some result) }
+{
     ScriptHelp::Line {
         text: "an example is `{}`",
         example: verb.example(),

@@ -1,16 +1,28 @@
 // The tokens of a line of a program.
-ghost use Rattle.std.specs.Prelude.{◌≤◌, length};
+ghost use Rattle.std.specs.Prelude.{◌≡◌, ◌≤◌, length, MatchOption};
+ghost use Rattle.std.specs.Char.{is_ascii_hexdigit};
+ghost use Rattle.kp_base.specs.Characters.{is_digit, run_length};
+ghost use Rattle.kp_view_texts.specs.Marks.{after_blanks, is_blank, line_token_length, number_length, token_length};
 
 use kp_base::{is_digit, is_letter, run_length, word_length};
 
 /// The first token of a line, and what follows it. None where the line ends, or a comment begins.
-pub(crate) fn next_token(line: &[u8]) -> Option<(&[u8], &[u8])> {
-    let blanks = run_length(line, |byte| is_blank(byte));
-    let (_blanks, rest) = line.split_at(blanks);
+pub(crate) fn next_token(line: &[u8]) -> Option<(&[u8], &[u8])>
+    ensures { MatchOption result (line_token_length (after_blanks line.now) ≡ 0) (λ split. length split.0.now ≡ line_token_length (after_blanks line.now)) }
+{
+    let rest = after_blanks(line);
     match rest {
         [] | [b';' | b'\n', ..] => None,
-        [first, ..] => Some(rest.split_at(token_length(*first, rest))),
+        [_, ..] => Some(rest.split_at(token_length(rest))),
     }
+}
+
+/// A text without the blanks at its head.
+pub(crate) fn after_blanks(text: &[u8]) -> &[u8]
+    ensures { result.now ≡ after_blanks text.now }
+{
+    let (_blanks, rest) = text.split_at(run_length(text, is_blank));
+    rest
 }
 
 /// The number of tokens of a line.
@@ -34,36 +46,40 @@ pub(crate) fn is_name(token: &[u8]) -> bool {
 }
 
 /// A space, a tab or a carriage return.
-pub(crate) fn is_blank(byte: u8) -> bool {
+pub(crate) fn is_blank(byte: u8) -> bool
+    ensures { result ≡ is_blank byte }
+{
     matches!(byte, b' ' | b'\t' | b'\r')
 }
 
-// The length of the token that begins with this byte of the text.
-fn token_length(first: u8, text: &[u8]) -> usize
-    ensures { result ≤ length text.now }
+// The length of the token that a text begins with.
+fn token_length(text: &[u8]) -> usize
+    ensures within { result ≤ length text.now }
+    ensures length { result ≡ token_length text.now }
 {
-    if is_letter(first) {
-        return word_length(text);
-    }
-    if first == b'.' {
-        return text.len().min(5);
-    }
-    if is_digit(first) {
-        return number_length(text);
-    }
-    match text {
-        [b'-', digits @ ..] => 1 + digits_length(digits),
-        [_, ..] => 1,
-        [] => 0,
+    let [first, after @ ..] = text else {
+        return 0;
+    };
+    if is_letter(*first) {
+        word_length(text)
+    } else if *first == b'.' {
+        text.len().min(5)
+    } else if is_digit(*first) {
+        number_length(text)
+    } else if *first == b'-' {
+        1 + digits_length(after)
+    } else {
+        1
     }
 }
 
 // The length of a number without a sign.
 fn number_length(text: &[u8]) -> usize
-    ensures { result ≤ length text.now }
+    ensures within { result ≤ length text.now }
+    ensures length { result ≡ number_length text.now }
 {
     if let [b'0', b'x', digits @ ..] = text {
-        let count = run_length(digits, |byte| byte.is_ascii_hexdigit());
+        let count = hex_length(digits);
         if count > 0 {
             return 2 + count;
         }
@@ -71,9 +87,18 @@ fn number_length(text: &[u8]) -> usize
     digits_length(text)
 }
 
+// The length of the run of hexadecimal digits at the head of a text.
+fn hex_length(text: &[u8]) -> usize
+    ensures within { result ≤ length text.now }
+    ensures length { result ≡ run_length is_ascii_hexdigit text.now }
+{
+    run_length(text, |byte| byte.is_ascii_hexdigit())
+}
+
 // The length of the run of decimal digits at the head of a text.
 fn digits_length(text: &[u8]) -> usize
-    ensures { result ≤ length text.now }
+    ensures within { result ≤ length text.now }
+    ensures length { result ≡ run_length is_digit text.now }
 {
     run_length(text, |byte| is_digit(byte))
 }
