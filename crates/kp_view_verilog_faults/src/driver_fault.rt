@@ -1,4 +1,7 @@
 // A violated rule of drivers: V5.
+ghost use Rattle.std.specs.Prelude.{◌≡◌, option_map};
+ghost use Rattle.kp_view_verilog_faults.specs.Helps.{driver_help, printed};
+
 use crate::help::Help;
 use crate::sentence::write_named;
 use kp_view_help::Word;
@@ -102,7 +105,9 @@ impl<'m> Display for DriverFault<'m> {
 
 impl<'m> DriverFault<'m> {
     /// What helps, if anything is known to.
-    pub fn help(&self) -> Option<Help<'m>> {
+    pub fn help(&self) -> Option<Help<'m>>
+        ensures { option_map printed result ≡ driver_help self.now }
+    {
         match self {
             DriverFault::NeverAssigned(name) => Some(Help {
                 text: "write `assign {} = ..;`, or remove the declaration",

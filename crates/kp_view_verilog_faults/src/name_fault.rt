@@ -1,4 +1,7 @@
 // A violated rule of names: V3.
+ghost use Rattle.std.specs.Prelude.{◌≡◌, option_map};
+ghost use Rattle.kp_view_verilog_faults.specs.Helps.{name_help, printed};
+
 use crate::help::Help;
 use crate::sentence::write_named;
 use kp_view_help::Word;
@@ -183,7 +186,9 @@ impl<'m> Display for NameFault<'m> {
 
 impl<'m> NameFault<'m> {
     /// What helps, if anything is known to.
-    pub fn help(&self) -> Option<Help<'m>> {
+    pub fn help(&self) -> Option<Help<'m>>
+        ensures { option_map printed result ≡ name_help self.now }
+    {
         match self {
             NameFault::Port { .. } | NameFault::NoPort(_) => Some(Help {
                 text: "the ports are `clk`, then `rst` if there is one, `ext`, those of the samples, `full`, `ue` and `back`",

@@ -1,4 +1,7 @@
 // Why a text is no module of the subset: V1 and V2.
+ghost use Rattle.std.specs.Prelude.{◌≡◌, option_map};
+ghost use Rattle.kp_view_verilog_faults.specs.Helps.{reading_help, printed};
+
 use crate::class::Class;
 use crate::help::Help;
 use kp_view_help::{FoundToken, Term, Word};
@@ -87,7 +90,9 @@ impl<'t> Display for ReadingFault<'t> {
 
 impl<'t> ReadingFault<'t> {
     /// What helps, if anything is known to.
-    pub fn help(&self) -> Option<Help<'t>> {
+    pub fn help(&self) -> Option<Help<'t>>
+        ensures { option_map printed result ≡ reading_help self.now }
+    {
         match self {
             ReadingFault::NoToken(b'`') => Some(Help {
                 text: "the subset has no compiler directives: remove the line",

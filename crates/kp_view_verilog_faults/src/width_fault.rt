@@ -1,4 +1,6 @@
 // A violated rule of widths: V4.
+ghost use Rattle.kp_view_verilog_faults.specs.Helps.{HasBits, HelpsWidth};
+
 use crate::class::mark_text;
 use crate::sentence::{write_bits, write_named, write_numbers};
 use kp_bits::BinOp;
@@ -278,10 +280,12 @@ pub enum WidthHelp<'m> {
 
 impl<'m> WidthFault<'m> {
     /// What helps, if anything is known to.
-    pub fn help(&self) -> Option<WidthHelp<'m>> {
+    pub fn help(&self) -> Option<WidthHelp<'m>>
+        ensures { HelpsWidth self.now result }
+    {
         match self {
             WidthFault::LiteralValue { value, .. } => Some(WidthHelp::Literal {
-                width: u64::from(64 - value.leading_zeros()),
+                width: bits_of(*value),
                 value: *value,
             }),
             WidthFault::Loop { file, words } => Some(WidthHelp::Loop {
@@ -291,6 +295,13 @@ impl<'m> WidthFault<'m> {
             _ => None,
         }
     }
+}
+
+// The number of bits that a number needs.
+fn bits_of(value: u64) -> u64
+    ensures { HasBits result value }
+{
+    (64 - value.leading_zeros()) as u64
 }
 
 impl<'m> WidthHelp<'m> {
