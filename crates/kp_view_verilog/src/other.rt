@@ -1,4 +1,8 @@
 // Why a netlist isn't one of a job: V6.
+ghost use Rattle.std.specs.Prelude.{OnOk};
+ghost use Rattle.kp_view_excerpt.specs.{Lines.from_place, Tokens.token_length};
+ghost use Rattle.kp_view_verilog.specs.Notes.{AppendsNoteAt};
+
 use kp_ast::{Decl, Job, Name};
 use kp_base::{NoMemory, Refusal};
 use kp_net::{NetFile, NetReg, Netlist, Parts, Port};
@@ -7,7 +11,8 @@ use kp_view_help::Word;
 use kp_view_verilog_faults::{OtherFault, OtherHelp};
 use std::alloc::Global;
 
-/// Appends what follows the head of V6: how the netlist of a text differs from those of the job before it.
+/// Appends what follows the head of V6: how the netlist of a text differs from those of the job before it, the excerpt at the place, and what helps. The
+/// only error is out of memory; what `out` contains then isn't specified.
 pub fn write_other(
     alloc: Global,
     out: &mut Vec<u8>,
@@ -15,7 +20,9 @@ pub fn write_other(
     net: &Netlist,
     job: &Job,
     refusal: Refusal,
-) -> Result<(), NoMemory> {
+) -> Result<(), NoMemory>
+    ensures { OnOk result (AppendsNoteAt text.now refusal.place (token_length (from_place text.now refusal.place)) out.old.items out.new.items) }
+{
     let fault = fault_of(net.parts(), job);
     let excerpt = Excerpt::at(text, refusal.place);
     write_fault(alloc, out, &excerpt, &fault, &Some(OtherHelp))

@@ -1,9 +1,11 @@
 // Why a Verilog text is rejected.
-ghost use Rattle.std.specs.Prelude.{◌≤◌, ◌-◌, ◌^◌, length};
+ghost use Rattle.std.specs.Prelude.{◌≡◌, ◌≤◌, ◌-◌, ◌^◌, ℕ, length, OnOk};
+ghost use Rattle.kp_view_excerpt.specs.{Excerpts.IsExcerpt, Lines.line_at};
+ghost use Rattle.kp_view_verilog.specs.{Marks.Marks, Marks.from_place, Marks.token_length, Marks.unread_length, Notes.AppendsNote, Notes.AppendsNoteAt};
 
-use crate::lines::{offset_at, token_length, word_length};
+use crate::lines::{from_place, offset_at, token_length, unread_length};
 use crate::reading::{expected_at, found_at, no_token};
-use kp_base::{NoMemory, Refusal, Refused};
+use kp_base::{NoMemory, Place, Refusal, Refused};
 use kp_view_excerpt::{Excerpt, excerpt_at, write_fault};
 use kp_view_verilog_faults::{Expected, ReadingFault};
 use kp_view_verilog_module::{driver_fault, name_fault, width_fault};
@@ -11,7 +13,8 @@ use kp_vlog::{VModule, VToken, vlex};
 use kp_vread_parse::vparse;
 use std::alloc::Global;
 
-/// Appends what follows the head of one of V1 to V5 for a text that begins at an offset: the message, the excerpt at its place, and what helps.
+/// Appends what follows the head of one of V1 to V5 for a text that begins at an offset: the message, the excerpt at its place, and what
+/// helps. The only error is out of memory; what `out` contains then isn't specified.
 pub fn write_verilog(
     alloc: Global,
     out: &mut Vec<u8>,
@@ -21,6 +24,7 @@ pub fn write_verilog(
 ) -> Result<(), NoMemory>
     requires within { from ≤ length text.now }
     requires fits { length text.now ≤ 2 ^ 32 - 2 }
+    ensures { OnOk result ((count : ℕ) × Marks text.now from refusal.place count × AppendsNoteAt text.now refusal.place count out.old.items out.new.items) }
 {
     match vlex(alloc, text, from) {
         Err(Refused::NoMemory) => Err(NoMemory),
@@ -45,14 +49,12 @@ fn write_no_token(
     out: &mut Vec<u8>,
     text: &[u8],
     refusal: Refusal,
-) -> Result<(), NoMemory> {
-    let (_before, rest) = text.split_at(offset_at(text, refusal.place));
+) -> Result<(), NoMemory>
+    ensures { OnOk result (AppendsNoteAt text.now refusal.place (unread_length (from_place text.now refusal.place)) out.old.items out.new.items) }
+{
+    let rest = from_place(text, refusal.place);
     let fault = no_token(rest);
-    let marked = match fault {
-        ReadingFault::OpenComment => 2,
-        _ => word_length(rest).max(1),
-    };
-    let excerpt = excerpt_at(text, refusal.place, marked);
+    let excerpt = excerpt_at(text, refusal.place, unread_length(rest));
     write_fault(alloc, out, &excerpt, &fault, &fault.help())
 }
 
@@ -63,10 +65,12 @@ fn write_wrong_token(
     text: &[u8],
     tokens: &[VToken],
     refusal: Refusal,
-) -> Result<(), NoMemory> {
+) -> Result<(), NoMemory>
+    ensures { OnOk result (AppendsNoteAt text.now refusal.place (token_length (from_place text.now refusal.place)) out.old.items out.new.items) }
+{
     let at = offset_at(text, refusal.place);
     let found = found_at(text, tokens, at);
-    let excerpt = excerpt_of(text, refusal);
+    let excerpt = excerpt_of(text, refusal.place);
     match expected_at(alloc, text, tokens, at)? {
         Some(classes) => {
             let expected = Expected(classes.as_slice());
@@ -87,8 +91,10 @@ fn write_of_module(
     text: &[u8],
     module: &VModule,
     refusal: Refusal,
-) -> Result<(), NoMemory> {
-    let excerpt = excerpt_of(text, refusal);
+) -> Result<(), NoMemory>
+    ensures { OnOk result (AppendsNoteAt text.now refusal.place (token_length (from_place text.now refusal.place)) out.old.items out.new.items) }
+{
+    let excerpt = excerpt_of(text, refusal.place);
     let at = offset_at(text, refusal.place);
     match refusal.number {
         3 => write_names(alloc, out, text, &excerpt, module, at),
@@ -105,7 +111,9 @@ fn write_names(
     excerpt: &Excerpt<'_>,
     module: &VModule,
     at: usize,
-) -> Result<(), NoMemory> {
+) -> Result<(), NoMemory>
+    ensures { OnOk result (AppendsNote excerpt.now out.old.items out.new.items) }
+{
     match name_fault(alloc, text, module, at)? {
         Some(fault) => write_fault(alloc, out, excerpt, &fault, &fault.help()),
         None => write_unknown(alloc, out, excerpt),
@@ -119,7 +127,9 @@ fn write_widths(
     excerpt: &Excerpt<'_>,
     module: &VModule,
     at: usize,
-) -> Result<(), NoMemory> {
+) -> Result<(), NoMemory>
+    ensures { OnOk result (AppendsNote excerpt.now out.old.items out.new.items) }
+{
     match width_fault(alloc, text, module, at)? {
         Some(fault) => write_fault(alloc, out, excerpt, &fault, &fault.help()),
         None => write_unknown(alloc, out, excerpt),
@@ -133,7 +143,9 @@ fn write_drivers(
     excerpt: &Excerpt<'_>,
     module: &VModule,
     at: usize,
-) -> Result<(), NoMemory> {
+) -> Result<(), NoMemory>
+    ensures { OnOk result (AppendsNote excerpt.now out.old.items out.new.items) }
+{
     match driver_fault(alloc, text, module, at)? {
         Some(fault) => write_fault(alloc, out, excerpt, &fault, &fault.help()),
         None => write_unknown(alloc, out, excerpt),
@@ -141,13 +153,16 @@ fn write_drivers(
 }
 
 // A violation of which no more is known.
-fn write_unknown(alloc: Global, out: &mut Vec<u8>, excerpt: &Excerpt<'_>) -> Result<(), NoMemory> {
+fn write_unknown(alloc: Global, out: &mut Vec<u8>, excerpt: &Excerpt<'_>) -> Result<(), NoMemory>
+    ensures { OnOk result (AppendsNote excerpt.now out.old.items out.new.items) }
+{
     let fault = ReadingFault::Unknown;
     write_fault(alloc, out, excerpt, &fault, &fault.help())
 }
 
 // The excerpt with a mark under the token at the place.
-fn excerpt_of<'t>(text: &'t [u8], refusal: Refusal) -> Excerpt<'t> {
-    let (_before, rest) = text.split_at(offset_at(text, refusal.place));
-    excerpt_at(text, refusal.place, token_length(rest))
+fn excerpt_of<'t>(text: &'t [u8], place: Place) -> Excerpt<'t>
+    ensures { IsExcerpt result place.line (line_at text.now place.line) (place.col - 1) (token_length (from_place text.now place)) }
+{
+    excerpt_at(text, place, token_length(from_place(text, place)))
 }
