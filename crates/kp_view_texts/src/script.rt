@@ -24,14 +24,25 @@ pub fn write_script(
 {
     let (before, rest) = text.split_at(offset_of(text, refusal.place));
     let (word, after) = next_word(rest);
-    let fault = match refusal.number {
+    let fault = fault_of(decls, before, word, after, refusal.number);
+    let excerpt = excerpt_at(text, refusal.place, word.len());
+    write_fault(alloc, out, &excerpt, &fault, &fault.help())
+}
+
+// How the word after these bytes, with these after it, violates the rule.
+fn fault_of<'t>(
+    decls: &'t [Decl],
+    before: &'t [u8],
+    word: &'t [u8],
+    after: &'t [u8],
+    rule: u8,
+) -> ScriptFault<'t> {
+    match rule {
         39 => no_command(word, after),
         40 => ScriptFault::ManyCycles(Word(word)),
         41 => wrong_register(decls, before, word, after),
         _ => ScriptFault::Unknown,
-    };
-    let excerpt = excerpt_at(text, refusal.place, word.len());
-    write_fault(alloc, out, &excerpt, &fault, &fault.help())
+    }
 }
 
 // The first word of a line, and what follows it; no bytes where the line ends.
