@@ -1,1 +1,5 @@
 pub mod PrintedWidths
+pub mod Uses
+pub mod NameFaults
+pub mod DriverFaults
+pub mod inner

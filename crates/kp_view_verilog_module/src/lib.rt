@@ -4,6 +4,7 @@
 #![tactic(auto)]
 
 mod drivers;
+mod first;
 mod lines;
 mod names;
 mod uses;

@@ -3,8 +3,8 @@ ghost use Rattle.std.specs.Prelude.{◌≡◌, IfSome, IfOk};
 ghost use Rattle.kp_vlog.specs.Scope.{Sizes as Listed, sizes_of, width_in};
 ghost use Rattle.kp_view_verilog_module.specs.PrintedWidths.{HasWidth, HasWidths, limited};
 
+use crate::first::{Sought, first};
 use crate::lines::line_of;
-use crate::names::declared;
 use crate::uses::{Use, Uses};
 use kp_base::NoMemory;
 use kp_bits::{BinOp, Literal};
@@ -50,6 +50,11 @@ impl<'a, 'm> Asked<'a, 'm> {
         named.at as usize == self.at
     }
 
+    // Whether the name is at the offset, and the literal has its width.
+    fn starts(&self, named: &'m Named, value: Lit) -> bool {
+        self.is_at(named) && value.literal.width == self.width(named)
+    }
+
     // A name with its width.
     fn side(&self, named: &'m Named) -> Side<'m>
         ensures { HasWidth self.now.sizes.now result }
@@ -58,8 +63,8 @@ impl<'a, 'm> Asked<'a, 'm> {
         Side {
             name: Word(name),
             width: self.width(named),
-            line: match declared(self.uses, name) {
-                Some((_kind, at)) => line_of(self.text, at),
+            line: match first(self.uses, Sought::Declaration, name) {
+                Some(declared) => line_of(self.text, declared.named.at),
                 None => 0,
             },
         }
@@ -72,6 +77,16 @@ impl<'a, 'm> Asked<'a, 'm> {
         match u64::try_from(self.sizes.width(&named.name)) {
             Ok(width) => width,
             Err(_) => u64::MAX,
+        }
+    }
+
+    // The width of a right side without a rule of its own.
+    fn value_width(&self, right: &'m Right) -> u64 {
+        match right {
+            Right::Literal(literal) => literal.literal.width,
+            Right::Name(a) | Right::Not(a) => self.width(a),
+            Right::Concat(parts) => self.sum(parts.as_slice()),
+            _ => 0,
         }
     }
 
@@ -154,28 +169,14 @@ fn in_item<'m>(asked: &Asked<'_, 'm>, item: &'m Item) -> Option<WidthFault<'m>>
     ensures { IfSome result (HasWidths asked.now.sizes.now) }
 {
     match item {
-        Item::Reg(range, named) | Item::Wire(range, named) => {
-            if asked.is_at(named) && !fits_range(*range) {
-                Some(WidthFault::Range)
-            } else {
-                None
-            }
+        Item::Reg(range, named) | Item::Wire(range, named)
+            if asked.is_at(named) && !fits_range(*range) => { Some(WidthFault::Range) }
+        Item::File(range, named, words) if asked.is_at(named) => {
+            Some(in_file(asked, *range, named, *words))
         }
-        Item::File(range, named, words) => {
-            if asked.is_at(named) {
-                Some(in_file(asked, *range, named, *words))
-            } else {
-                None
-            }
-        }
-        Item::Assign(target, right) => {
-            if asked.is_at(target) {
-                in_right(asked, target, right)
-            } else {
-                in_literal(asked, right)
-            }
-        }
-        Item::Integer(_) => None,
+        Item::Assign(target, right) if asked.is_at(target) => in_right(asked, target, right),
+        Item::Assign(_, right) => in_literal(asked, right),
+        _ => None,
     }
 }
 
@@ -230,20 +231,15 @@ fn in_right<'m>(
 {
     let target = asked.side(target);
     match right {
-        Right::Literal(literal) => wrong_value(target, literal.literal.width),
-        Right::Name(a) | Right::Not(a) => wrong_value(target, asked.width(a)),
         Right::Binary(op, a, b) => wrong_operands(*op, asked.side(a), asked.side(b), target),
         Right::Choice(test, a, b) => {
             wrong_choice(asked.side(test), asked.side(a), asked.side(b), target)
         }
         Right::Slice(a, high, low) => wrong_slice(asked.side(a), *high, *low, target),
         Right::Word(file, address) => {
-            match wrong_address(asked, file, address) {
-                Some(fault) => Some(fault),
-                None => wrong_value(target, asked.width(file)),
-            }
+            wrong_word(asked, file, address, target, asked.width(file))
         }
-        Right::Concat(parts) => wrong_value(target, asked.sum(parts.as_slice())),
+        _ => wrong_value(target, asked.value_width(right)),
     }
 }
 
@@ -348,6 +344,22 @@ fn wrong_address<'m>(
     })
 }
 
+// A word of a file at an address, and a value for this target.
+fn wrong_word<'m>(
+    asked: &Asked<'_, 'm>,
+    file: &'m Named,
+    address: &'m Named,
+    target: Side<'m>,
+    found: u64,
+) -> Option<WidthFault<'m>>
+    ensures { HasWidth asked.now.sizes.now target.entry → IfSome result (HasWidths asked.now.sizes.now) }
+{
+    match wrong_address(asked, file, address) {
+        Some(fault) => Some(fault),
+        None => wrong_value(target, found),
+    }
+}
+
 fn in_inits<'m>(asked: &Asked<'_, 'm>, inits: &'m [Init]) -> Option<WidthFault<'m>>
     ensures { IfSome result (HasWidths asked.now.sizes.now) }
 {
@@ -364,14 +376,8 @@ fn in_init<'m>(asked: &Asked<'_, 'm>, init: &'m Init) -> Option<WidthFault<'m>>
 {
     match init {
         Init::Reg(named, value) => in_start(asked, named, *value),
-        Init::Word(named, index, value) => match in_start(asked, named, *value) {
-            Some(fault) => Some(fault),
-            None => in_word(asked, named, *index),
-        },
-        Init::Fill(fill) => match in_start(asked, &fill.file, fill.value) {
-            Some(fault) => Some(fault),
-            None => in_fill(asked, fill),
-        },
+        Init::Word(named, index, value) => in_word(asked, named, *index, *value),
+        Init::Fill(fill) => in_fill(asked, fill),
     }
 }
 
@@ -386,20 +392,24 @@ fn in_start<'m>(asked: &Asked<'_, 'm>, named: &'m Named, value: Lit) -> Option<W
     }
 }
 
-// The number of a word of a file.
-fn in_word<'m>(asked: &Asked<'_, 'm>, file: &'m Named, index: Num) -> Option<WidthFault<'m>>
+// The number and the value of a word of a file.
+fn in_word<'m>(
+    asked: &Asked<'_, 'm>,
+    file: &'m Named,
+    index: Num,
+    value: Lit,
+) -> Option<WidthFault<'m>>
     ensures { IfSome result (HasWidths asked.now.sizes.now) }
 {
     let words = asked.sizes.words(&file.name);
-    if asked.is_at(file) && index.value >= words {
-        Some(WidthFault::Index {
+    if asked.starts(file, value) && index.value >= words {
+        return Some(WidthFault::Index {
             file: Word(file.name.bytes()),
             words,
             found: index.value,
-        })
-    } else {
-        None
+        });
     }
+    in_start(asked, file, value)
 }
 
 // A loop over the words of a file.
@@ -407,15 +417,18 @@ fn in_fill<'m>(asked: &Asked<'_, 'm>, fill: &'m Fill) -> Option<WidthFault<'m>>
     ensures { IfSome result (HasWidths asked.now.sizes.now) }
 {
     let words = asked.sizes.words(&fill.file.name);
-    let is_whole = fill.from.value == 0 && fill.by.value == 1 && fill.limit.value == words;
-    if asked.is_at(&fill.file) && !is_whole {
-        Some(WidthFault::Loop {
+    if asked.starts(&fill.file, fill.value) && !is_complete(fill, words) {
+        return Some(WidthFault::Loop {
             file: Word(fill.file.name.bytes()),
             words,
-        })
-    } else {
-        None
+        });
     }
+    in_start(asked, &fill.file, fill.value)
+}
+
+// Whether a loop goes over all words of a file with so many.
+fn is_complete(fill: &Fill, words: u64) -> bool {
+    fill.from.value == 0 && fill.by.value == 1 && fill.limit.value == words
 }
 
 fn in_reset<'m>(asked: &Asked<'_, 'm>, reset: &'m Option<ResetList>) -> Option<WidthFault<'m>>
@@ -450,15 +463,25 @@ fn in_update<'m>(asked: &Asked<'_, 'm>, update: &'m Update) -> Option<WidthFault
             wrong_value(asked.side(named), asked.width(value))
         }
         Update::File(test, file, address, value) if asked.is_at(file) => {
-            let test = asked.side(test);
-            if test.width != 1 {
-                return Some(WidthFault::Test(test));
-            }
-            match wrong_address(asked, file, address) {
-                Some(fault) => Some(fault),
-                None => wrong_value(asked.side(file), asked.width(value)),
-            }
+            in_write(asked, test, file, address, value)
         }
         _ => None,
     }
+}
+
+// A write of a word of a file.
+fn in_write<'m>(
+    asked: &Asked<'_, 'm>,
+    test: &'m Named,
+    file: &'m Named,
+    address: &'m Named,
+    value: &'m Named,
+) -> Option<WidthFault<'m>>
+    ensures { IfSome result (HasWidths asked.now.sizes.now) }
+{
+    let test = asked.side(test);
+    if test.width != 1 {
+        return Some(WidthFault::Test(test));
+    }
+    wrong_word(asked, file, address, asked.side(file), asked.width(value))
 }
