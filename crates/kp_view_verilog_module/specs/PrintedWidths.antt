@@ -1,5 +1,5 @@
 -- THE WIDTHS IN A MESSAGE FOR V4 are those of the module.
-use Rattle.std.specs.Prelude.{ℕ, ◌-◌, ◌^◌, ◌≡◌, if◌then◌else◌, nat_lt}
+use Rattle.std.specs.Prelude.{ℕ, ◌-◌, ◌^◌, ◌≡◌, ◌==◌, ◌&&◌, false, if◌then◌else◌, nat_lt, nat_le}
 use Rattle.kp_vlog.specs.Scope.{Sizes, width_in, address_in}
 use Rattle.kp_view_verilog_faults.specs.declared.width_fault.{Side.Side, WidthFault.WidthFault}
 use Rattle.kp_view_verilog_faults.specs.declared.width_fault.WidthFault.TheVariants as faults
@@ -26,3 +26,18 @@ HasWidths sizes (faults.Address address file wanted) = HasWidth sizes address ×
 HasWidths sizes (faults.Index file words found) = words ≡ 2 ^ address_in sizes file.0.now
 HasWidths sizes (faults.Loop file words) = words ≡ 2 ^ address_in sizes file.0.now
 HasWidths sizes _ = Unit {0}
+
+-- The numbers in a violation break the rule: the widths that are to be equal differ, and so on.
+abbrev pub Differs : WidthFault → Type 0
+Differs (faults.Value target found) = (target.width == found) ≡ false
+Differs (faults.Operands op a b target) = (a.width == target.width && b.width == target.width) ≡ false
+Differs (faults.Compared op a b) = (a.width == b.width) ≡ false
+Differs (faults.Comparison op target) = (target.width == 1) ≡ false
+Differs (faults.Shifted op a target) = (a.width == target.width) ≡ false
+Differs (faults.Test test) = (test.width == 1) ≡ false
+Differs (faults.Branches a b target) = (a.width == target.width && b.width == target.width) ≡ false
+Differs (faults.Slice high low a) = (nat_le low high && nat_lt high a.width) ≡ false
+Differs (faults.Address address file wanted) = (address.width == wanted) ≡ false
+Differs (faults.LiteralWidth width) = (nat_le 1 width && nat_le width 64) ≡ false
+Differs (faults.Index file words found) = nat_lt found words ≡ false
+Differs _ = Unit {0}

@@ -244,7 +244,12 @@ fn is_wire(name: &[u8]) -> bool
 fn all_digits(bytes: &[u8]) -> bool
     ensures { result ≡ list_all is_digit bytes.now }
 {
-    bytes.iter().all(|byte| byte.is_ascii_digit())
+    for byte in bytes {
+        if !byte.is_ascii_digit() {
+            return false;
+        }
+    }
+    true
 }
 
 // Whether a place takes this name, declared or not: an output on the left side, and `ext` on the right.

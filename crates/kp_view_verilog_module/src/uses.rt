@@ -74,6 +74,15 @@ pub(crate) enum Role {
     HasValue,
 }
 
+impl Role {
+    // A name in this role.
+    fn of<'m>(self, named: &'m Named) -> Use<'m>
+        ensures { occurrence_of result ≡ occurs (role_of self) named.now }
+    {
+        Use { role: self, named }
+    }
+}
+
 /// A name at a place.
 #[derive(Clone, Copy)]
 pub(crate) struct Use<'m> {
@@ -138,6 +147,13 @@ impl<'m> Uses<'m> {
         Ok(())
     }
 
+    fn add_all(&mut self, uses: &[Use<'m>]) -> Result<(), NoMemory>
+        ensures { OnOk result (self.new ≡ self.old ++ map occurrence_of uses.now) }
+    {
+        self.all.extend_from_slice(uses)?;
+        Ok(())
+    }
+
     fn add_module(&mut self, whole: &'m VModule) -> Result<(), NoMemory>
         ensures { OnOk result (self.new ≡ self.old ++ uses whole.now) }
     {
@@ -180,9 +196,11 @@ impl<'m> Uses<'m> {
     fn add_outputs(&mut self, whole: &'m VModule) -> Result<(), NoMemory>
         ensures { OnOk result (self.new ≡ self.old ++ output_uses whole.now) }
     {
-        self.add(Role::Port(PortName::Full), &whole.full.port)?;
-        self.add(Role::Port(PortName::Ue), &whole.ue.port)?;
-        self.add(Role::Port(PortName::Back), &whole.back.port)
+        self.add_all(&[
+            Role::Port(PortName::Full).of(&whole.full.port),
+            Role::Port(PortName::Ue).of(&whole.ue.port),
+            Role::Port(PortName::Back).of(&whole.back.port),
+        ])
     }
 
     fn add_items(&mut self, items: &'m [Item]) -> Result<(), NoMemory>
@@ -231,24 +249,19 @@ impl<'m> Uses<'m> {
         match right {
             Right::Literal(_) | Right::Name(_) => Ok(()),
             Right::Not(a) | Right::Slice(a, _, _) => self.add(Role::UsesWire, a),
-            Right::Binary(_, a, b) => self.add_two(a, b),
-            Right::Choice(test, a, b) => {
-                self.add(Role::UsesWire, test)?;
-                self.add_two(a, b)
+            Right::Binary(_, a, b) => {
+                self.add_all(&[Role::UsesWire.of(a), Role::UsesWire.of(b)])
             }
+            Right::Choice(test, a, b) => self.add_all(&[
+                Role::UsesWire.of(test),
+                Role::UsesWire.of(a),
+                Role::UsesWire.of(b),
+            ]),
             Right::Word(file, a) => {
-                self.add(Role::UsesFile, file)?;
-                self.add(Role::UsesWire, a)
+                self.add_all(&[Role::UsesFile.of(file), Role::UsesWire.of(a)])
             }
             Right::Concat(parts) => self.add_wires(parts.as_slice()),
         }
-    }
-
-    fn add_two(&mut self, first: &'m Named, second: &'m Named) -> Result<(), NoMemory>
-        ensures { OnOk result (self.new ≡ self.old ++ (occurs uses_wire first.now ∷ occurs uses_wire second.now ∷ [])) }
-    {
-        self.add(Role::UsesWire, first)?;
-        self.add(Role::UsesWire, second)
     }
 
     fn add_wires(&mut self, parts: &'m [Named]) -> Result<(), NoMemory>
@@ -285,23 +298,15 @@ impl<'m> Uses<'m> {
         match init {
             Init::Reg(named, _) => self.add(Role::Starts, named),
             Init::Word(named, _, _) => self.add(Role::StartsWord, named),
-            Init::Fill(fill) => {
-                self.add_counters(fill)?;
-                self.add(Role::Fills, &fill.file)?;
-                self.add(Role::UsesInteger, &fill.index)
-            }
+            Init::Fill(fill) => self.add_all(&[
+                Role::UsesInteger.of(&fill.counter),
+                Role::UsesInteger.of(&fill.tested),
+                Role::UsesInteger.of(&fill.stepped),
+                Role::UsesInteger.of(&fill.old),
+                Role::Fills.of(&fill.file),
+                Role::UsesInteger.of(&fill.index),
+            ]),
         }
-    }
-
-    // The counter, in the head of a loop.
-    fn add_counters(&mut self, fill: &'m Fill) -> Result<(), NoMemory>
-        ensures { OnOk result (self.new ≡ self.old ++ (occurs uses_integer fill.now.counter
-            ∷ occurs uses_integer fill.now.tested ∷ occurs uses_integer fill.now.stepped ∷ occurs uses_integer fill.now.old ∷ [])) }
-    {
-        self.add(Role::UsesInteger, &fill.counter)?;
-        self.add(Role::UsesInteger, &fill.tested)?;
-        self.add(Role::UsesInteger, &fill.stepped)?;
-        self.add(Role::UsesInteger, &fill.old)
     }
 
     fn add_reset(&mut self, reset: &'m Option<ResetList>) -> Result<(), NoMemory>
@@ -338,15 +343,16 @@ impl<'m> Uses<'m> {
         ensures { OnOk result (self.new ≡ self.old ++ update_names update.now) }
     {
         match update {
-            Update::Reg(named, value) => {
-                self.add(Role::UpdatesRegister, named)?;
-                self.add(Role::UsesWire, value)
-            }
-            Update::File(test, file, address, value) => {
-                self.add(Role::UsesWire, test)?;
-                self.add(Role::UpdatesFile, file)?;
-                self.add_two(address, value)
-            }
+            Update::Reg(named, value) => self.add_all(&[
+                Role::UpdatesRegister.of(named),
+                Role::UsesWire.of(value),
+            ]),
+            Update::File(test, file, address, value) => self.add_all(&[
+                Role::UsesWire.of(test),
+                Role::UpdatesFile.of(file),
+                Role::UsesWire.of(address),
+                Role::UsesWire.of(value),
+            ]),
         }
     }
 }

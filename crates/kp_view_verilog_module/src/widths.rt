@@ -1,7 +1,7 @@
 // The rule of widths: V4.
 ghost use Rattle.std.specs.Prelude.{◌≡◌, IfSome, IfOk};
 ghost use Rattle.kp_vlog.specs.Scope.{Sizes as Listed, sizes_of, width_in};
-ghost use Rattle.kp_view_verilog_module.specs.PrintedWidths.{HasWidth, HasWidths, limited};
+ghost use Rattle.kp_view_verilog_module.specs.PrintedWidths.{Differs, HasWidth, HasWidths, limited};
 
 use crate::first::{Sought, first};
 use crate::lines::line_of;
@@ -14,7 +14,8 @@ use kp_vlog::{Fill, Init, Item, Lit, Named, Num, Range, ResetList, Right, Update
 use kp_vread_rules::Sizes;
 use std::alloc::Global;
 
-/// How a module violates the rule at an offset. The widths in what is returned are those of the module. The only error is out of memory.
+/// How a module violates the rule at an offset. The widths in what is returned are those of the module, and they break the rule. The only error is out of
+/// memory.
 #[tactic(auto, using(crate::proofs::PrintedWidths::of_alike))]
 pub fn width_fault<'m>(
     alloc: Global,
@@ -22,7 +23,8 @@ pub fn width_fault<'m>(
     whole: &'m VModule,
     at: usize,
 ) -> Result<Option<WidthFault<'m>>, NoMemory>
-    ensures { IfOk result (λ fault. IfSome fault (HasWidths (sizes_of whole.now))) }
+    ensures widths { IfOk result (λ fault. IfSome fault (HasWidths (sizes_of whole.now))) }
+    ensures differs { IfOk result (λ fault. IfSome fault Differs) }
 {
     let uses = Uses::of(alloc, whole)?;
     let sizes = Sizes::new(alloc, whole)?;
@@ -101,7 +103,8 @@ impl<'a, 'm> Asked<'a, 'm> {
 }
 
 fn fault_of<'m>(asked: &Asked<'_, 'm>, whole: &'m VModule) -> Option<WidthFault<'m>>
-    ensures { IfSome result (HasWidths asked.now.sizes.now) }
+    ensures widths { IfSome result (HasWidths asked.now.sizes.now) }
+    ensures differs { IfSome result Differs }
 {
     if let Some(fault) = in_header(asked, whole) {
         return Some(fault);
@@ -119,7 +122,8 @@ fn fault_of<'m>(asked: &Asked<'_, 'm>, whole: &'m VModule) -> Option<WidthFault<
 }
 
 fn in_header<'m>(asked: &Asked<'_, 'm>, whole: &'m VModule) -> Option<WidthFault<'m>>
-    ensures { IfSome result (HasWidths asked.now.sizes.now) }
+    ensures widths { IfSome result (HasWidths asked.now.sizes.now) }
+    ensures differs { IfSome result Differs }
 {
     let ports = [&whole.ext, &whole.full, &whole.ue];
     for port in &ports {
@@ -135,7 +139,8 @@ fn in_header<'m>(asked: &Asked<'_, 'm>, whole: &'m VModule) -> Option<WidthFault
 }
 
 fn in_samples<'m>(asked: &Asked<'_, 'm>, samples: &'m [VPort]) -> Option<WidthFault<'m>>
-    ensures { IfSome result (HasWidths asked.now.sizes.now) }
+    ensures widths { IfSome result (HasWidths asked.now.sizes.now) }
+    ensures differs { IfSome result Differs }
 {
     for sample in samples {
         if asked.is_at(&sample.port) && !fits_range(sample.range) {
@@ -155,7 +160,8 @@ fn fits_range(range: Range) -> bool {
 }
 
 fn in_items<'m>(asked: &Asked<'_, 'm>, items: &'m [Item]) -> Option<WidthFault<'m>>
-    ensures { IfSome result (HasWidths asked.now.sizes.now) }
+    ensures widths { IfSome result (HasWidths asked.now.sizes.now) }
+    ensures differs { IfSome result Differs }
 {
     for item in items {
         if let Some(fault) = in_item(asked, item) {
@@ -166,7 +172,8 @@ fn in_items<'m>(asked: &Asked<'_, 'm>, items: &'m [Item]) -> Option<WidthFault<'
 }
 
 fn in_item<'m>(asked: &Asked<'_, 'm>, item: &'m Item) -> Option<WidthFault<'m>>
-    ensures { IfSome result (HasWidths asked.now.sizes.now) }
+    ensures widths { IfSome result (HasWidths asked.now.sizes.now) }
+    ensures differs { IfSome result Differs }
 {
     match item {
         Item::Reg(range, named) | Item::Wire(range, named)
@@ -187,7 +194,8 @@ fn in_file<'m>(
     named: &'m Named,
     words: Range,
 ) -> WidthFault<'m>
-    ensures { HasWidths asked.now.sizes.now result }
+    ensures widths { HasWidths asked.now.sizes.now result }
+    ensures differs { Differs result }
 {
     if !fits_range(range) {
         WidthFault::Range
@@ -199,7 +207,8 @@ fn in_file<'m>(
 }
 
 fn in_literal<'m>(asked: &Asked<'_, 'm>, right: &Right) -> Option<WidthFault<'m>>
-    ensures { IfSome result (HasWidths asked.now.sizes.now) }
+    ensures widths { IfSome result (HasWidths asked.now.sizes.now) }
+    ensures differs { IfSome result Differs }
 {
     match right {
         Right::Literal(literal) => wrong_literal(asked, *literal),
@@ -208,7 +217,8 @@ fn in_literal<'m>(asked: &Asked<'_, 'm>, right: &Right) -> Option<WidthFault<'m>
 }
 
 fn wrong_literal<'m>(asked: &Asked<'_, 'm>, literal: Lit) -> Option<WidthFault<'m>>
-    ensures { IfSome result (HasWidths asked.now.sizes.now) }
+    ensures widths { IfSome result (HasWidths asked.now.sizes.now) }
+    ensures differs { IfSome result Differs }
 {
     let Literal { width, value } = literal.literal;
     if literal.at as usize != asked.at {
@@ -227,7 +237,8 @@ fn in_right<'m>(
     target: &'m Named,
     right: &'m Right,
 ) -> Option<WidthFault<'m>>
-    ensures { IfSome result (HasWidths asked.now.sizes.now) }
+    ensures widths { IfSome result (HasWidths asked.now.sizes.now) }
+    ensures differs { IfSome result Differs }
 {
     let target = asked.side(target);
     match right {
@@ -244,7 +255,8 @@ fn in_right<'m>(
 }
 
 fn wrong_value<'m>(target: Side<'m>, found: u64) -> Option<WidthFault<'m>>
-    ensures { (sizes : Listed) → HasWidth sizes target.entry → IfSome result (HasWidths sizes) }
+    ensures widths { (sizes : Listed) → HasWidth sizes target.entry → IfSome result (HasWidths sizes) }
+    ensures differs { IfSome result Differs }
 {
     if target.width == found {
         None
@@ -259,7 +271,8 @@ fn wrong_operands<'m>(
     b: Side<'m>,
     target: Side<'m>,
 ) -> Option<WidthFault<'m>>
-    ensures { (sizes : Listed) → HasWidth sizes a.entry → HasWidth sizes b.entry → HasWidth sizes target.entry → IfSome result (HasWidths sizes) }
+    ensures widths { (sizes : Listed) → HasWidth sizes a.entry → HasWidth sizes b.entry → HasWidth sizes target.entry → IfSome result (HasWidths sizes) }
+    ensures differs { IfSome result Differs }
 {
     match op {
         BinOp::Eq | BinOp::Lt => wrong_comparison(op, a, b, target),
@@ -286,7 +299,8 @@ fn wrong_comparison<'m>(
     b: Side<'m>,
     target: Side<'m>,
 ) -> Option<WidthFault<'m>>
-    ensures { (sizes : Listed) → HasWidth sizes a.entry → HasWidth sizes b.entry → HasWidth sizes target.entry → IfSome result (HasWidths sizes) }
+    ensures widths { (sizes : Listed) → HasWidth sizes a.entry → HasWidth sizes b.entry → HasWidth sizes target.entry → IfSome result (HasWidths sizes) }
+    ensures differs { IfSome result Differs }
 {
     if a.width != b.width {
         Some(WidthFault::Compared { op, a, b })
@@ -303,7 +317,9 @@ fn wrong_choice<'m>(
     b: Side<'m>,
     target: Side<'m>,
 ) -> Option<WidthFault<'m>>
-    ensures { (sizes : Listed) → HasWidth sizes test.entry → HasWidth sizes a.entry → HasWidth sizes b.entry → HasWidth sizes target.entry → IfSome result (HasWidths sizes) }
+    ensures widths { (sizes : Listed) → HasWidth sizes test.entry → HasWidth sizes a.entry → HasWidth sizes b.entry → HasWidth sizes target.entry
+        → IfSome result (HasWidths sizes) }
+    ensures differs { IfSome result Differs }
 {
     if test.width != 1 {
         Some(WidthFault::Test(test))
@@ -315,7 +331,8 @@ fn wrong_choice<'m>(
 }
 
 fn wrong_slice<'m>(a: Side<'m>, high: Num, low: Num, target: Side<'m>) -> Option<WidthFault<'m>>
-    ensures { (sizes : Listed) → HasWidth sizes a.entry → HasWidth sizes target.entry → IfSome result (HasWidths sizes) }
+    ensures widths { (sizes : Listed) → HasWidth sizes a.entry → HasWidth sizes target.entry → IfSome result (HasWidths sizes) }
+    ensures differs { IfSome result Differs }
 {
     let (high, low) = (high.value, low.value);
     if high < low || high >= a.width {
@@ -330,7 +347,8 @@ fn wrong_address<'m>(
     file: &'m Named,
     address: &'m Named,
 ) -> Option<WidthFault<'m>>
-    ensures { IfSome result (HasWidths asked.now.sizes.now) }
+    ensures widths { IfSome result (HasWidths asked.now.sizes.now) }
+    ensures differs { IfSome result Differs }
 {
     let address = asked.side(address);
     let wanted = u64::from(asked.sizes.address(&file.name));
@@ -352,7 +370,8 @@ fn wrong_word<'m>(
     target: Side<'m>,
     found: u64,
 ) -> Option<WidthFault<'m>>
-    ensures { HasWidth asked.now.sizes.now target.entry → IfSome result (HasWidths asked.now.sizes.now) }
+    ensures widths { HasWidth asked.now.sizes.now target.entry → IfSome result (HasWidths asked.now.sizes.now) }
+    ensures differs { IfSome result Differs }
 {
     match wrong_address(asked, file, address) {
         Some(fault) => Some(fault),
@@ -361,7 +380,8 @@ fn wrong_word<'m>(
 }
 
 fn in_inits<'m>(asked: &Asked<'_, 'm>, inits: &'m [Init]) -> Option<WidthFault<'m>>
-    ensures { IfSome result (HasWidths asked.now.sizes.now) }
+    ensures widths { IfSome result (HasWidths asked.now.sizes.now) }
+    ensures differs { IfSome result Differs }
 {
     for init in inits {
         if let Some(fault) = in_init(asked, init) {
@@ -372,7 +392,8 @@ fn in_inits<'m>(asked: &Asked<'_, 'm>, inits: &'m [Init]) -> Option<WidthFault<'
 }
 
 fn in_init<'m>(asked: &Asked<'_, 'm>, init: &'m Init) -> Option<WidthFault<'m>>
-    ensures { IfSome result (HasWidths asked.now.sizes.now) }
+    ensures widths { IfSome result (HasWidths asked.now.sizes.now) }
+    ensures differs { IfSome result Differs }
 {
     match init {
         Init::Reg(named, value) => in_start(asked, named, *value),
@@ -383,7 +404,8 @@ fn in_init<'m>(asked: &Asked<'_, 'm>, init: &'m Init) -> Option<WidthFault<'m>>
 
 // The literal that a register or the words of a file start with.
 fn in_start<'m>(asked: &Asked<'_, 'm>, named: &'m Named, value: Lit) -> Option<WidthFault<'m>>
-    ensures { IfSome result (HasWidths asked.now.sizes.now) }
+    ensures widths { IfSome result (HasWidths asked.now.sizes.now) }
+    ensures differs { IfSome result Differs }
 {
     if asked.is_at(named) {
         wrong_value(asked.side(named), value.literal.width)
@@ -399,7 +421,8 @@ fn in_word<'m>(
     index: Num,
     value: Lit,
 ) -> Option<WidthFault<'m>>
-    ensures { IfSome result (HasWidths asked.now.sizes.now) }
+    ensures widths { IfSome result (HasWidths asked.now.sizes.now) }
+    ensures differs { IfSome result Differs }
 {
     let words = asked.sizes.words(&file.name);
     if asked.starts(file, value) && index.value >= words {
@@ -414,7 +437,8 @@ fn in_word<'m>(
 
 // A loop over the words of a file.
 fn in_fill<'m>(asked: &Asked<'_, 'm>, fill: &'m Fill) -> Option<WidthFault<'m>>
-    ensures { IfSome result (HasWidths asked.now.sizes.now) }
+    ensures widths { IfSome result (HasWidths asked.now.sizes.now) }
+    ensures differs { IfSome result Differs }
 {
     let words = asked.sizes.words(&fill.file.name);
     if asked.starts(&fill.file, fill.value) && !is_complete(fill, words) {
@@ -432,7 +456,8 @@ fn is_complete(fill: &Fill, words: u64) -> bool {
 }
 
 fn in_reset<'m>(asked: &Asked<'_, 'm>, reset: &'m Option<ResetList>) -> Option<WidthFault<'m>>
-    ensures { IfSome result (HasWidths asked.now.sizes.now) }
+    ensures widths { IfSome result (HasWidths asked.now.sizes.now) }
+    ensures differs { IfSome result Differs }
 {
     if let Some(reset) = reset {
         for value in reset.values.as_slice() {
@@ -445,7 +470,8 @@ fn in_reset<'m>(asked: &Asked<'_, 'm>, reset: &'m Option<ResetList>) -> Option<W
 }
 
 fn in_updates<'m>(asked: &Asked<'_, 'm>, updates: &'m [Update]) -> Option<WidthFault<'m>>
-    ensures { IfSome result (HasWidths asked.now.sizes.now) }
+    ensures widths { IfSome result (HasWidths asked.now.sizes.now) }
+    ensures differs { IfSome result Differs }
 {
     for update in updates {
         if let Some(fault) = in_update(asked, update) {
@@ -456,7 +482,8 @@ fn in_updates<'m>(asked: &Asked<'_, 'm>, updates: &'m [Update]) -> Option<WidthF
 }
 
 fn in_update<'m>(asked: &Asked<'_, 'm>, update: &'m Update) -> Option<WidthFault<'m>>
-    ensures { IfSome result (HasWidths asked.now.sizes.now) }
+    ensures widths { IfSome result (HasWidths asked.now.sizes.now) }
+    ensures differs { IfSome result Differs }
 {
     match update {
         Update::Reg(named, value) if asked.is_at(named) => {
@@ -477,7 +504,8 @@ fn in_write<'m>(
     address: &'m Named,
     value: &'m Named,
 ) -> Option<WidthFault<'m>>
-    ensures { IfSome result (HasWidths asked.now.sizes.now) }
+    ensures widths { IfSome result (HasWidths asked.now.sizes.now) }
+    ensures differs { IfSome result Differs }
 {
     let test = asked.side(test);
     if test.width != 1 {
