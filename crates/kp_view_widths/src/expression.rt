@@ -1,14 +1,14 @@
 // The widths of expressions. A width that isn't known violates no rule.
 use crate::checks::{
-    check_condition, check_value, declared, fits, is_width, literal_width, width_in,
+    check_condition, check_value, declared, fits, literal_width, width_in, width_of,
 };
 use crate::lookup::{Here, callee, counted_params, used};
 use crate::names::{Names, Position};
+use crate::notes::Notes;
 use kp_ast::{Expr, ExprKind, Name, Num, Param};
-use kp_base::{NoMemory, Place};
+use kp_base::Place;
 use kp_bits::BinOp;
 use kp_parse_grammar::Mark;
-use kp_view_findings::Findings;
 use kp_view_help::{Wanted, Word};
 use kp_view_message::{Goal, Message, WidthFault};
 
@@ -17,47 +17,47 @@ use kp_view_message::{Goal, Message, WidthFault};
 pub(crate) fn expression<'t>(
     here: Here<'t>,
     names: &Names,
-    found: &mut Findings<'t>,
+    notes: &mut Notes<'t>,
     e: &'t Expr,
-) -> Result<Option<u8>, NoMemory> {
+) -> Option<u8> {
     let at = e.place;
-    if found.is_full() {
-        return Ok(None);
+    if notes.found.is_full() {
+        return None;
     }
     match &e.kind {
-        ExprKind::Lit(literal) => literal_width(found, *literal, at),
-        ExprKind::Name(name) => named(here, names, found, name, at),
-        ExprKind::Not(a) => expression(here, names, found, a.get()),
+        ExprKind::Lit(literal) => literal_width(notes, *literal, at),
+        ExprKind::Name(name) => named(here, names, notes, name, at),
+        ExprKind::Not(a) => expression(here, names, notes, a.get()),
         ExprKind::Binary(op, a, b) => {
-            let x = expression(here, names, found, a.get())?;
-            let y = expression(here, names, found, b.get())?;
-            operator(found, *op, at, (a.get(), x), (b.get(), y))
+            let x = expression(here, names, notes, a.get());
+            let y = expression(here, names, notes, b.get());
+            operator(notes, *op, at, (a.get(), x), (b.get(), y))
         }
         ExprKind::Mux(test, yes, no) => {
-            let t = expression(here, names, found, test.get())?;
-            let x = expression(here, names, found, yes.get())?;
-            let y = expression(here, names, found, no.get())?;
-            check_condition(found, at, t)?;
-            choice(found, at, (yes.get(), x), (no.get(), y))
+            let t = expression(here, names, notes, test.get());
+            let x = expression(here, names, notes, yes.get());
+            let y = expression(here, names, notes, no.get());
+            check_condition(notes, at, t);
+            choice(notes, at, (yes.get(), x), (no.get(), y))
         }
         ExprKind::Concat(parts) => {
-            let all = sum(here, names, found, parts.as_slice())?;
-            joined(found, at, all)
+            let all = sum(here, names, notes, parts.as_slice());
+            joined(notes, at, all)
         }
         ExprKind::Slice(a, hi, lo) => {
-            let width = expression(here, names, found, a.get())?;
-            slice(found, at, *hi, *lo, width)
+            let width = expression(here, names, notes, a.get());
+            slice(notes, at, *hi, *lo, width)
         }
         ExprKind::Zext(a, number) | ExprKind::Sext(a, number) => {
-            let width = expression(here, names, found, a.get())?;
-            extension(found, at, *number, width)
+            let width = expression(here, names, notes, a.get());
+            extension(notes, at, *number, width)
         }
         ExprKind::Call(name, args) => {
             let args = args.as_slice();
-            let known = callee(here, names, found, name, at)?;
-            let params = counted_params(here, found, name, known, args.len(), at)?;
-            arguments(here, names, found, params, args)?;
-            Ok(width_in(known))
+            let known = callee(here, names, notes, name, at);
+            let params = counted_params(here, notes, name, known, args.len(), at);
+            arguments(here, names, notes, params, args);
+            width_in(known)
         }
     }
 }
@@ -65,103 +65,108 @@ pub(crate) fn expression<'t>(
 fn named<'t>(
     here: Here<'t>,
     names: &Names,
-    found: &mut Findings<'t>,
+    notes: &mut Notes<'t>,
     name: &'t Name,
     at: Place,
-) -> Result<Option<u8>, NoMemory> {
+) -> Option<u8> {
     let wanted = match names.position {
         Position::Function => Wanted::Parameter,
         Position::Text | Position::Stage(_) => Wanted::Value,
     };
-    let known = used(here, names, found, wanted, name, at)?;
-    Ok(width_in(known))
+    width_in(used(here, names, notes, wanted, name, at))
 }
 
 // The sum of the widths, where all are known.
 #[cycle(width)]
-fn sum<'t>(
-    here: Here<'t>,
-    names: &Names,
-    found: &mut Findings<'t>,
-    es: &'t [Expr],
-) -> Result<Option<u64>, NoMemory> {
-    let mut all = Some(0u64);
+fn sum<'t>(here: Here<'t>, names: &Names, notes: &mut Notes<'t>, es: &'t [Expr]) -> Option<u64> {
+    let mut all = Some(0);
     for e in es {
-        let width = expression(here, names, found, e)?;
-        all = match (all, width) {
-            (Some(all), Some(width)) => Some(all.saturating_add(u64::from(width))),
-            _ => None,
-        };
+        all = added(all, expression(here, names, notes, e));
     }
-    Ok(all)
+    all
+}
+
+fn added(all: Option<u64>, width: Option<u8>) -> Option<u64> {
+    match (all, width) {
+        (Some(all), Some(width)) => Some(all.saturating_add(u64::from(width))),
+        _ => None,
+    }
 }
 
 #[cycle(width)]
 fn arguments<'t>(
     here: Here<'t>,
     names: &Names,
-    found: &mut Findings<'t>,
+    notes: &mut Notes<'t>,
     params: &'t [Param],
     es: &'t [Expr],
-) -> Result<(), NoMemory> {
+) {
     for (i, e) in es.iter().enumerate() {
-        let width = expression(here, names, found, e)?;
-        if let Some(param) = params.get(i) {
-            let goal = Goal::Argument(Word::of(&param.name.name));
-            check_value(found, e, width, Some(param.width.value), goal)?;
-        }
+        let width = expression(here, names, notes, e);
+        check_argument(notes, params.get(i), e, width);
     }
-    Ok(())
+}
+
+fn check_argument<'t>(
+    notes: &mut Notes<'t>,
+    param: Option<&'t Param>,
+    e: &'t Expr,
+    width: Option<u8>,
+) {
+    if let Some(param) = param {
+        let goal = Goal::Argument(Word::of(&param.name.name));
+        check_value(notes, e, width, Some(param.width.value), goal);
+    }
 }
 
 fn operator<'t>(
-    found: &mut Findings<'t>,
+    notes: &mut Notes<'t>,
     op: BinOp,
     at: Place,
     a: (&'t Expr, Option<u8>),
     b: (&'t Expr, Option<u8>),
-) -> Result<Option<u8>, NoMemory> {
+) -> Option<u8> {
     if op.is_shift() {
-        return Ok(a.1);
+        return a.1;
     }
-    let tests = matches!(op, BinOp::Eq | BinOp::Lt);
     if let (Some(left), Some(right)) = (a.1, b.1) {
         if left != right {
-            let literal = adaptable(a.0, left, b.0, right);
-            found.add(
-                at,
-                Message::Width(WidthFault::Operands {
-                    mark: mark_of(op),
-                    left,
-                    right,
-                    literal,
-                }),
-            )?;
-            return Ok(if tests { Some(1) } else { None });
+            let fault = WidthFault::Operands {
+                mark: mark_of(op),
+                left,
+                right,
+                literal: adaptable(a.0, left, b.0, right),
+            };
+            notes.add(at, Message::Width(fault));
+            return result_width(op, None);
         }
     }
-    if tests {
-        return Ok(Some(1));
+    result_width(op, a.1.or(b.1))
+}
+
+// The width of a result, where that of the operands is known: a test has one bit.
+fn result_width(op: BinOp, operands: Option<u8>) -> Option<u8> {
+    match op {
+        BinOp::Eq | BinOp::Lt => Some(1),
+        _ => operands,
     }
-    Ok(match a.1 {
-        Some(width) => Some(width),
-        None => b.1,
-    })
 }
 
 // The literal among two expressions whose value fits the width of the other, with that width.
 fn adaptable(a: &Expr, left: u8, b: &Expr, right: u8) -> Option<(u8, u64)> {
-    if let ExprKind::Lit(literal) = &b.kind {
-        if fits(literal.value, u64::from(left)) {
-            return Some((left, literal.value));
-        }
+    match adapted(b, left) {
+        Some(literal) => Some(literal),
+        None => adapted(a, right),
     }
-    if let ExprKind::Lit(literal) = &a.kind {
-        if fits(literal.value, u64::from(right)) {
-            return Some((right, literal.value));
+}
+
+fn adapted(e: &Expr, width: u8) -> Option<(u8, u64)> {
+    match &e.kind {
+        ExprKind::Lit(literal) if fits(literal.value, u64::from(width)) => {
+            Some((width, literal.value))
         }
+        _ => None,
     }
-    None
 }
 
 fn mark_of(op: BinOp) -> Mark {
@@ -180,73 +185,51 @@ fn mark_of(op: BinOp) -> Mark {
 }
 
 fn choice<'t>(
-    found: &mut Findings<'t>,
+    notes: &mut Notes<'t>,
     at: Place,
     a: (&'t Expr, Option<u8>),
     b: (&'t Expr, Option<u8>),
-) -> Result<Option<u8>, NoMemory> {
-    match (a.1, b.1) {
-        (Some(yes), Some(no)) => {
-            if yes == no {
-                return Ok(Some(yes));
-            }
-            let literal = adaptable(a.0, yes, b.0, no);
-            found.add(
-                at,
-                Message::Width(WidthFault::Branches { yes, no, literal }),
-            )?;
-            Ok(None)
-        }
-        (Some(width), None) | (None, Some(width)) => Ok(Some(width)),
-        (None, None) => Ok(None),
-    }
-}
-
-fn joined(found: &mut Findings<'_>, at: Place, all: Option<u64>) -> Result<Option<u8>, NoMemory> {
-    match all {
-        Some(all) if is_width(all) => Ok(u8::try_from(all).ok()),
-        Some(_) => {
-            found.add(at, Message::Width(WidthFault::JoinedWidth))?;
-            Ok(None)
-        }
-        None => Ok(None),
-    }
-}
-
-fn slice(
-    found: &mut Findings<'_>,
-    at: Place,
-    hi: u64,
-    lo: u64,
-    width: Option<u8>,
-) -> Result<Option<u8>, NoMemory> {
-    let Some(width) = width else {
-        return Ok(None);
+) -> Option<u8> {
+    let (Some(yes), Some(no)) = (a.1, b.1) else {
+        return a.1.or(b.1);
     };
-    if hi < lo || hi >= u64::from(width) {
-        found.add(at, Message::Width(WidthFault::Slice { hi, lo, width }))?;
-        return Ok(None);
+    if yes == no {
+        return Some(yes);
     }
-    Ok(u8::try_from((hi - lo).saturating_add(1)).ok())
+    let literal = adaptable(a.0, yes, b.0, no);
+    let fault = WidthFault::Branches { yes, no, literal };
+    notes.add(at, Message::Width(fault));
+    None
 }
 
-fn extension(
-    found: &mut Findings<'_>,
-    at: Place,
-    number: Num,
-    width: Option<u8>,
-) -> Result<Option<u8>, NoMemory> {
-    let wide = declared(found, number)?;
-    if let (Some(wide), Some(width)) = (wide, width) {
-        if wide < width {
-            found.add(
-                at,
-                Message::Width(WidthFault::Shortened {
-                    to: number.value,
-                    from: width,
-                }),
-            )?;
-        }
+fn joined(notes: &mut Notes<'_>, at: Place, all: Option<u64>) -> Option<u8> {
+    let width = width_of(all?);
+    if width.is_none() {
+        notes.add(at, Message::Width(WidthFault::JoinedWidth));
     }
-    Ok(wide)
+    width
+}
+
+fn slice(notes: &mut Notes<'_>, at: Place, hi: u64, lo: u64, width: Option<u8>) -> Option<u8> {
+    let width = width?;
+    if hi < lo || hi >= u64::from(width) {
+        notes.add(at, Message::Width(WidthFault::Slice { hi, lo, width }));
+        return None;
+    }
+    width_of((hi - lo).saturating_add(1))
+}
+
+fn extension(notes: &mut Notes<'_>, at: Place, number: Num, width: Option<u8>) -> Option<u8> {
+    let wide = declared(notes, number);
+    let (Some(to), Some(from)) = (wide, width) else {
+        return wide;
+    };
+    if to < from {
+        let fault = WidthFault::Shortened {
+            to: number.value,
+            from,
+        };
+        notes.add(at, Message::Width(fault));
+    }
+    wide
 }

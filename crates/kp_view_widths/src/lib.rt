@@ -3,9 +3,11 @@
 #![tactic(auto)]
 
 mod checks;
+mod declared;
 mod expression;
 mod lookup;
 mod names;
+mod notes;
 mod sections;
 mod widths;
 

@@ -3,13 +3,16 @@ ghost use Rattle.std.specs.Prelude.{IfOk};
 ghost use Rattle.kp_view_findings.specs.{Noted.noted, PrintedWidths.FirstIsTrue};
 
 use crate::checks::{
-    addresses, check_address, check_condition, check_value, declared, literal_width, width_in,
+    addresses, check_address, check_condition, check_value, declared, literal_width, wide, width_in,
 };
+use crate::declared::{declared_name, kind_of};
 use crate::expression::expression;
-use crate::lookup::{Here, check_fresh, declared_name, kind_of, storage, used};
+use crate::lookup::{Here, check_fresh, storage, used};
 use crate::names::{Known, Names, Position};
+use crate::notes::Notes;
 use kp_ast::{
-    Block, Decl, Expr, FuncDecl, Job, Lit, Named, Num, Param, ReadStmt, ResultDecl, Stmt, StmtKind,
+    Block, Decl, Expr, FuncDecl, Job, Lit, Name, Named, Num, Param, ReadStmt, ResultDecl, Stmt,
+    StmtKind,
 };
 use kp_base::NoMemory;
 use kp_view_findings::{Findings, confirmed};
@@ -22,28 +25,33 @@ use std::alloc::Global;
 pub fn faults<'t>(alloc: Global, job: &'t Job) -> Result<Findings<'t>, NoMemory>
     ensures { IfOk result (λ f. FirstIsTrue job.now (noted f)) }
 {
-    let mut found = Findings::new(alloc);
-    add_job(alloc, &mut found, job)?;
+    let found = found_in(alloc, job)?;
     confirmed(alloc, job, found.as_slice())
 }
 
-fn add_job<'t>(alloc: Global, found: &mut Findings<'t>, job: &'t Job) -> Result<(), NoMemory> {
+fn found_in<'t>(alloc: Global, job: &'t Job) -> Result<Findings<'t>, NoMemory> {
+    let mut notes = Notes::new(alloc);
+    add_job(alloc, &mut notes, job)?;
+    notes.finish()
+}
+
+fn add_job<'t>(alloc: Global, notes: &mut Notes<'t>, job: &'t Job) -> Result<(), NoMemory> {
     let mut names = Names::new(alloc);
-    add_decls(alloc, &mut names, found, job)?;
-    add_blocks(alloc, &mut names, found, job)
+    add_decls(alloc, &mut names, notes, job)?;
+    add_blocks(alloc, &mut names, notes, job)
 }
 
 fn add_decls<'t>(
     alloc: Global,
     names: &mut Names,
-    found: &mut Findings<'t>,
+    notes: &mut Notes<'t>,
     job: &'t Job,
 ) -> Result<(), NoMemory> {
     for (done, decl) in job.decls.as_slice().iter().enumerate() {
-        if found.is_full() {
+        if notes.found.is_full() {
             return Ok(());
         }
-        add_decl(alloc, Here { job, done }, names, found, decl)?;
+        add_decl(alloc, Here { job, done }, names, notes, decl)?;
     }
     Ok(())
 }
@@ -51,13 +59,13 @@ fn add_decls<'t>(
 fn add_blocks<'t>(
     alloc: Global,
     names: &mut Names,
-    found: &mut Findings<'t>,
+    notes: &mut Notes<'t>,
     job: &'t Job,
 ) -> Result<(), NoMemory> {
     let done = job.decls.as_slice().len();
     for (k, block) in job.blocks.as_slice().iter().enumerate() {
         names.open(alloc, Position::Stage(k));
-        add_block(Here { job, done }, names, found, block)?;
+        add_block(Here { job, done }, names, notes, block)?;
     }
     Ok(())
 }
@@ -65,14 +73,14 @@ fn add_blocks<'t>(
 fn add_block<'t>(
     here: Here<'t>,
     names: &mut Names,
-    found: &mut Findings<'t>,
+    notes: &mut Notes<'t>,
     block: &'t Block,
 ) -> Result<(), NoMemory> {
     for stmt in block.stmts.as_slice() {
-        if found.is_full() {
+        if notes.found.is_full() {
             return Ok(());
         }
-        add_stmt(here, names, found, stmt)?;
+        add_stmt(here, names, notes, stmt)?;
     }
     Ok(())
 }
@@ -81,19 +89,18 @@ fn add_decl<'t>(
     alloc: Global,
     here: Here<'t>,
     names: &mut Names,
-    found: &mut Findings<'t>,
+    notes: &mut Notes<'t>,
     decl: &'t Decl,
 ) -> Result<(), NoMemory> {
     let named = declared_name(decl);
-    if !check_fresh(names, found, named, false)? {
+    if !check_fresh(names, notes, named, false) {
         return Ok(());
     }
-    let width = declared_width(alloc, here, names, found, decl)?;
-    let address = declared_address(found, decl)?;
+    let width = declared_width(alloc, here, names, notes, decl)?;
     let known = Known {
         kind: kind_of(decl),
         width,
-        address,
+        address: declared_address(notes, decl),
         line: named.at.line,
         from: here.done,
     };
@@ -105,128 +112,113 @@ fn declared_width<'t>(
     alloc: Global,
     here: Here<'t>,
     names: &mut Names,
-    found: &mut Findings<'t>,
+    notes: &mut Notes<'t>,
     decl: &'t Decl,
 ) -> Result<Option<u8>, NoMemory> {
     match decl {
         Decl::Reg(named, number, start) | Decl::Hint(named, number, start) => {
-            started(found, named, *number, *start)
+            Ok(started(notes, named, *number, *start))
         }
         Decl::File(_, number, _) | Decl::Pipe(_, number) | Decl::Sample(_, number, _) => {
-            declared(found, *number)
+            Ok(declared(notes, *number))
         }
-        Decl::Target(output) => add_output(here, names, found, output),
-        Decl::Func(func) => add_function(alloc, here, names, found, func),
+        Decl::Target(output) => Ok(add_output(here, names, notes, output)),
+        Decl::Func(func) => add_function(alloc, here, names, notes, func),
     }
 }
 
 // The width of the addresses of a file.
-fn declared_address(found: &mut Findings<'_>, decl: &Decl) -> Result<Option<u8>, NoMemory> {
+fn declared_address(notes: &mut Notes<'_>, decl: &Decl) -> Option<u8> {
     match decl {
-        Decl::File(_, _, address) => addresses(found, *address),
-        _ => Ok(None),
+        Decl::File(_, _, address) => addresses(notes, *address),
+        _ => None,
     }
 }
 
 // The width of a register or a hint, with its start value.
-fn started<'t>(
-    found: &mut Findings<'t>,
-    named: &'t Named,
-    number: Num,
-    start: Lit,
-) -> Result<Option<u8>, NoMemory> {
-    let width = declared(found, number)?;
-    let given = literal_width(found, start.literal, start.at)?;
-    if let (Some(wanted), Some(given)) = (width, given) {
-        if wanted != given {
-            found.add(
-                start.at,
-                Message::Width(WidthFault::StartWidth {
-                    found: given,
-                    wanted,
-                    name: Word::of(&named.name),
-                    value: start.literal.value,
-                }),
-            )?;
-        }
+fn started<'t>(notes: &mut Notes<'t>, named: &'t Named, number: Num, start: Lit) -> Option<u8> {
+    let width = declared(notes, number);
+    let given = literal_width(notes, start.literal, start.at);
+    let (Some(wanted), Some(found)) = (width, given) else {
+        return width;
+    };
+    if wanted != found {
+        let fault = WidthFault::StartWidth {
+            found,
+            wanted,
+            name: Word::of(&named.name),
+            value: start.literal.value,
+        };
+        notes.add(start.at, Message::Width(fault));
     }
-    Ok(width)
+    width
 }
 
 // The width of a result, with its target, its address and its enable.
 fn add_output<'t>(
     here: Here<'t>,
     names: &Names,
-    found: &mut Findings<'t>,
+    notes: &mut Notes<'t>,
     output: &'t ResultDecl,
-) -> Result<Option<u8>, NoMemory> {
-    let width = declared(found, output.width)?;
-    let target = storage(here, names, found, &output.target, output.address.is_some())?;
-    if let Some(target) = target {
-        check_target(found, &output.target, width, target)?;
-        check_pipes(here, names, found, output, target)?;
+) -> Option<u8> {
+    let width = declared(notes, output.width);
+    let addressed = output.address.is_some();
+    if let Some(target) = storage(here, names, notes, &output.target, addressed) {
+        check_target(notes, &output.target, width, target);
+        check_pipes(here, names, notes, output, target);
     }
-    Ok(width)
+    width
 }
 
-fn check_target<'t>(
-    found: &mut Findings<'t>,
-    named: &'t Named,
-    width: Option<u8>,
-    target: Known,
-) -> Result<(), NoMemory> {
-    match (width, target.width) {
-        (Some(ours), Some(theirs)) if ours != theirs => found.add(
-            named.at,
-            Message::Width(WidthFault::TargetWidth {
-                result: ours,
-                target: theirs,
-                name: Word::of(&named.name),
-                kind: target.kind,
-                line: target.line,
-            }),
-        ),
-        _ => Ok(()),
+fn check_target<'t>(notes: &mut Notes<'t>, named: &'t Named, width: Option<u8>, known: Known) {
+    let (Some(result), Some(target)) = (width, known.width) else {
+        return;
+    };
+    if result == target {
+        return;
     }
+    let fault = WidthFault::TargetWidth {
+        result,
+        target,
+        name: Word::of(&named.name),
+        kind: known.kind,
+        line: known.line,
+    };
+    notes.add(named.at, Message::Width(fault));
 }
 
 // The pipes of a result: its address, then its enable.
 fn check_pipes<'t>(
     here: Here<'t>,
     names: &Names,
-    found: &mut Findings<'t>,
+    notes: &mut Notes<'t>,
     output: &'t ResultDecl,
     target: Known,
-) -> Result<(), NoMemory> {
+) {
     if let Some(pipe) = &output.address {
-        let known = used(here, names, found, Wanted::Pipe, &pipe.name, pipe.at)?;
-        check_address(found, pipe.at, width_in(known), target, &output.target.name)?;
+        let known = used(here, names, notes, Wanted::Pipe, &pipe.name, pipe.at);
+        check_address(notes, pipe.at, width_in(known), target, &output.target.name);
     }
-    match &output.enable {
-        Some(pipe) => check_enable(here, names, found, pipe),
-        None => Ok(()),
+    if let Some(pipe) = &output.enable {
+        let known = used(here, names, notes, Wanted::Pipe, &pipe.name, pipe.at);
+        check_enable(notes, pipe, known);
     }
 }
 
-fn check_enable<'t>(
-    here: Here<'t>,
-    names: &Names,
-    found: &mut Findings<'t>,
-    pipe: &'t Named,
-) -> Result<(), NoMemory> {
-    let Some(known) = used(here, names, found, Wanted::Pipe, &pipe.name, pipe.at)? else {
-        return Ok(());
+fn check_enable<'t>(notes: &mut Notes<'t>, pipe: &'t Named, known: Option<Known>) {
+    let Some(known) = known else {
+        return;
     };
     match known.width {
-        Some(width) if width != 1 => found.add(
-            pipe.at,
-            Message::Width(WidthFault::Enable {
-                found: width,
+        Some(found) if found != 1 => {
+            let fault = WidthFault::Enable {
+                found,
                 name: Word::of(&pipe.name),
                 line: known.line,
-            }),
-        ),
-        _ => Ok(()),
+            };
+            notes.add(pipe.at, Message::Width(fault));
+        }
+        _ => {}
     }
 }
 
@@ -235,27 +227,38 @@ fn add_function<'t>(
     alloc: Global,
     here: Here<'t>,
     names: &mut Names,
-    found: &mut Findings<'t>,
+    notes: &mut Notes<'t>,
     func: &'t FuncDecl,
 ) -> Result<Option<u8>, NoMemory> {
     names.open(alloc, Position::Function);
-    add_params(here, names, found, func.params.as_slice())?;
-    let width = declared(found, func.width)?;
-    let given = expression(here, names, found, &func.body)?;
-    let goal = Goal::Body(Word::of(&func.name.name));
-    check_value(found, &func.body, given, width.map(u64::from), goal)?;
+    add_params(here, names, notes, func.params.as_slice())?;
+    let width = add_body(here, names, notes, func);
     names.open(alloc, Position::Text);
     Ok(width)
+}
+
+// The width of a function, whose expression has that width.
+fn add_body<'t>(
+    here: Here<'t>,
+    names: &Names,
+    notes: &mut Notes<'t>,
+    func: &'t FuncDecl,
+) -> Option<u8> {
+    let width = declared(notes, func.width);
+    let found = expression(here, names, notes, &func.body);
+    let goal = Goal::Body(Word::of(&func.name.name));
+    check_value(notes, &func.body, found, wide(width), goal);
+    width
 }
 
 fn add_params<'t>(
     here: Here<'t>,
     names: &mut Names,
-    found: &mut Findings<'t>,
+    notes: &mut Notes<'t>,
     params: &'t [Param],
 ) -> Result<(), NoMemory> {
     for param in params {
-        add_param(here, names, found, param)?;
+        add_param(here, names, notes, param)?;
     }
     Ok(())
 }
@@ -263,13 +266,13 @@ fn add_params<'t>(
 fn add_param<'t>(
     here: Here<'t>,
     names: &mut Names,
-    found: &mut Findings<'t>,
+    notes: &mut Notes<'t>,
     param: &'t Param,
 ) -> Result<(), NoMemory> {
-    if !check_fresh(names, found, &param.name, false)? {
+    if !check_fresh(names, notes, &param.name, false) {
         return Ok(());
     }
-    let width = declared(found, param.width)?;
+    let width = declared(notes, param.width);
     let known = Known::new(Kind::Parameter, width, param.name.at.line, here.done);
     names.add_local(&param.name.name, known)
 }
@@ -277,137 +280,127 @@ fn add_param<'t>(
 fn add_stmt<'t>(
     here: Here<'t>,
     names: &mut Names,
-    found: &mut Findings<'t>,
+    notes: &mut Notes<'t>,
     stmt: &'t Stmt,
 ) -> Result<(), NoMemory> {
     match &stmt.kind {
-        StmtKind::Read(read) => add_read(here, names, found, read),
-        StmtKind::Let(named, e) => add_let(here, names, found, named, e),
-        StmtKind::Put(named, e) => given(here, names, found, Wanted::Pipe, named, e),
-        StmtKind::Set(named, e, when) => add_set(here, names, found, named, e, when),
-        StmtKind::Aim(named, e) => given(here, names, found, Wanted::Hint, named, e),
+        StmtKind::Read(read) => add_read(here, names, notes, read),
+        StmtKind::Let(named, e) => add_let(here, names, notes, named, e),
+        kind => {
+            add_sent(here, names, notes, kind);
+            Ok(())
+        }
+    }
+}
+
+// A value that is put, set or aimed.
+fn add_sent<'t>(here: Here<'t>, names: &Names, notes: &mut Notes<'t>, kind: &'t StmtKind) {
+    match kind {
+        StmtKind::Put(named, e) => given(here, names, notes, Wanted::Pipe, named, e),
+        StmtKind::Set(named, e, when) => {
+            given(here, names, notes, Wanted::Output, named, e);
+            condition(here, names, notes, when);
+        }
+        StmtKind::Aim(named, e) => given(here, names, notes, Wanted::Hint, named, e),
+        _ => {}
     }
 }
 
 fn add_read<'t>(
     here: Here<'t>,
     names: &mut Names,
-    found: &mut Findings<'t>,
+    notes: &mut Notes<'t>,
     read: &'t ReadStmt,
 ) -> Result<(), NoMemory> {
-    let fresh = check_fresh(names, found, &read.name, true)?;
-    let width = read_width(here, names, found, read)?;
-    if fresh {
-        let known = Known::new(Kind::Read, width, read.name.at.line, here.done);
-        names.add_local(&read.name.name, known)?;
+    let fresh = check_fresh(names, notes, &read.name, true);
+    let width = read_width(here, names, notes, read);
+    if !fresh {
+        return Ok(());
     }
-    Ok(())
+    let known = Known::new(Kind::Read, width, read.name.at.line, here.done);
+    names.add_local(&read.name.name, known)
 }
 
 fn add_let<'t>(
     here: Here<'t>,
     names: &mut Names,
-    found: &mut Findings<'t>,
+    notes: &mut Notes<'t>,
     named: &'t Named,
     e: &'t Expr,
 ) -> Result<(), NoMemory> {
-    let fresh = check_fresh(names, found, named, true)?;
-    let width = expression(here, names, found, e)?;
-    if fresh {
-        let known = Known::new(Kind::Local, width, named.at.line, here.done);
-        names.add_local(&named.name, known)?;
+    let fresh = check_fresh(names, notes, named, true);
+    let width = expression(here, names, notes, e);
+    if !fresh {
+        return Ok(());
     }
-    Ok(())
+    let known = Known::new(Kind::Local, width, named.at.line, here.done);
+    names.add_local(&named.name, known)
 }
 
-fn add_set<'t>(
-    here: Here<'t>,
-    names: &Names,
-    found: &mut Findings<'t>,
-    named: &'t Named,
-    e: &'t Expr,
-    when: &'t Option<Expr>,
-) -> Result<(), NoMemory> {
-    given(here, names, found, Wanted::Output, named, e)?;
-    condition(here, names, found, when)
-}
-
-// A value that is put, set or aimed.
+// A value for what the name names.
 fn given<'t>(
     here: Here<'t>,
     names: &Names,
-    found: &mut Findings<'t>,
+    notes: &mut Notes<'t>,
     wanted: Wanted,
     named: &'t Named,
     e: &'t Expr,
-) -> Result<(), NoMemory> {
-    let known = used(here, names, found, wanted, &named.name, named.at)?;
-    let width = expression(here, names, found, e)?;
-    if let Some(known) = known {
-        let goal = Goal::Named(known.kind, Word::of(&named.name));
-        check_value(found, e, width, known.width.map(u64::from), goal)?;
-    }
-    Ok(())
+) {
+    let known = used(here, names, notes, wanted, &named.name, named.at);
+    let width = expression(here, names, notes, e);
+    check_named(notes, e, width, known, &named.name);
 }
 
-fn condition<'t>(
-    here: Here<'t>,
-    names: &Names,
-    found: &mut Findings<'t>,
-    when: &'t Option<Expr>,
-) -> Result<(), NoMemory> {
-    if let Some(e) = when {
-        let width = expression(here, names, found, e)?;
-        check_condition(found, e.place, width)?;
+// A value that goes to a name, where it is known.
+fn check_named<'t>(
+    notes: &mut Notes<'t>,
+    e: &'t Expr,
+    width: Option<u8>,
+    known: Option<Known>,
+    name: &'t Name,
+) {
+    if let Some(known) = known {
+        let goal = Goal::Named(known.kind, Word::of(name));
+        check_value(notes, e, width, wide(known.width), goal);
     }
-    Ok(())
+}
+
+fn condition<'t>(here: Here<'t>, names: &Names, notes: &mut Notes<'t>, when: &'t Option<Expr>) {
+    if let Some(e) = when {
+        let width = expression(here, names, notes, e);
+        check_condition(notes, e.place, width);
+    }
 }
 
 // The width that a read gives.
 fn read_width<'t>(
     here: Here<'t>,
     names: &Names,
-    found: &mut Findings<'t>,
+    notes: &mut Notes<'t>,
     read: &'t ReadStmt,
-) -> Result<Option<u8>, NoMemory> {
-    let target = storage(here, names, found, &read.target, read.address.is_some())?;
-    read_address(here, names, found, read, target)?;
-    condition(here, names, found, &read.when)?;
-    read_guess(here, names, found, read, target)?;
-    Ok(width_in(target))
+) -> Option<u8> {
+    let target = storage(here, names, notes, &read.target, read.address.is_some());
+    read_address(here, names, notes, read, target);
+    condition(here, names, notes, &read.when);
+    if let Some(e) = &read.guess {
+        let width = expression(here, names, notes, e);
+        check_named(notes, e, width, target, &read.target.name);
+    }
+    width_in(target)
 }
 
 fn read_address<'t>(
     here: Here<'t>,
     names: &Names,
-    found: &mut Findings<'t>,
+    notes: &mut Notes<'t>,
     read: &'t ReadStmt,
     target: Option<Known>,
-) -> Result<(), NoMemory> {
+) {
     let Some(e) = &read.address else {
-        return Ok(());
+        return;
     };
-    let width = expression(here, names, found, e)?;
-    match target {
-        Some(file) => check_address(found, e.place, width, file, &read.target.name),
-        None => Ok(()),
+    let width = expression(here, names, notes, e);
+    if let Some(file) = target {
+        check_address(notes, e.place, width, file, &read.target.name);
     }
-}
-
-fn read_guess<'t>(
-    here: Here<'t>,
-    names: &Names,
-    found: &mut Findings<'t>,
-    read: &'t ReadStmt,
-    target: Option<Known>,
-) -> Result<(), NoMemory> {
-    let Some(e) = &read.guess else {
-        return Ok(());
-    };
-    let width = expression(here, names, found, e)?;
-    let Some(target) = target else {
-        return Ok(());
-    };
-    let goal = Goal::Named(target.kind, Word::of(&read.target.name));
-    check_value(found, e, width, target.width.map(u64::from), goal)
 }
