@@ -1,1 +1,2 @@
 pub mod Cautions
+pub mod Stages

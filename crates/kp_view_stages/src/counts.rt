@@ -1,80 +1,68 @@
 // The numbers of stages, blocks and declarations.
+ghost use Rattle.std.specs.Prelude.{◌<◌};
+
+use crate::notes::Notes;
 use kp_ast::{Block, Decl, Job, Num, ReadStmt, Stmt, StmtKind};
-use kp_base::{NoMemory, Place};
-use kp_view_findings::Findings;
+use kp_base::Place;
 use kp_view_message::{Counted, Message, StageFault};
 
 // E15.
-pub(crate) fn check_stages<'t>(found: &mut Findings<'t>, job: &'t Job) -> Result<(), NoMemory> {
-    let stages = job.stages.value;
+pub(crate) fn check_stages<'t>(notes: &mut Notes<'t>, job: &'t Job) {
+    let Num { value: stages, at } = job.stages;
     if stages < 2 || stages > 12 {
-        return found.add(
-            job.stages.at,
-            Message::Stage(StageFault::StageCount(stages)),
-        );
+        notes.add(at, Message::Stage(StageFault::StageCount(stages)));
+        return;
     }
     let blocks = job.blocks.as_slice().len();
     if stages > blocks as u64 {
-        found.add(
-            job.stages.at,
-            Message::Stage(StageFault::FewBlocks { stages, blocks }),
-        )?;
+        let fault = StageFault::FewBlocks { stages, blocks };
+        notes.add(at, Message::Stage(fault));
     }
-    check_decls(found, stages, job.decls.as_slice())?;
-    check_blocks(found, stages, job.blocks.as_slice())
+    check_decls(notes, stages, job.decls.as_slice());
+    check_blocks(notes, stages, job.blocks.as_slice());
 }
 
 // A write stage, and the stage of a sample, is one of the stages.
-fn check_decls(found: &mut Findings<'_>, stages: u64, decls: &[Decl]) -> Result<(), NoMemory> {
+fn check_decls(notes: &mut Notes<'_>, stages: u64, decls: &[Decl]) {
     for decl in decls {
         match decl {
-            Decl::Target(output) => check_stage(found, stages, output.stage)?,
-            Decl::Sample(_, _, stage) => check_stage(found, stages, *stage)?,
+            Decl::Target(output) => check_stage(notes, stages, output.stage),
+            Decl::Sample(_, _, stage) => check_stage(notes, stages, *stage),
             _ => {}
         }
     }
-    Ok(())
 }
 
-fn check_stage(found: &mut Findings<'_>, stages: u64, stage: Num) -> Result<(), NoMemory> {
-    if stage.value < stages {
-        return Ok(());
+fn check_stage(notes: &mut Notes<'_>, stages: u64, stage: Num) {
+    let found = stage.value;
+    if found < stages {
+        return;
     }
-    let message = Message::Stage(StageFault::NoStage {
-        found: stage.value,
-        stages,
-    });
-    found.add(stage.at, message)
+    let fault = StageFault::NoStage { found, stages };
+    notes.add(stage.at, Message::Stage(fault));
 }
 
 // The number of a block is its index, and one of the stages.
-fn check_blocks(found: &mut Findings<'_>, stages: u64, blocks: &[Block]) -> Result<(), NoMemory> {
+fn check_blocks(notes: &mut Notes<'_>, stages: u64, blocks: &[Block]) {
     for (k, block) in blocks.iter().enumerate() {
-        check_block(found, stages, k, block.number)?;
+        check_block(notes, stages, k, block.number);
     }
-    Ok(())
 }
 
-fn check_block(
-    found: &mut Findings<'_>,
-    stages: u64,
-    k: usize,
-    number: Num,
-) -> Result<(), NoMemory> {
+fn check_block(notes: &mut Notes<'_>, stages: u64, k: usize, number: Num) {
     if k as u64 >= stages {
-        return found.add(
-            number.at,
-            Message::Stage(StageFault::BlockBeyond { stages }),
-        );
+        let fault = StageFault::BlockBeyond { stages };
+        notes.add(number.at, Message::Stage(fault));
+        return;
     }
     if number.value == k as u64 {
-        return Ok(());
+        return;
     }
-    let message = Message::Stage(StageFault::BlockNumber {
+    let fault = StageFault::BlockNumber {
         found: number.value,
         wanted: k,
-    });
-    found.add(number.at, message)
+    };
+    notes.add(number.at, Message::Stage(fault));
 }
 
 /// How many of each kind have come.
@@ -86,17 +74,7 @@ struct Counts {
 impl Counts {
     // Counts one more; whether that is more than there may be.
     fn add(&mut self, counted: Counted) -> bool {
-        let (i, most) = match counted {
-            Counted::Registers => (0, 64),
-            Counted::Files => (1, 16),
-            Counted::Pipes => (2, 128),
-            Counted::Results => (3, 64),
-            Counted::Hints => (4, 16),
-            Counted::Functions => (5, 64),
-            Counted::Reads => (6, 256),
-            Counted::Guesses => (7, 8),
-            Counted::Samples => (8, 16),
-        };
+        let (i, most) = place_of(counted);
         self.of[i] = self.of[i].saturating_add(1);
         self.of[i] > most
     }
@@ -113,17 +91,38 @@ impl Counts {
     }
 }
 
-// E29.
-pub(crate) fn check_counts<'t>(found: &mut Findings<'t>, job: &'t Job) -> Result<(), NoMemory> {
-    let mut counts = Counts { of: [0; 9] };
-    let beyond = match decl_beyond(&mut counts, job.decls.as_slice()) {
-        Some(beyond) => Some(beyond),
-        None => read_beyond(&mut counts, job.blocks.as_slice()),
-    };
-    match beyond {
-        Some((counted, at)) => found.add(at, Message::Stage(StageFault::TooMany(counted))),
-        None => Ok(()),
+// The place of a count, and the most that there may be.
+fn place_of(counted: Counted) -> (usize, u32)
+    ensures { result.0 < 9 }
+{
+    match counted {
+        Counted::Registers => (0, 64),
+        Counted::Files => (1, 16),
+        Counted::Pipes => (2, 128),
+        Counted::Results => (3, 64),
+        Counted::Hints => (4, 16),
+        Counted::Functions => (5, 64),
+        Counted::Reads => (6, 256),
+        Counted::Guesses => (7, 8),
+        Counted::Samples => (8, 16),
     }
+}
+
+// E29.
+pub(crate) fn check_counts<'t>(notes: &mut Notes<'t>, job: &'t Job) {
+    if let Some((counted, at)) = beyond(job) {
+        notes.add(at, Message::Stage(StageFault::TooMany(counted)));
+    }
+}
+
+// The first declaration or read that is too many of its kind.
+fn beyond(job: &Job) -> Option<(Counted, Place)> {
+    let mut counts = Counts { of: [0; 9] };
+    let beyond = decl_beyond(&mut counts, job.decls.as_slice());
+    if beyond.is_some() {
+        return beyond;
+    }
+    read_beyond(&mut counts, job.blocks.as_slice())
 }
 
 // The first declaration that is too many of its kind.

@@ -5,10 +5,12 @@
 mod adding;
 mod counts;
 mod facts;
+mod notes;
 mod ready;
 mod results;
 mod stages;
 mod unused;
+mod used;
 mod uses;
 mod warnings;
 

@@ -1,5 +1,5 @@
 // The stage from which on the value of an expression is known.
-use kp_ast::{Expr, ExprKind, Job, StmtKind};
+use kp_ast::{Block, Expr, ExprKind, Job, Name, StmtKind};
 use kp_base::NoMemory;
 use kp_view_findings::Table;
 use std::alloc::Global;
@@ -8,13 +8,18 @@ use std::alloc::Global;
 pub(crate) fn puts_of(alloc: Global, job: &Job) -> Result<Table<usize>, NoMemory> {
     let mut puts = Table::new(alloc);
     for (stage, block) in job.blocks.as_slice().iter().enumerate() {
-        for stmt in block.stmts.as_slice() {
-            if let StmtKind::Put(named, _) = &stmt.kind {
-                puts.set_first(&named.name, stage)?;
-            }
-        }
+        add_puts(&mut puts, stage, block)?;
     }
     Ok(puts)
+}
+
+fn add_puts(puts: &mut Table<usize>, stage: usize, block: &Block) -> Result<(), NoMemory> {
+    for stmt in block.stmts.as_slice() {
+        if let StmtKind::Put(named, _) = &stmt.kind {
+            puts.set_first(&named.name, stage)?;
+        }
+    }
+    Ok(())
 }
 
 /// The first stage in which an expression over pipes can be computed. None for one with another name.
@@ -22,7 +27,7 @@ pub(crate) fn puts_of(alloc: Global, job: &Job) -> Result<Table<usize>, NoMemory
 pub(crate) fn ready(puts: &Table<usize>, e: &Expr) -> Option<usize> {
     match &e.kind {
         ExprKind::Lit(_) => Some(0),
-        ExprKind::Name(name) => puts.get(name).map(|put| put.saturating_add(1)),
+        ExprKind::Name(name) => after_put(puts, name),
         ExprKind::Not(a) | ExprKind::Slice(a, _, _) | ExprKind::Zext(a, _) | ExprKind::Sext(a, _) =>
             ready(puts, a.get()),
         ExprKind::Binary(_, a, b) => later(ready(puts, a.get()), ready(puts, b.get())),
@@ -42,6 +47,14 @@ fn all_ready(puts: &Table<usize>, es: &[Expr]) -> Option<usize> {
         stage = later(stage, ready(puts, e));
     }
     stage
+}
+
+// The stage after that of the put of a pipe.
+fn after_put(puts: &Table<usize>, name: &Name) -> Option<usize> {
+    match puts.get(name) {
+        Some(put) => Some(put.saturating_add(1)),
+        None => None,
+    }
 }
 
 // The later of two stages, where both are known.

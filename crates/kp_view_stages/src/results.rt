@@ -196,10 +196,14 @@ fn condition_of<'t>(stmt: &'t Stmt, output: &Name) -> Option<&'t ExprKind> {
 }
 
 fn has_condition(block: &Block, output: &Name, condition: &Expr) -> bool {
-    block.stmts.as_slice().iter().any(|stmt| match &stmt.kind {
-        StmtKind::Set(named, _, Some(when)) => named.name == *output && is_same(when, condition),
-        _ => false,
-    })
+    for stmt in block.stmts.as_slice() {
+        if let StmtKind::Set(named, _, Some(when)) = &stmt.kind {
+            if named.name == *output && is_same(when, condition) {
+                return true;
+            }
+        }
+    }
+    false
 }
 
 // Whether two expressions are written alike. Choices, concatenations and calls aren't compared.
@@ -236,17 +240,23 @@ fn is_same(a: &Expr, b: &Expr) -> bool {
 
 // Whether some instruction reads the target.
 fn is_read(job: &Job, target: &Name) -> bool {
-    job.blocks
-        .as_slice()
-        .iter()
-        .any(|block| reads(block, target))
+    for block in job.blocks.as_slice() {
+        if reads(block, target) {
+            return true;
+        }
+    }
+    false
 }
 
 fn reads(block: &Block, target: &Name) -> bool {
-    block.stmts.as_slice().iter().any(|stmt| match &stmt.kind {
-        StmtKind::Read(read) => read.target.name == *target,
-        _ => false,
-    })
+    for stmt in block.stmts.as_slice() {
+        if let StmtKind::Read(read) = &stmt.kind {
+            if read.target.name == *target {
+                return true;
+            }
+        }
+    }
+    false
 }
 
 // The address or the enable of a result, where an earlier stage can compute it.

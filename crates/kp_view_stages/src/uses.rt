@@ -1,191 +1,142 @@
 // The names in the expressions of a statement.
-use crate::facts::{Facts, Spot};
+use crate::facts::Facts;
+use crate::notes::Notes;
 use crate::stages::Rule;
 use kp_ast::{Expr, ExprKind, Name, ReadStmt, StmtKind};
-use kp_base::{NoMemory, Place};
-use kp_view_findings::Findings;
+use kp_base::Place;
 use kp_view_help::Word;
 use kp_view_message::{GuessFault, Message, StageFault};
 
-// The names in the expressions of a statement. A guess and an aim may use hints.
+// The names in the expressions of a statement in this stage. A guess and an aim may use hints.
 pub(crate) fn in_stmt<'t>(
     facts: &Facts,
-    found: &mut Findings<'t>,
+    notes: &mut Notes<'t>,
     rule: Rule,
-    here: Spot,
+    here: usize,
     kind: &'t StmtKind,
-) -> Result<(), NoMemory> {
+) {
     match kind {
-        StmtKind::Read(read) => in_read(facts, found, rule, here, read),
-        StmtKind::Let(_, e) | StmtKind::Put(_, e) => in_expr(facts, found, rule, here, e),
-        StmtKind::Set(_, e, when) => in_set(facts, found, rule, here, e, when),
-        StmtKind::Aim(_, e) => in_hinted(facts, found, rule, here, e),
+        StmtKind::Read(read) => in_read(facts, notes, rule, here, read),
+        StmtKind::Let(_, e) | StmtKind::Put(_, e) => in_expr(facts, notes, rule, here, e),
+        StmtKind::Set(_, e, when) => {
+            in_expr(facts, notes, rule, here, e);
+            in_option(facts, notes, rule, here, when);
+        }
+        StmtKind::Aim(_, e) => in_hinted(facts, notes, rule, here, e),
     }
 }
 
-fn in_read<'t>(
-    facts: &Facts,
-    found: &mut Findings<'t>,
-    rule: Rule,
-    here: Spot,
-    read: &'t ReadStmt,
-) -> Result<(), NoMemory> {
-    in_option(facts, found, rule, here, &read.address)?;
-    in_option(facts, found, rule, here, &read.when)?;
-    match &read.guess {
-        Some(e) => in_hinted(facts, found, rule, here, e),
-        None => Ok(()),
+fn in_read<'t>(facts: &Facts, notes: &mut Notes<'t>, rule: Rule, here: usize, read: &'t ReadStmt) {
+    in_option(facts, notes, rule, here, &read.address);
+    in_option(facts, notes, rule, here, &read.when);
+    if let Some(e) = &read.guess {
+        in_hinted(facts, notes, rule, here, e);
     }
-}
-
-fn in_set<'t>(
-    facts: &Facts,
-    found: &mut Findings<'t>,
-    rule: Rule,
-    here: Spot,
-    e: &'t Expr,
-    when: &'t Option<Expr>,
-) -> Result<(), NoMemory> {
-    in_expr(facts, found, rule, here, e)?;
-    in_option(facts, found, rule, here, when)
 }
 
 // The names in an expression that may use hints.
-fn in_hinted<'t>(
-    facts: &Facts,
-    found: &mut Findings<'t>,
-    rule: Rule,
-    here: Spot,
-    e: &'t Expr,
-) -> Result<(), NoMemory> {
-    if rule == Rule::E25 {
-        return Ok(());
+fn in_hinted<'t>(facts: &Facts, notes: &mut Notes<'t>, rule: Rule, here: usize, e: &'t Expr) {
+    match rule {
+        Rule::E25 => {}
+        _ => in_expr(facts, notes, rule, here, e),
     }
-    in_expr(facts, found, rule, here, e)
 }
 
 fn in_option<'t>(
     facts: &Facts,
-    found: &mut Findings<'t>,
+    notes: &mut Notes<'t>,
     rule: Rule,
-    here: Spot,
+    here: usize,
     e: &'t Option<Expr>,
-) -> Result<(), NoMemory> {
-    match e {
-        Some(e) => in_expr(facts, found, rule, here, e),
-        None => Ok(()),
+) {
+    if let Some(e) = e {
+        in_expr(facts, notes, rule, here, e);
     }
 }
 
 #[cycle(names)]
-fn in_expr<'t>(
-    facts: &Facts,
-    found: &mut Findings<'t>,
-    rule: Rule,
-    here: Spot,
-    e: &'t Expr,
-) -> Result<(), NoMemory> {
+fn in_expr<'t>(facts: &Facts, notes: &mut Notes<'t>, rule: Rule, here: usize, e: &'t Expr) {
     match &e.kind {
-        ExprKind::Lit(_) => Ok(()),
-        ExprKind::Name(name) => of_name(facts, found, rule, here, name, e.place),
+        ExprKind::Lit(_) => {}
+        ExprKind::Name(name) => of_name(facts, notes, rule, here, name, e.place),
         ExprKind::Not(a) | ExprKind::Slice(a, _, _) | ExprKind::Zext(a, _) | ExprKind::Sext(a, _) =>
-            in_expr(facts, found, rule, here, a.get()),
+            {
+                in_expr(facts, notes, rule, here, a.get());
+            }
         ExprKind::Binary(_, a, b) => {
-            in_expr(facts, found, rule, here, a.get())?;
-            in_expr(facts, found, rule, here, b.get())
+            in_expr(facts, notes, rule, here, a.get());
+            in_expr(facts, notes, rule, here, b.get());
         }
         ExprKind::Mux(test, a, b) => {
-            in_expr(facts, found, rule, here, test.get())?;
-            in_expr(facts, found, rule, here, a.get())?;
-            in_expr(facts, found, rule, here, b.get())
+            in_expr(facts, notes, rule, here, test.get());
+            in_expr(facts, notes, rule, here, a.get());
+            in_expr(facts, notes, rule, here, b.get());
         }
-        ExprKind::Concat(parts) => in_exprs(facts, found, rule, here, parts.as_slice()),
-        ExprKind::Call(_, args) => in_exprs(facts, found, rule, here, args.as_slice()),
+        ExprKind::Concat(parts) => in_exprs(facts, notes, rule, here, parts.as_slice()),
+        ExprKind::Call(_, args) => in_exprs(facts, notes, rule, here, args.as_slice()),
     }
 }
 
 #[cycle(names)]
-fn in_exprs<'t>(
-    facts: &Facts,
-    found: &mut Findings<'t>,
-    rule: Rule,
-    here: Spot,
-    es: &'t [Expr],
-) -> Result<(), NoMemory> {
+fn in_exprs<'t>(facts: &Facts, notes: &mut Notes<'t>, rule: Rule, here: usize, es: &'t [Expr]) {
     for e in es {
-        in_expr(facts, found, rule, here, e)?;
+        in_expr(facts, notes, rule, here, e);
     }
-    Ok(())
 }
 
 fn of_name<'t>(
     facts: &Facts,
-    found: &mut Findings<'t>,
+    notes: &mut Notes<'t>,
     rule: Rule,
-    here: Spot,
+    here: usize,
     name: &'t Name,
     at: Place,
-) -> Result<(), NoMemory> {
+) {
     match rule {
-        Rule::E17 => of_pipe(facts, found, here, name, at),
-        Rule::E25 => of_hint(facts, found, name, at),
-        Rule::E34 => of_sample(facts, found, here, name, at),
-        _ => Ok(()),
+        Rule::E17 => of_pipe(facts, notes, here, name, at),
+        Rule::E25 => of_hint(facts, notes, name, at),
+        Rule::E34 => of_sample(facts, notes, here, name, at),
+        _ => {}
     }
 }
 
 // E17: a pipe is used after the stage that puts it.
-fn of_pipe<'t>(
-    facts: &Facts,
-    found: &mut Findings<'t>,
-    here: Spot,
-    name: &'t Name,
-    at: Place,
-) -> Result<(), NoMemory> {
-    match facts.puts.get(name) {
-        Some(put) if here.stage <= put.stage => {
-            let message = Message::Stage(StageFault::UsedEarly {
-                name: Word::of(name),
-                put: put.stage,
-                here: here.stage,
-                line: put.line,
-            });
-            found.add(at, message)
-        }
-        _ => Ok(()),
+fn of_pipe<'t>(facts: &Facts, notes: &mut Notes<'t>, here: usize, name: &'t Name, at: Place) {
+    let Some(put) = facts.puts.get(name) else {
+        return;
+    };
+    if here > put.stage {
+        return;
     }
+    let fault = StageFault::UsedEarly {
+        name: Word::of(name),
+        put: put.stage,
+        here,
+        line: put.line,
+    };
+    notes.add(at, Message::Stage(fault));
 }
 
 // E25: a hint is used in guesses and aims alone.
-fn of_hint<'t>(
-    facts: &Facts,
-    found: &mut Findings<'t>,
-    name: &'t Name,
-    at: Place,
-) -> Result<(), NoMemory> {
+fn of_hint<'t>(facts: &Facts, notes: &mut Notes<'t>, name: &'t Name, at: Place) {
     if facts.hints.get(name).is_none() {
-        return Ok(());
+        return;
     }
-    found.add(at, Message::Guess(GuessFault::HintAsValue(Word::of(name))))
+    notes.add(at, Message::Guess(GuessFault::HintAsValue(Word::of(name))));
 }
 
 // E34: a sample is used in its stage alone.
-fn of_sample<'t>(
-    facts: &Facts,
-    found: &mut Findings<'t>,
-    here: Spot,
-    name: &'t Name,
-    at: Place,
-) -> Result<(), NoMemory> {
-    match facts.samples.get(name) {
-        Some(sample) if sample.stage != here.stage as u64 => {
-            let message = Message::Guess(GuessFault::SampleElsewhere {
-                name: Word::of(name),
-                stage: sample.stage,
-                line: sample.line,
-            });
-            found.add(at, message)
-        }
-        _ => Ok(()),
+fn of_sample<'t>(facts: &Facts, notes: &mut Notes<'t>, here: usize, name: &'t Name, at: Place) {
+    let Some(sample) = facts.samples.get(name) else {
+        return;
+    };
+    if sample.stage == here as u64 {
+        return;
     }
+    let fault = GuessFault::SampleElsewhere {
+        name: Word::of(name),
+        stage: sample.stage,
+        line: sample.line,
+    };
+    notes.add(at, Message::Guess(fault));
 }

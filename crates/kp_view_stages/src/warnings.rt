@@ -6,13 +6,15 @@ ghost use Rattle.kp_view_stages.specs.Cautions.{IsTrueOf};
 use crate::adding::add;
 use crate::ready::puts_of;
 use crate::results::of_output;
-use crate::unused::{of_block, of_decl, used_in_text};
+use crate::unused::{of_block, of_decl};
+use crate::used::used_in_text;
 use kp_ast::{Decl, Job};
 use kp_base::NoMemory;
 use kp_view_findings::{Caution, Table};
 use std::alloc::Global;
 
-/// The warnings of a job, in text order. Each `set` that a warning names as one that never takes place takes place in no instruction. The only error is out of memory.
+/// The warnings of a job, in text order. Each `set` that a warning names as one that never takes place takes place in no instruction. The
+/// only error is out of memory.
 #[tactic(auto, using(crate::proofs::Reported::all_moved))]
 pub fn cautions<'t>(alloc: Global, job: &'t Job) -> Result<Vec<Caution<'t>>, NoMemory>
     ensures { IfOk result (λ all. All (IsTrueOf job.now) all.items) }
