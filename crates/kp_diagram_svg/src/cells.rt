@@ -1,6 +1,6 @@
 // The cells of a fetch.
 ghost use Rattle.std.specs.Prelude.{◌≡◌, ◌<◌, ◌≤◌, ◌++◌, length, drop, codes, Some};
-ghost use Rattle.kp_diagram_text.specs.inner.Writing.{Wrote};
+ghost use Rattle.kp_diagram_text.specs.Writing.{Wrote};
 ghost use Rattle.kp_sched.specs.Rows.{rows_seen};
 ghost use Rattle.kp_pipeline.specs.Diagram.{cells_from};
 ghost use Rattle.kp_diagram_text.specs.Charts.{IsDrawable, ext_of, names_of};

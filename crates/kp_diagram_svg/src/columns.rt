@@ -1,6 +1,6 @@
 // The columns of a picture, one for each cycle.
 ghost use Rattle.std.specs.Prelude.{◌≡◌, ◌≤◌, length};
-ghost use Rattle.kp_diagram_text.specs.inner.Writing.{Wrote};
+ghost use Rattle.kp_diagram_text.specs.Writing.{Wrote};
 ghost use Rattle.kp_sched.specs.Rows.{row_seen};
 ghost use Rattle.kp_pipeline.specs.Diagram.{is_squashed};
 ghost use Rattle.kp_diagram_text.specs.Charts.{rows_of};

@@ -1,6 +1,6 @@
 // A text with holes that numbers fill.
 ghost use Rattle.std.specs.Prelude.{◌≡◌, ◌≤◌, ◌++◌, length, decimal, flat_map};
-ghost use Rattle.kp_diagram_text.specs.inner.Writing.{Wrote};
+ghost use Rattle.kp_diagram_text.specs.Writing.{Wrote};
 ghost use Rattle.kp_diagram_svg.specs.Filling.{filled, hole_in, is_text as is_text_byte};
 ghost use Rattle.kp_diagram_svg.specs.inner.Templates.{template_text};
 

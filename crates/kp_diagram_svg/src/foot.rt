@@ -1,6 +1,6 @@
 // The foot of a picture: the legend and the account.
 ghost use Rattle.std.specs.Prelude.{◌≤◌};
-ghost use Rattle.kp_diagram_text.specs.inner.Writing.{Wrote};
+ghost use Rattle.kp_diagram_text.specs.Writing.{Wrote};
 ghost use Rattle.kp_diagram_text.specs.Losses.{account_shown};
 ghost use Rattle.kp_diagram_svg.specs.Foot.{foot, rate_shown};
 ghost use Rattle.kp_diagram_svg.specs.inner.Templates.{table};

@@ -1,6 +1,6 @@
 // The head of a picture: its size, its title and its headline.
 ghost use Rattle.std.specs.Prelude.{◌≡◌, ◌≤◌};
-ghost use Rattle.kp_diagram_text.specs.inner.Writing.{Wrote};
+ghost use Rattle.kp_diagram_text.specs.Writing.{Wrote};
 ghost use Rattle.kp_diagram_svg.specs.Sizes.{height_of, width_of};
 ghost use Rattle.kp_diagram_svg.specs.Symbols.{head};
 ghost use Rattle.kp_diagram_svg.specs.inner.Templates.{counted as counted_text, titles};

@@ -1,6 +1,6 @@
 // The rows of a picture, one for each fetch.
 ghost use Rattle.std.specs.Prelude.{◌≡◌, ◌+◌, ◌≤◌, cond, length, [], drop, Some};
-ghost use Rattle.kp_diagram_text.specs.inner.Writing.{Wrote};
+ghost use Rattle.kp_diagram_text.specs.Writing.{Wrote};
 ghost use Rattle.kp_sched.specs.Rows.{rows_seen};
 ghost use Rattle.kp_pipeline.specs.Diagram.{cells_from, diagram};
 ghost use Rattle.kp_diagram_text.specs.Charts.{IsDrawable, ext_of, names_of, rows_of};

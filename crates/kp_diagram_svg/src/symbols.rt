@@ -1,6 +1,6 @@
 // The shapes that the cells of a picture consist of.
 ghost use Rattle.std.specs.Prelude.{◌≤◌, ◌++◌};
-ghost use Rattle.kp_diagram_text.specs.inner.Writing.{Wrote};
+ghost use Rattle.kp_diagram_text.specs.Writing.{Wrote};
 ghost use Rattle.kp_diagram_svg.specs.Symbols.{grid, shapes, stages};
 
 use crate::filling::{Template, write_templates};

@@ -3,7 +3,7 @@ use Rattle.std.proofs.Common.{◌≡◌, ◌∙◌, ℕ, ◌+◌, ◌≤◌, ◌
 use Rattle.std.proofs.{lemmas.List.take_all, lemmas.List.take_more, lemmas.Grind.flat_map-append, KnownBytes.Appends-nil, KnownBytes.Appends-trans}
 use Rattle.std.specs.{Prelude.flat_map, Prelude.is_err, declared.option.Option.Option, declared.result.Result.Result}
 use Rattle.kp_base.{specs.Bytes.AppendsPart, specs.Bytes.Writes, specs.Causes.HasCause, specs.Causes.Rose, proofs.Bytes.part_more, proofs.Bytes.writes_next}
-use Rattle.kp_diagram_text.specs.inner.Writing.{Wrote, WroteUpTo}
+use Rattle.kp_diagram_text.specs.{Writing.Wrote, inner.Writing.WroteUpTo}
 
 -- one piece
 pub wrote_piece : {T E : Type 0} (a b : Option (List ℕ)) (n m : ℕ) (text : List ℕ) (result : Result T E) → Writes a b text result → HasCause n m result → Wrote a n false b m (is_err result) text

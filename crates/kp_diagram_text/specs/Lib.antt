@@ -2,5 +2,6 @@ pub mod Marks
 pub mod Losses
 pub mod Figures
 pub mod Text
+pub mod Writing
 pub mod Charts
 pub mod inner

@@ -5,7 +5,7 @@ ghost use Rattle.kp_base.specs.Bytes.{Writes};
 ghost use Rattle.kp_base.specs.Causes.{HasCause};
 ghost use Rattle.kp_diagram_text.specs.Charts.{IsDrawable, are_names as are_names_for, is_name as is_a_name, names_of};
 ghost use Rattle.kp_diagram_text.specs.Text.{column, longest, stage_name};
-ghost use Rattle.kp_diagram_text.specs.inner.{Pieces.piece_text, Writing.Wrote};
+ghost use Rattle.kp_diagram_text.specs.{Writing.Wrote, inner.Pieces.piece_text};
 
 use crate::pieces::{Piece, write_piece};
 use crate::writing::Writing;

@@ -4,7 +4,7 @@ ghost use Rattle.kp_sched.specs.Rows.{rows_seen};
 ghost use Rattle.kp_pipeline.specs.Diagram.{cells_from, diagram};
 ghost use Rattle.kp_diagram_text.specs.Charts.{IsDrawable, ext_of, names_of, rows_of};
 ghost use Rattle.kp_diagram_text.specs.Marks.{shown};
-ghost use Rattle.kp_diagram_text.specs.inner.Writing.{Wrote};
+ghost use Rattle.kp_diagram_text.specs.Writing.{Wrote};
 ghost use Rattle.kp_diagram_text.specs.Text.{cells_text, in_column, line_at, line_start, lines_text, sign, stage_name};
 
 use crate::cells::{Mark, fetches_next, mark_of, next_place};

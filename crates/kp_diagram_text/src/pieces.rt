@@ -1,7 +1,7 @@
 // Pieces of a text.
 ghost use Rattle.std.specs.Prelude.{◌≡◌, flat_map};
 ghost use Rattle.kp_diagram_text.specs.Text.{counted as counted_text, in_column, spaces};
-ghost use Rattle.kp_diagram_text.specs.inner.{Pieces.piece_text, Writing.Wrote};
+ghost use Rattle.kp_diagram_text.specs.{Writing.Wrote, inner.Pieces.piece_text};
 
 use crate::writing::Writing;
 use itoa::Buffer;

@@ -2,7 +2,7 @@
 ghost use Rattle.std.specs.Prelude.{◌≡◌, ◌++◌, ◌<◌, ◌≤◌, ltb, cond, codes};
 ghost use Rattle.kp_base.specs.Bytes.{Writes};
 ghost use Rattle.kp_base.specs.Causes.{HasCause};
-ghost use Rattle.kp_diagram_text.specs.{Losses.account_shown, inner.Writing.Wrote};
+ghost use Rattle.kp_diagram_text.specs.{Losses.account_shown, Writing.Wrote};
 ghost use Rattle.kp_diagram_text.specs.Text.{account_text, hundredths, lost_line, rate, rate_text, retired_text};
 
 use crate::account::Account;

@@ -1,6 +1,6 @@
 // Writing to a sink that may fail.
 ghost use Rattle.std.specs.Prelude.{◌≡◌, false, is_err};
-ghost use Rattle.kp_diagram_text.specs.inner.Writing.{Wrote};
+ghost use Rattle.kp_diagram_text.specs.Writing.{Wrote};
 
 use kp_base::{Sink, SinkFault, write_all};
 use std::marker::Model;

@@ -1,5 +1,5 @@
 use Rattle.std.{proofs.Common.take, specs.Prelude.flat_map}
-use Rattle.kp_diagram_text.specs.inner.Writing.{Wrote}
+use Rattle.kp_diagram_text.specs.Writing.{Wrote}
 use Rattle.kp_diagram_svg.specs.inner.Templates.{template_text}
 use Rattle.kp_diagram_svg.proofs.filling.write_templates.Given as goal
 

@@ -1,5 +1,5 @@
 use Rattle.std.{proofs.Common.take, specs.Prelude.flat_map}
-use Rattle.kp_diagram_text.specs.inner.{Pieces.piece_text, Writing.Wrote}
+use Rattle.kp_diagram_text.specs.{Writing.Wrote, inner.Pieces.piece_text}
 use Rattle.kp_diagram_text.proofs.pieces.write_parts.Given as goal
 
 abbrev pub invariant-loop-piece : goal.invariant-loop-piece
