@@ -2,31 +2,41 @@
 # Fills a pool with 1,300,000 different nodes, requests all of them once more, and runs netlists of 400 and of 1,000,000 nodes. Prints
 # the seconds and the memory of each: sh benches/nodes.sh
 #
-# The gates, checks and runs of kp_test_circuits, with another main, are built by `rt run` in a temporary folder.
+# The checks of kp_test_circuits, with another main, are proved and built by `rt run` in a temporary folder.
 set -eu
 . "$(dirname "$0")/../checks/common.sh"
-mkdir -p "$work/crates"
-for name in kp_base kp_pipeline kp_bits kp_net kp_pool kp_net_gates kp_cycle_plan kp_cycle kp_test_circuits; do
-    cp -r "$top/crates/$name" "$work/crates/"
+mkdir -p "$work/crates/kp_test_circuits/src" "$work/crates/kp_test_circuits/proofs" "$work/crates/kp_test_circuits/specs"
+for name in kp_base kp_pipeline kp_bits kp_net kp_pool kp_net_gates kp_cycle_plan kp_cycle; do
+    mkdir -p "$work/crates/$name/out"
+    for part in src specs proofs out/rlib; do
+        [ ! -d "$top/crates/$name/$part" ] || cp -r "$top/crates/$name/$part" "$work/crates/$name/$part"
+    done
     grep "^$name:" "$top/crates.txt" >> "$work/crates.txt"
 done
+echo 'kp_test_circuits: kp_base kp_bits kp_net kp_pool kp_net_gates kp_cycle anyhow' >> "$work/crates.txt"
 cp "$top/HANDLES" "$work/"
+cp "$top/crates/kp_test_circuits/src/checks.rt" "$work/crates/kp_test_circuits/src/"
+cp -r "$top/crates/kp_test_circuits/proofs/checks" "$work/crates/kp_test_circuits/proofs/"
 cd "$work/crates/kp_test_circuits"
-rm -rf must-fail src/asked.rt src/circuit.rt src/controls.rt src/nodes.rt src/parts.rt proofs/controls
+touch proofs/Lib.antt specs/Lib.antt
 cat > src/main.rt <<'PROGRAM'
+//! Fills a pool with nodes, or runs a chain of sums. Standard input has a word, `fill` or `run`, the number of nodes, and how many times they are
+//! requested or how many cycles are run.
 #![tactic(auto)]
 
+ghost use Rattle.std.specs.Prelude.{IfOk, IsTrue, ◌<◌, length};
+ghost use Rattle.kp_cycle.specs.Steps.{ShowsRows};
+
 mod checks;
-mod gates;
-mod run;
 
 use anyhow::{Context, Result, bail};
-use checks::parts_fit;
+use checks::runs;
 use kp_base::List;
 use kp_bits::{BinOp, Bits};
 use kp_cycle::Sim;
-use kp_net::{Kind, Label, NetReg, Netlist, NodeId, Parts, Pool};
-use run::{print_state, shows_rows, step};
+use kp_net::{Kind, Label, NetReg, Netlist, Node, NodeId, Parts};
+use kp_net_gates::{binary, bit, constant};
+use kp_pool::Pool;
 use std::alloc::Global;
 use std::io;
 
@@ -38,14 +48,14 @@ fn main(rt: HostRuntime) -> Result<()> {
     let times = word(&words, 2)?;
     match words.first().copied().unwrap_or("") {
         "fill" => println!(rt; "{} nodes", fill(alloc, count, times)?)?,
-        "run" => run_chain(&rt, alloc, count, times)?,
+        "run" => println!(rt; "S = {}", run_chain(alloc, count, times)?)?,
         _ => {}
     }
     Ok(())
 }
 
 fn word(words: &[&str], i: usize) -> Result<u32> {
-    Ok(words.get(i).copied().context("a word is wanting")?.parse::<u32>()?)
+    Ok(words.get(i).copied().context("a word is missing")?.parse::<u32>()?)
 }
 
 fn empty(alloc: Global, room: u32) -> Result<Pool> {
@@ -55,10 +65,10 @@ fn empty(alloc: Global, room: u32) -> Result<Pool> {
     Ok(Pool::reserve(alloc, room)?)
 }
 
-// Asks for so many nodes, so many times: half of them are numbers, and the others sums of a register and a number.
+// Requests so many nodes, so many times: half of them are numbers, and the others sums of a register and a number.
 fn fill(alloc: Global, count: u32, times: u32) -> Result<usize> {
     let mut pool = empty(alloc, count)?;
-    let reg = gates::read(&mut pool, 64, Kind::Reg(0)).context("no node")?;
+    let reg = register(&mut pool)?;
     for _ in 0..times {
         turn(&mut pool, reg, (count / 2).saturating_sub(1))?;
     }
@@ -67,37 +77,98 @@ fn fill(alloc: Global, count: u32, times: u32) -> Result<usize> {
 
 fn turn(pool: &mut Pool, reg: NodeId, count: u32) -> Result<()> {
     for i in 0..count {
-        let number = gates::number(pool, 64, u64::from(i) + 1).context("no node")?;
-        gates::operation(pool, BinOp::Add, reg, number).context("no node")?;
+        let number = number(pool, 64, u64::from(i) + 1)?;
+        sum(pool, reg, number)?;
     }
     Ok(())
 }
 
-// Runs a register that takes a chain of sums.
-fn run_chain(rt: &impl Print, alloc: Global, count: u32, cycles: u32) -> Result<()> {
-    let mut pool = empty(alloc, count)?;
-    let sum = chain(&mut pool, count)?;
-    let on = gates::single(&mut pool, true).context("no node")?;
-    let none = gates::number(&mut pool, 4, 0).context("no node")?;
-    let parts = parts(alloc, sum, on, none)?;
-    if !parts_fit(&pool, &parts) || !shows_rows(&pool, &parts) {
-        bail!("the parts do not fit");
+// The register at index 0, of 64 bits.
+fn register(pool: &mut Pool) -> Result<NodeId> {
+    if pool.spare() < 1 {
+        bail!("no room");
     }
-    let net = Netlist::close(pool, parts);
+    Ok(pool.node(Node {
+        width: 64,
+        kind: Kind::Reg(0),
+    }))
+}
+
+fn number(pool: &mut Pool, width: u8, value: u64) -> Result<NodeId> {
+    let word = Bits::new(width, value).context("no number")?;
+    if pool.spare() < 1 {
+        bail!("no room");
+    }
+    Ok(constant(pool, word.width(), word.value()))
+}
+
+// `a + b`
+fn sum(pool: &mut Pool, a: NodeId, b: NodeId) -> Result<NodeId> {
+    if pool.spare() < 1 || !is_there(pool, a) || !is_there(pool, b) {
+        bail!("no room, or no node");
+    }
+    let width = pool.width(a);
+    if pool.width(b) != width {
+        bail!("other widths");
+    }
+    Ok(binary(pool, BinOp::Add, a, b, width))
+}
+
+fn is_there(pool: &Pool, a: NodeId) -> bool
+    ensures { IsTrue result → a.0 < length pool.now.nodes }
+{
+    (a.0 as usize) < pool.nodes().len()
+}
+
+// The value of a register after these cycles; in each it takes a chain of sums.
+fn run_chain(alloc: Global, count: u32, cycles: u32) -> Result<u64> {
+    let net = chain_net(alloc, count)?;
     let mut sim = Sim::open(alloc, &net)?;
     for _ in 0..cycles {
-        step(alloc, &mut sim, 0, false, &[])?;
+        step(&mut sim)?;
     }
-    print_state(rt, alloc, &sim)
+    if sim.netlist().parts().regs.as_slice().is_empty() {
+        bail!("no register");
+    }
+    Ok(sim.value(0).value())
+}
+
+fn step(sim: &mut Sim<'_>) -> Result<()> {
+    if !sim.netlist().parts().samples.as_slice().is_empty() {
+        bail!("a sample is missing");
+    }
+    sim.step(0);
+    Ok(())
+}
+
+fn chain_net(alloc: Global, count: u32) -> Result<Netlist>
+    ensures { IfOk result (λ net. ShowsRows net) }
+{
+    let mut pool = empty(alloc, count)?;
+    let parts = chain_parts(alloc, &mut pool, count)?;
+    if runs(&pool, &parts) {
+        return Ok(pool.close(parts));
+    }
+    bail!("the parts do not fit")
+}
+
+fn chain_parts(alloc: Global, pool: &mut Pool, count: u32) -> Result<Parts> {
+    let sum = chain(pool, count)?;
+    if pool.spare() < 2 {
+        bail!("no room");
+    }
+    let on = bit(pool, true);
+    let none = constant(pool, 4, 0);
+    parts(alloc, sum, on, none)
 }
 
 fn chain(pool: &mut Pool, count: u32) -> Result<NodeId> {
-    let reg = gates::read(pool, 64, Kind::Reg(0)).context("no node")?;
-    let mut sum = reg;
+    let reg = register(pool)?;
+    let mut last = reg;
     for _ in 3..count {
-        sum = gates::operation(pool, BinOp::Add, sum, reg).context("no node")?;
+        last = sum(pool, last, reg)?;
     }
-    Ok(sum)
+    Ok(last)
 }
 
 fn parts(alloc: Global, sum: NodeId, on: NodeId, none: NodeId) -> Result<Parts> {
