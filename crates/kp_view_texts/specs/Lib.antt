@@ -2,4 +2,3 @@ pub mod Forms
 pub mod Heads
 pub mod Helps
 pub mod Marks
-pub mod Notes

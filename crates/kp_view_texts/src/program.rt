@@ -1,7 +1,7 @@
 // Why an assembler program is rejected.
 ghost use Rattle.std.specs.Prelude.{◌≡◌, OnOk, drop, length};
-ghost use Rattle.kp_view_excerpt.specs.Lines.{offset_at};
-ghost use Rattle.kp_view_texts.specs.{Marks.after_blanks, Marks.line_token_length, Marks.mark_in_line, Marks.program_mark, Notes.AppendsNoteAt};
+ghost use Rattle.kp_view_excerpt.specs.{Lines.offset_at, Notes.AppendsNoteAt};
+ghost use Rattle.kp_view_texts.specs.{Marks.after_blanks, Marks.line_token_length, Marks.mark_in_line, Marks.program_mark};
 
 use crate::form::{Form, Operand};
 use crate::program_fault::{Found, ProgramFault};

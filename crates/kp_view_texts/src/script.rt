@@ -1,6 +1,7 @@
 // Why the script of the debugger is rejected.
 ghost use Rattle.std.specs.Prelude.{◌≡◌, OnOk, length};
-ghost use Rattle.kp_view_texts.specs.{Marks.first_word_length, Marks.is_of_word, Marks.script_mark, Notes.AppendsNoteAt};
+ghost use Rattle.kp_view_excerpt.specs.Notes.{AppendsNoteAt};
+ghost use Rattle.kp_view_texts.specs.{Marks.first_word_length, Marks.is_of_word, Marks.script_mark};
 
 use crate::script_fault::{ScriptFault, Verb};
 use crate::tokens::{after_blanks, is_blank};

@@ -1,7 +1,6 @@
 // Why a netlist isn't one of a job: V6.
 ghost use Rattle.std.specs.Prelude.{OnOk};
-ghost use Rattle.kp_view_excerpt.specs.{Lines.from_place, Tokens.token_length};
-ghost use Rattle.kp_view_verilog.specs.Notes.{AppendsNoteAt};
+ghost use Rattle.kp_view_excerpt.specs.{Lines.from_place, Notes.AppendsNoteAt, Tokens.token_length};
 
 use kp_ast::{Decl, Job, Name};
 use kp_base::{NoMemory, Refusal};

@@ -1,7 +1,7 @@
 // Why a Verilog text is rejected.
 ghost use Rattle.std.specs.Prelude.{◌≡◌, ◌≤◌, ◌-◌, ◌^◌, ℕ, length, OnOk};
-ghost use Rattle.kp_view_excerpt.specs.{Excerpts.IsExcerpt, Lines.line_at};
-ghost use Rattle.kp_view_verilog.specs.{Marks.Marks, Marks.from_place, Marks.token_length, Marks.unread_length, Notes.AppendsNote, Notes.AppendsNoteAt};
+ghost use Rattle.kp_view_excerpt.specs.{Excerpts.IsExcerpt, Lines.line_at, Notes.AppendsNote, Notes.AppendsNoteAt};
+ghost use Rattle.kp_view_verilog.specs.{Marks.Marks, Marks.from_place, Marks.token_length, Marks.unread_length};
 
 use crate::lines::{from_place, offset_at, token_length, unread_length};
 use crate::reading::{expected_at, found_at, no_token};

@@ -1,7 +1,7 @@
 use Rattle.std.proofs.Common.{ℕ, List, Result, OnOk}
 use Rattle.std.proofs.lemmas.Result.{on_ok_weaker}
 use Rattle.kp_base.specs.declared.place.Place.{Place}
-use Rattle.kp_view_verilog.specs.Notes.{AppendsNoteAt}
+use Rattle.kp_view_excerpt.specs.Notes.{AppendsNoteAt}
 use Rattle.kp_view_verilog.specs.Marks.{Marks, of_token, of_unread}
 use Rattle.kp_view_verilog.proofs.verilog.write_verilog.Goals as goal
 
