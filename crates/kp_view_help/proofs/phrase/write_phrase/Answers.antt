@@ -13,7 +13,7 @@ loop-byte-preserved g c =
     let n = c.loop-byte.number in
     let items = c.as_bytes-byte-items.result.now in
     let terms = terms_texts c.args.terms.now in
-    let whole = phrase_text items terms in
+    let all = phrase_text items terms in
     let rest = λ (m : ℕ). phrase_text (drop (i + 1) items) (drop m terms) in
     elim c.match-byte.branch [
       | in-123+in_ok-write_term-in-123 w ↦
@@ -24,7 +24,7 @@ loop-byte-preserved g c =
                   so_far.0 ++ get_or terms n [],
                   has_written_to_eq _ _ _ _ _ w.f-is (has_written_append _ _ _ _ _ _ so_far.1 (search rules)),
                   ap (λ (m : ℕ). (so_far.0 ++ get_or terms n []) ++ rest m) more
-                      ∙ after_term so_far.0 items whole terms i n c.loop-byte-test.true w.in-123.is so_far.2,
+                      ∙ after_term so_far.0 items all terms i n c.loop-byte-test.true w.in-123.is so_far.2,
                 ),
           )
       | in-125 w ↦ (
@@ -34,7 +34,7 @@ loop-byte-preserved g c =
               so_far.0,
               has_written_to_eq _ _ _ _ _ w.f-is so_far.1,
               ap (λ (m : ℕ). so_far.0 ++ rest m) w.number-is
-                  ∙ after_brace so_far.0 items whole (drop n terms) i c.loop-byte-test.true w.in-125.is so_far.2,
+                  ∙ after_brace so_far.0 items all (drop n terms) i c.loop-byte-test.true w.in-125.is so_far.2,
             ),
       )
       | in_default+in_ok-write_char-in_default w ↦ (
@@ -44,7 +44,7 @@ loop-byte-preserved g c =
               so_far.0 ++ encode_utf8 (get_or items i 0),
               has_written_to_eq _ _ _ _ _ w.f-is (has_written_append _ _ _ _ _ _ so_far.1 (search rules)),
               ap (λ (m : ℕ). (so_far.0 ++ encode_utf8 (get_or items i 0)) ++ rest m) w.number-is
-                  ∙ after_byte so_far.0 items whole (drop n terms) i _ c.loop-byte-test.true refl (omega (arith, w.in_default))
+                  ∙ after_byte so_far.0 items all (drop n terms) i _ c.loop-byte-test.true refl (omega (arith, w.in_default))
                   (omega (arith, w.in_default)) so_far.2,
             ),
       )
