@@ -1,5 +1,5 @@
 // The real ends of a program: std's readers and writers. Their bytes are those that the reader or the writer specifies.
-ghost use Rattle.std.specs.Prelude.{◌≡◌, List, ℕ};
+ghost use Rattle.std.specs.Prelude.{◌≡◌};
 ghost use Rattle.std.specs.Io.KnownBytes.{Keeps};
 ghost use Rattle.kp_base.specs.Causes.{HasCause};
 
