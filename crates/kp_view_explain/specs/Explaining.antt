@@ -1,5 +1,6 @@
 -- What is said of an input: a status, and a text for standard error.
 use Rattle.std.specs.Prelude.{◌≡◌, ◌≢◌, ◌<◌, ◌≤◌, [], ◌++◌, ◌⊎◌, ◌&&◌, Bool, ℕ, List, length, drop, ltb, if◌then◌else◌, Option, Some, None, Result, Ok, Err}
+use Rattle.std.specs.Prelude.{IfSome}
 use Rattle.std.specs.Io.KnownBytes.{Consumes, IsAtEnd}
 use Rattle.kp_base.specs.{Refusal.v_rule, declared.refusal.Refusal.Refusal}
 use Rattle.kp_ast.specs.declared.tree.Job.{Job}
@@ -10,7 +11,7 @@ use Rattle.kp_debug_report.specs.Scripts.{script_of}
 use Rattle.kp_sched.specs.Shows.{IsOfJob}
 use Rattle.kp_frontend.specs.Judging.{JudgesText, JudgesHeadText, most_bytes, too_long}
 use Rattle.kp_view_texts.specs.Heads.{rule_head}
-use Rattle.kp_view_explain.specs.{Listing.ListsNext, declared.words.Subject.Subject}
+use Rattle.kp_view_explain.specs.{Listing.ListsNext, Showing.Shows, declared.words.Subject.Subject}
 use Rattle.kp_view_explain.specs.declared.words.Subject.TheVariants as subjects
 
 -- the violated rule, if a verdict is one
@@ -84,6 +85,11 @@ ExplainsText subject strict file input status text = (found : Option Refusal) ×
 abbrev pub Explains : Subject → Bool → List ℕ → List ℕ → ℕ → List ℕ → Type 0
 Explains subject strict file input status text = (found : Option Refusal) × Finds subject input found × Says subject strict file found status text
 
+-- The text shows the place of the first rule that an input violates which is not too long, if it violates one.
+abbrev pub ShowsFirst : Subject → List ℕ → List ℕ → List ℕ → Type 0
+ShowsFirst subject file input text =
+    (found : Option Refusal) × FindsIn subject input found × IfSome found (λ refusal. Shows subject file input refusal text)
+
 -- the input begins with a job
 abbrev pub HasJob : Subject → Type 0
 HasJob subjects.Verilog = ⊥
@@ -98,6 +104,7 @@ pub record IsExplained (subject : Subject) (strict : Bool) (file : List ℕ) (ol
   pub whole : (IsAtEnd new × (length input ≤ 16777216)) ⊎ (length input ≡ 16777217)
   pub explained : Explains subject strict file input status text
   pub next : HasJob subject → length input ≤ most_bytes → ListsNext file input text
+  pub shown : length input ≤ most_bytes → ShowsFirst subject file input text
 
 -- a status of an outcome: not that of a read fault (3), a write fault (4) or of out of memory (5)
 abbrev pub IsFinal : ℕ → Type 0

@@ -1,3 +1,4 @@
+pub mod Showing
 pub mod Explaining
 pub mod Listing
 pub mod Words

@@ -1,2 +1,3 @@
 -- Definitions for private contracts and proofs.
 pub mod Naming
+pub mod Shown

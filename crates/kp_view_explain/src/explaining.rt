@@ -1,7 +1,7 @@
 // The explanation of a text.
 ghost use Rattle.std.specs.Prelude.{◌≡◌, ◌≢◌, ◌≤◌, length, IfOk};
 ghost use Rattle.kp_frontend.specs.Judging.{most_bytes};
-ghost use Rattle.kp_view_explain.specs.Explaining.{ExplainsText, HasJob};
+ghost use Rattle.kp_view_explain.specs.Explaining.{ExplainsText, HasJob, ShowsFirst};
 ghost use Rattle.kp_view_explain.specs.Listing.{ListsNext};
 ghost use Rattle.kp_view_explain.specs.declared.words.Subject.TheVariants as subjects;
 
@@ -27,6 +27,7 @@ pub fn explain(
     ensures said { IfOk result (λ e. ExplainsText subject strict file.now text.now e.status e.text.items) }
     ensures low { IfOk result (λ e. (e.status ≤ 2) × (e.status ≢ 1)) }
     ensures next { HasJob subject → IfOk result (λ e. ListsNext file.now text.now e.text.items) }
+    ensures shown { IfOk result (λ e. ShowsFirst subject file.now text.now e.text.items) }
 {
     match subject {
         Subject::Job => explain_job(alloc, file, strict, text),

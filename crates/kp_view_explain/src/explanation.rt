@@ -1,7 +1,6 @@
 // What is said of a text.
 ghost use Rattle.std.specs.Prelude.{◌≡◌, [], ◌++◌, IfOk};
 ghost use Rattle.kp_view_texts.specs.Heads.{rule_head};
-ghost use Rattle.kp_view_explain.specs.Explaining.{BeginsWith};
 
 use kp_base::{NoMemory, Refusal};
 use kp_view_texts::write_head;
@@ -34,7 +33,6 @@ impl Explanation {
         facts: &[u8],
     ) -> Result<Explanation, NoMemory>
         ensures status { IfOk result (λ e. e.status ≡ 2) }
-        ensures text { IfOk result (λ e. BeginsWith (rule_head file.now refusal) e.text.items) }
         ensures whole { IfOk result (λ e. e.text.items ≡ rule_head file.now refusal ++ facts.now) }
     {
         let mut text = Vec::new(alloc);

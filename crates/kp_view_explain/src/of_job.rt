@@ -1,10 +1,12 @@
 // The explanation of a job.
-ghost use Rattle.std.specs.Prelude.{◌≡◌, ◌≢◌, ◌≤◌, length, IfOk};
+ghost use Rattle.std.specs.Prelude.{◌≡◌, ◌≢◌, ◌≤◌, [], length, IfOk, OnOk};
 ghost use Rattle.kp_frontend.specs.Judging.{most_bytes};
-ghost use Rattle.kp_view_explain.specs.Explaining.{ExplainsText, warned};
+ghost use Rattle.kp_view_explain.specs.Explaining.{warned};
 ghost use Rattle.kp_view_explain.specs.Listing.{ListsNext};
 ghost use Rattle.kp_view_explain.specs.declared.words.Subject.TheVariants as subjects;
 ghost use Rattle.kp_view_explain.specs.inner.Naming.{ListsAt};
+ghost use Rattle.kp_view_explain.specs.inner.Shown.{ExplainsShown};
+ghost use Rattle.kp_view_findings.specs.Messages.{AppendsShown, Grows};
 
 use crate::explanation::Explanation;
 use crate::reading::reading_message;
@@ -20,7 +22,7 @@ use kp_view_widths::section_faults;
 use std::alloc::Global;
 
 /// The explanation of a job that is not too long: the first rule that it violates, and further violations, or warnings.
-#[tactic(auto, using(crate::proofs::Inputs::accepted_job, crate::proofs::Inputs::refused_job))]
+#[tactic(auto, using(crate::proofs::Inputs::accepted_job))]
 pub(crate) fn explain_job(
     alloc: Global,
     file: &[u8],
@@ -28,7 +30,7 @@ pub(crate) fn explain_job(
     text: &[u8],
 ) -> Result<Explanation, NoMemory>
     requires { length text.now ≤ most_bytes }
-    ensures said { IfOk result (λ e. ExplainsText subjects.Job strict file.now text.now e.status e.text.items) }
+    ensures said { IfOk result (λ e. ExplainsShown subjects.Job strict file.now text.now e.status e.text.items) }
     ensures low { IfOk result (λ e. (e.status ≤ 2) × (e.status ≢ 1)) }
     ensures next { IfOk result (λ e. ListsNext file.now text.now e.text.items) }
 {
@@ -73,7 +75,8 @@ pub(crate) fn facts(
     refusal: Refusal,
 ) -> Result<Vec<u8>, NoMemory>
     requires { length text.now ≤ most_bytes }
-    ensures { IfOk result (λ out. ListsAt text.now refusal out.items) }
+    ensures next { IfOk result (λ out. ListsAt text.now refusal out.items) }
+    ensures shown { IfOk result (λ out. AppendsShown text.now refusal.place [] out.items) }
 {
     match reading_message(alloc, text, refusal)? {
         Some(message) => {
@@ -88,6 +91,7 @@ pub(crate) fn facts(
 // The same where the text has a tree.
 fn of_tree(alloc: Global, file: &[u8], text: &[u8], refusal: Refusal) -> Result<Vec<u8>, NoMemory>
     requires { length text.now ≤ most_bytes }
+    ensures { IfOk result (λ out. AppendsShown text.now refusal.place [] out.items) }
 {
     let lexed = match lex(alloc, text) {
         Ok(lexed) => lexed,
@@ -124,19 +128,37 @@ fn report(
     text: &[u8],
     refusal: Refusal,
     found: &[Finding<'_>],
-) -> Result<Vec<u8>, NoMemory> {
+) -> Result<Vec<u8>, NoMemory>
+    ensures { IfOk result (λ out. AppendsShown text.now refusal.place [] out.items) }
+{
     let mut out = Vec::new(alloc);
     let message = match found.iter().find(|each| is_of(refusal, each)) {
         Some(finding) => finding.message,
         None => Message::Fixed(refusal.number),
     };
     write_message(alloc, &mut out, text, refusal.place, message)?;
+    write_others(alloc, &mut out, file, text, refusal, found)?;
+    Ok(out)
+}
+
+// The findings but that of the rule at its place.
+#[tactic(auto, using(crate::proofs::Places::stays))]
+fn write_others(
+    alloc: Global,
+    out: &mut Vec<u8>,
+    file: &[u8],
+    text: &[u8],
+    refusal: Refusal,
+    found: &[Finding<'_>],
+) -> Result<(), NoMemory>
+    ensures { OnOk result (Grows out.old.items out.new.items) }
+{
     for finding in found {
         if !is_of(refusal, finding) {
-            write_finding(alloc, &mut out, text, file, finding)?;
+            write_finding(alloc, out, text, file, finding)?;
         }
     }
-    Ok(out)
+    Ok(())
 }
 
 // Whether the finding is of the rule, at the place.

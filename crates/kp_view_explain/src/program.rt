@@ -1,7 +1,7 @@
 // The explanation of an assembler program.
 ghost use Rattle.std.specs.Prelude.{◌≡◌, ◌≢◌, ◌≤◌, length, Bool, IfOk};
 ghost use Rattle.kp_frontend.specs.Judging.{most_bytes};
-ghost use Rattle.kp_view_explain.specs.Explaining.{ExplainsText};
+ghost use Rattle.kp_view_explain.specs.inner.Shown.{ExplainsShown};
 ghost use Rattle.kp_view_explain.specs.declared.words.Subject.TheVariants as subjects;
 
 use crate::explanation::Explanation;
@@ -18,7 +18,7 @@ pub(crate) fn explain_program(
     text: &[u8],
 ) -> Result<Explanation, NoMemory>
     requires { length text.now ≤ most_bytes }
-    ensures said { IfOk result (λ e. (strict : Bool) → ExplainsText subjects.Program strict file.now text.now e.status e.text.items) }
+    ensures said { IfOk result (λ e. (strict : Bool) → ExplainsShown subjects.Program strict file.now text.now e.status e.text.items) }
     ensures low { IfOk result (λ e. (e.status ≤ 2) × (e.status ≢ 1)) }
 {
     match assemble(alloc, text) {

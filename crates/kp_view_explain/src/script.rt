@@ -1,10 +1,9 @@
 // The explanation of a job with a script of the debugger after it.
 ghost use Rattle.std.specs.Prelude.{◌≡◌, ◌≢◌, ◌≤◌, length, Bool, IfOk};
-ghost use Rattle.kp_debug_report.specs.Scripts.{script_of};
 ghost use Rattle.kp_frontend.specs.Judging.{most_bytes};
-ghost use Rattle.kp_view_explain.specs.Explaining.{ExplainsText, Says, rule_of};
 ghost use Rattle.kp_view_explain.specs.Listing.{ListsNext};
 ghost use Rattle.kp_view_explain.specs.declared.words.Subject.TheVariants as subjects;
+ghost use Rattle.kp_view_explain.specs.inner.Shown.{ExplainsScript, ExplainsShown};
 
 use crate::explanation::Explanation;
 use crate::of_job::facts;
@@ -15,14 +14,13 @@ use kp_view_texts::write_script;
 use std::alloc::Global;
 
 /// The explanation of a text that is not too long: the first rule that the job at its head violates, or else the script.
-#[tactic(auto, using(crate::proofs::Inputs::of_script, crate::proofs::Inputs::refused_head))]
 pub(crate) fn explain_debugged(
     alloc: Global,
     file: &[u8],
     text: &[u8],
 ) -> Result<Explanation, NoMemory>
     requires { length text.now ≤ most_bytes }
-    ensures said { IfOk result (λ e. (strict : Bool) → ExplainsText subjects.Debugged strict file.now text.now e.status e.text.items) }
+    ensures said { IfOk result (λ e. (strict : Bool) → ExplainsShown subjects.Debugged strict file.now text.now e.status e.text.items) }
     ensures low { IfOk result (λ e. (e.status ≤ 2) × (e.status ≢ 1)) }
     ensures next { IfOk result (λ e. ListsNext file.now text.now e.text.items) }
 {
@@ -50,8 +48,7 @@ fn explain_script(
 ) -> Result<Explanation, NoMemory>
     requires short { length text.now ≤ most_bytes }
     requires within { head.now.rest ≤ length text.now }
-    ensures said { IfOk result (λ e. (strict : Bool) →
-        Says subjects.Debugged strict file.now (rule_of (script_of head.now.job.design.job.decls text.now head.now.rest)) e.status e.text.items) }
+    ensures said { IfOk result (λ e. ExplainsScript head.now.job.design.job.decls file.now text.now head.now.rest e.status e.text.items) }
     ensures low { IfOk result (λ e. (e.status ≤ 2) × (e.status ≢ 1)) }
 {
     let decls = head.job.design.job().decls.as_slice();

@@ -1,12 +1,10 @@
 // The explanation of a Verilog text, alone or after a job.
-ghost use Rattle.std.specs.Prelude.{◌≡◌, ◌≢◌, ◌≤◌, length, drop, Bool, Option, IfOk};
-ghost use Rattle.kp_base.specs.declared.refusal.Refusal.{Refusal as RefusalOf};
+ghost use Rattle.std.specs.Prelude.{◌≡◌, ◌≢◌, ◌≤◌, length, drop, Bool, IfOk};
 ghost use Rattle.kp_vlog.specs.Denote.{Denotes};
 ghost use Rattle.kp_frontend.specs.Judging.{most_bytes};
-ghost use Rattle.kp_view_texts.specs.Heads.{rule_head};
-ghost use Rattle.kp_view_explain.specs.Explaining.{BeginsWith, ExplainsText, FindsInModule, Says};
 ghost use Rattle.kp_view_explain.specs.Listing.{ListsNext};
 ghost use Rattle.kp_view_explain.specs.declared.words.Subject.TheVariants as subjects;
+ghost use Rattle.kp_view_explain.specs.inner.Shown.{ExplainsModule, ExplainsShown, ShowsMarked};
 
 use crate::explanation::Explanation;
 use crate::of_job::facts;
@@ -25,7 +23,7 @@ pub(crate) fn explain_verilog(
     text: &[u8],
 ) -> Result<Explanation, NoMemory>
     requires { length text.now ≤ most_bytes }
-    ensures said { IfOk result (λ e. (strict : Bool) → ExplainsText subjects.Verilog strict file.now text.now e.status e.text.items) }
+    ensures said { IfOk result (λ e. (strict : Bool) → ExplainsShown subjects.Verilog strict file.now text.now e.status e.text.items) }
     ensures low { IfOk result (λ e. (e.status ≤ 2) × (e.status ≢ 1)) }
 {
     match read_verilog(alloc, text, 0) {
@@ -39,6 +37,7 @@ pub(crate) fn explain_verilog(
 }
 
 // A Verilog text from an offset on that violates a rule.
+#[tactic(auto, using(crate::proofs::Places::noted_marked))]
 fn misread(
     alloc: Global,
     file: &[u8],
@@ -49,11 +48,11 @@ fn misread(
     requires short { length text.now ≤ most_bytes }
     requires within { from ≤ length text.now }
     ensures status { IfOk result (λ e. e.status ≡ 2) }
-    ensures text { IfOk result (λ e. BeginsWith (rule_head file.now refusal) e.text.items) }
+    ensures shown { IfOk result (λ e. ShowsMarked file.now text.now from refusal e.text.items) }
 {
     let mut facts = Vec::new(alloc);
     write_verilog(alloc, &mut facts, text, from, refusal)?;
-    Explanation::refused(alloc, file, refusal, facts.as_slice())
+    Ok(Explanation::refused(alloc, file, refusal, facts.as_slice())?)
 }
 
 /// The explanation of a text that is not too long: the first rule that the job at its head violates, or else the Verilog text after it.
@@ -63,7 +62,7 @@ pub(crate) fn explain_watched(
     text: &[u8],
 ) -> Result<Explanation, NoMemory>
     requires { length text.now ≤ most_bytes }
-    ensures said { IfOk result (λ e. (strict : Bool) → ExplainsText subjects.Watched strict file.now text.now e.status e.text.items) }
+    ensures said { IfOk result (λ e. (strict : Bool) → ExplainsShown subjects.Watched strict file.now text.now e.status e.text.items) }
     ensures low { IfOk result (λ e. (e.status ≤ 2) × (e.status ≢ 1)) }
     ensures next { IfOk result (λ e. ListsNext file.now text.now e.text.items) }
 {
@@ -90,8 +89,7 @@ fn explain_module(
 ) -> Result<Explanation, NoMemory>
     requires short { length text.now ≤ most_bytes }
     requires within { head.now.rest ≤ length text.now }
-    ensures said { IfOk result (λ e. (found : Option RefusalOf) × FindsInModule head.now.job.design.job text.now head.now.rest found
-        × ((strict : Bool) → Says subjects.Watched strict file.now found e.status e.text.items)) }
+    ensures said { IfOk result (λ e. ExplainsModule head.now.job.design.job file.now text.now head.now.rest e.status e.text.items) }
     ensures low { IfOk result (λ e. (e.status ≤ 2) × (e.status ≢ 1)) }
 {
     match read_verilog(alloc, text, head.rest) {
@@ -115,8 +113,7 @@ fn explain_netlist(
     net: &Netlist,
 ) -> Result<Explanation, NoMemory>
     requires { Denotes head.now.rest (drop head.now.rest text.now) net.now }
-    ensures said { IfOk result (λ e. (found : Option RefusalOf) × FindsInModule head.now.job.design.job text.now head.now.rest found
-        × ((strict : Bool) → Says subjects.Watched strict file.now found e.status e.text.items)) }
+    ensures said { IfOk result (λ e. ExplainsModule head.now.job.design.job file.now text.now head.now.rest e.status e.text.items) }
     ensures low { IfOk result (λ e. (e.status ≤ 2) × (e.status ≢ 1)) }
 {
     match matches(alloc, net, &head.job.design) {

@@ -1,5 +1,6 @@
 use Rattle.std.proofs.Common.{◌∙◌, ◌≤◌, ℕ, List, length, ap, subst, arith, Err}
-use Rattle.kp_view_explain.{specs.Explaining.ExplainsText, specs.Listing.ListsNext, proofs.Inputs.of_excess, proofs.Inputs.of_input}
+use Rattle.kp_view_explain.specs.Explaining.{ExplainsText, ShowsFirst}
+use Rattle.kp_view_explain.{specs.Listing.ListsNext, proofs.Inputs.of_excess, proofs.Inputs.of_input}
 use Rattle.kp_view_explain.proofs.calling.explanation.Goals as goal
 
 pub returns-in_ok-of_excess-in-Err-TooLong-clause-explained : goal.returns-in_ok-of_excess-in-Err-TooLong-clause-explained
@@ -16,3 +17,4 @@ returns-in_ok-explain-in-Ok-clause-explained g c =
     let explained = subst (λ (x : List ℕ). ExplainsText c.args.subject c.args.strict file x said.status said.text.items) c.as_slice.ensures.value c.in_ok-explain-in-Ok.ensures.said in
     of_input c.args.subject c.args.strict file _ _ c.in-Ok.input.items said.status said.text.items c.in-Ok.ensures.all c.in-Ok.ensures.end few explained
     (λ job. subst (λ (x : List ℕ). ListsNext file x said.text.items) c.as_slice.ensures.value (c.in_ok-explain-in-Ok.ensures.next job))
+    (subst (λ (x : List ℕ). ShowsFirst c.args.subject file x said.text.items) c.as_slice.ensures.value c.in_ok-explain-in-Ok.ensures.shown)

@@ -10,4 +10,4 @@ returns-in_ok-misread-in-Err-Rule-clause-said c =
     let head = c.args.head.now in
     let broken = subst (λ (r : Refused). AnswersNet text head.rest (Err r)) c.in-Err-Rule.field-0-is c.in-Err-Rule.ensures in
     let refused = c.in_ok-misread-in-Err-Rule.ensures in
-    misread_module c.args.file.now text head.job.design.job head.rest _ _ _ broken refused.status refused.text
+    misread_module c.args.file.now text head.job.design.job head.rest _ _ _ broken refused.status refused.shown
