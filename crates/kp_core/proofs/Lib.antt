@@ -1,6 +1,7 @@
 pub mod Known
 pub mod Asking
 pub mod Outcomes
+pub mod Plain
 pub mod Occupants
 pub mod Showing
 pub mod Beginning

@@ -5,8 +5,11 @@ use Rattle.std.specs.Io.KnownBytes.{Consumes, Appends, IsAtEnd}
 use Rattle.kp_base.specs.{Bytes.AppendsPart, declared.refusal.Refusal.Refusal}
 use Rattle.kp_ast.specs.declared.tree.Job.{Job}
 use Rattle.kp_frontend.specs.Judging.{JudgesHead, JudgesHeadText}
-use Rattle.kp_net.specs.{Netlist.Net, Names.IsNamed}
+use Rattle.kp_stage.specs.Counts.{summary_of}
+use Rattle.kp_net.specs.{Netlist.Net, Names.IsNamed, Widths.Distinct}
+use Rattle.kp_vlog.specs.{Canon.canon, Denote.Denotes}
 use Rattle.kp_sched.specs.{Shows.Shows, Shows.IsInOrder, Anew.BeginsAnew}
+use Rattle.kp_synth_close.specs.Bound.{node_bound}
 use Rattle.kp_synth.specs.Carrying.{Carries}
 use Rattle.kp_view_texts.specs.Heads.{rule_head}
 use Rattle.kp_core_ports.specs.{declared.port.Port.Port, declared.port.PortRefusal.PortRefusal, Ports.ports_of, Core.core_text, Names.names_text}
@@ -25,7 +28,8 @@ text_for forms.Module net job ports = core_text net job ports
 text_for forms.Names net job ports = names_text net job
 
 -- THE MODULE of a job with ports, or its table: that of a netlist that shows the pipelined machine of the job, begins anew after each reset, and whose
--- registers hold the state of the pipeline.
+-- registers hold the state of the pipeline. Its canonical text denotes it, so it violates no rule. No two of its nodes are equal, and there are at most
+-- `node_bound` of them.
 pub record IsCoreOf (form : Form) (job : Job) (ports : List Port) (text : List ℕ) : Type 0 where
   pub net : Net
   pub shows : Shows net job
@@ -33,6 +37,9 @@ pub record IsCoreOf (form : Form) (job : Job) (ports : List Port) (text : List �
   pub carries : Carries net job
   pub named : IsNamed net
   pub order : IsInOrder net job
+  pub denotes : Denotes 0 (canon net) net
+  pub distinct : Distinct net.nodes
+  pub few : length net.nodes ≤ node_bound (summary_of job)
   pub whole : text ≡ text_for form net job ports
 
 -- the outcome for a job and the lines after it

@@ -15,6 +15,7 @@ use kp_frontend::{Accepted, Head, judge_head};
 use kp_synth::synth;
 use kp_synth_tables::Layout;
 use kp_view_explain::{Explanation, Subject, explain};
+use kp_vlog::round_trip::a_canonical_text_denotes_its_netlist;
 use std::alloc::Global;
 
 /// What is to be written for an input that is not too long, under the name of its file. The only error is out of memory.
@@ -89,7 +90,10 @@ fn job_text(
 {
     // The invariant of the type, for the proof only.
     let _kept = job.design.job();
+    a_canonical_text_denotes_its_netlist();
     let net = synth(alloc, &job.design, &job.sections.start)?;
+    // The invariant of the netlist.
+    let _parts = net.parts();
     match form {
         Form::Module => core_text(alloc, &net, layout, ports),
         Form::Names => names_text(alloc, &net, layout),

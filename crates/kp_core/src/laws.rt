@@ -1,8 +1,8 @@
-//! What the ports of a module show.
+//! What a module without ports is, and what the ports of a module show.
 //!
 //! A run begins at power-up, or after cycles that raise the reset, in which files may be loaded (`Begins`). `s` is the state then, and `v` the values of
 //! registers and files. No input of the run raises the reset.
-ghost use Rattle.std.specs.Prelude.{◌≡◌, ℕ, suc, ◌+◌, ◌-◌, ◌<◌, ◌≤◌, ◌^◌, List, length, get_or, true, false};
+ghost use Rattle.std.specs.Prelude.{◌≡◌, ℕ, suc, ◌+◌, ◌-◌, ◌<◌, ◌≤◌, ◌^◌, List, [], length, get_or, true, false};
 ghost use Rattle.kp_pipeline.specs.Rows.{passed};
 ghost use Rattle.kp_machine.specs.Machine.{machine_of};
 ghost use Rattle.kp_net.specs.Netlist.{Net, Input, State, state_after};
@@ -14,10 +14,20 @@ ghost use Rattle.kp_core_ports.specs.Ports.{Exists};
 ghost use Rattle.kp_core_ports.specs.declared.port.Ask.TheVariants.{Commit, Next, Peek, Probe, Show};
 ghost use Rattle.kp_core.specs.Beginning.{Begins};
 ghost use Rattle.kp_core.specs.Values.{port_value, state_in, moment_in, IsFull, NoneWrong, pipe_of_instruction};
+ghost use Rattle.kp_core.specs.Due.{IsCoreOf};
+ghost use Rattle.kp_core.specs.declared.request.Form.TheVariants.{Module};
+ghost use Rattle.kp_ast.specs.declared.tree.Job.{Job};
+ghost use Rattle.kp_tool.specs.Written.{IsVerilogOf};
 
 use crate::runs::runs_are_legal_and_move;
 use kp_machine::laws::a_design_is_accepted;
 use kp_stage::Design;
+
+/// Without lines after the job, the module is a text that `pipe` may write for the job: the canonical text of a netlist that it denotes, which shows the job's
+/// machine and begins anew after each reset.
+pub fn without_lines_the_text_is_that_of_pipe()
+    ensures { (job : Job) (text : List ℕ) → IsCoreOf Module job [] text → IsVerilogOf job text }
+{}
 
 /// The output of `show R` is the value of R in that sequential machine, and the output of `peek F` the word of F at the address at its port, after as many
 /// instructions as their write stage has let pass.
