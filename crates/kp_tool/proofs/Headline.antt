@@ -118,6 +118,8 @@ waits_with job s ins trace acc same = record {
       → rows ≡ path_rows (machine_of job) s (taken (machine_of job) ins rows) start_hold ins)
       (sym same) (rows-right (machine_of job) s (start_hints job) ins acc);
   plain = λ guesses. same ∙ rows-taking (machine_of job) s (start_hints job) ins acc (without_guess job guesses);
+  timeline = λ guesses samples. same ∙ same-rows (machine_of job) s (start_hints job) ins acc (guessless job guesses samples);
+  rows = same;
 }
 
 pub waits_pipe : HoldsOfPipe HasNoNeedlessStall

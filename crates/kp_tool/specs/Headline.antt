@@ -6,7 +6,7 @@ use Rattle.std.specs.Prelude.{◌≡◌, ◌↔◌, ◌≤◌, ℕ, true, List, 
 use Rattle.kp_bits.specs.Word.{Word}
 use Rattle.kp_ast.specs.declared.tree.Job.{Job}
 use Rattle.kp_stage.specs.{Counts.summary_of, Start.start_of}
-use Rattle.kp_pipeline.specs.{Claims.Moves, Claims.HighestStays, Pipeline.Inputs, Rows.Trace, Rows.taken}
+use Rattle.kp_pipeline.specs.{Claims.Moves, Claims.HighestStays, Pipeline.Inputs, Pipeline.pipeline_start, Rows.Trace, Rows.rows_from, Rows.taken}
 use Rattle.kp_pipeline.specs.Timeline.{no_samples, start_hold, timeline_rows}
 use Rattle.kp_pipeline.specs.SpeculativeTimeline.{timeline_rows as path_rows, timeline_rows_taking}
 use Rattle.kp_pipeline.specs.RightPath.{NoWrongGuess, WaitsOnlyWhereItMust, first_moment}
@@ -35,12 +35,15 @@ IsMoving job ins trace = Moves (machine_of job) ins trace × HighestStays (machi
 -- exactly as in the timeline, in which a guessed read never waits, and a stage waits only if the values of the sequential machine itself show that an
 -- operand isn't available yet. A wrong guess is detected in the first cycle in which it can be (`waits`). As long as no wrong guess is made, the rows
 -- are those of the timeline (`right`); so they always are if the job has no guesses, and then each sample value is recorded in the cycle in which it
--- is read (`plain`). `From`: from a state s of registers and files, with the start values of the hints; otherwise from the job's start.
+-- is read (`plain`). If it has no samples either, they are those of the timeline that is computed from instruction numbers and values of the sequential
+-- machine alone (`timeline`). Whatever is guessed, they are the rows of the pipelined machine: `full`, `ue` and `back` of each cycle (`rows`). `From`: from a state s of registers and files, with the start values of the hints; otherwise from the job's start.
 pub record HasNoNeedlessStallFrom (job : Job) (s : ℕ → ℕ → ℕ) (ins : List Inputs) (trace : Trace) : Type 0 where
   pub waits : WaitsOnlyWhereItMust (machine_of job) s (taken (machine_of job) ins trace.rows) (first_moment s (start_hints job)) ins trace.rows
   pub right : NoWrongGuess (machine_of job) s (taken (machine_of job) ins trace.rows) (start_hints job) start_hold ins
       → trace.rows ≡ path_rows (machine_of job) s (taken (machine_of job) ins trace.rows) start_hold ins
   pub plain : (summary_of job).guesses ≡ 0 → trace.rows ≡ timeline_rows_taking (machine_of job) s no_samples start_hold ins
+  pub timeline : (summary_of job).guesses ≡ 0 → (summary_of job).samples ≡ 0 → trace.rows ≡ timeline_rows (machine_of job) s start_hold ins
+  pub rows : trace.rows ≡ rows_from (machine_of job) (pipeline_start s (start_hints job)) ins
 
 abbrev pub HasNoNeedlessStall : Job → List Inputs → Trace → Type 0
 HasNoNeedlessStall job ins trace = HasNoNeedlessStallFrom job (state_of job (start_of job)) ins trace
