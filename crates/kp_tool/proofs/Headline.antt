@@ -24,7 +24,7 @@ use Rattle.kp_gen.{specs.Generated.gen_job, proofs.Unbroken.generated_unbroken}
 use Rattle.kp_vcd.{specs.Held.held, specs.Held.Changes, proofs.Holding.recorded_held, proofs.Holding.recorded_new}
 use Rattle.kp_watch.{specs.Dumps.own_run, specs.Dumps.values_at, specs.Dumps.vcd_dump, proofs.Lasting.run_lasts}
 use Rattle.kp_timing.{specs.Unfit.untimed, proofs.Plain.has_timeline}
-use Rattle.kp_tool.specs.Headline.{IsMoving, HasNoNeedlessStall, HasNoNeedlessStallFrom, IsVerilogWith, IsRunWith, IsDumpedWith, IsGeneratedWith, IsTimed, IsDebuggedWith, IsNetlistWith, IsPairAlike, Implements, IsImplementation, RunsWith, IsPairWith}
+use Rattle.kp_tool.specs.Headline.{IsMoving, HasNoNeedlessStall, HasNoNeedlessStallFrom, IsVerilogWith, IsRunWith, IsDumpedWith, IsGeneratedWith, IsTimed, IsDebuggedWith, IsNetlistWith, IsPairAlike, IsPairDifferent, Implements, IsImplementation, RunsWith, IsPairWith}
 use Rattle.kp_tool.specs.{Due.DueFor, Due.DueOfTiming, Read.ReadsVerilog}
 use Rattle.kp_tool.specs.{Watched.agrees, Watched.differs, Watched.DueOfNetlist, Watched.of_other, Watched.of_job, Compared.jobs, Compared.DueOfModules}
 use Rattle.kp_tool.{specs.Scripted.DueOfScript, proofs.Pairs.first_right, proofs.Pairs.second_right, proofs.Pairs.comparable_pair}
@@ -249,6 +249,33 @@ module _ (input text : List ℕ) (job : Job) (rest : ℕ) (judged : JudgesHead i
 pub pair_is_alike : (input text : List ℕ) → DueFor (Some Compare) input 0 text → IsPairAlike input text
 pair_is_alike input text (Ok (job, rest), head_within short judged, (middle, ends, due)) = alike_pair input text job rest (head_within short judged) short middle ends due
 pair_is_alike input text (Err refusal, judged, said) = absurd (omega (arith, said.0))
+
+-- status 7 names the first root that differs
+module _ (input text : List ℕ) (job : Job) (rest : ℕ) (judged : JudgesHead input (Ok (job, rest))) (middle : ℕ) (ends : FirstEnds rest (drop rest input) middle) where
+  different_pair : DueOfModules job input rest middle 7 text → IsPairDifferent input text
+  different_pair (Err refusal, read, said) = absurd (omega (arith, said.0))
+  different_pair (Ok a, read, (Err refusal, second, said)) = absurd (omega (arith, said.0))
+  different_pair (Ok a, read, (Ok b, second, (Same, all, said))) = absurd (omega (arith, said.0))
+  different_pair (Ok a, jobs p is, (Ok b, jobs q js, (Differs root, first, said))) = record {
+    job = job;
+    rest = rest;
+    judged = judged;
+    middle = middle;
+    ends = ends;
+    first = a;
+    denotes_first = p;
+    first_of_job = is;
+    second = b;
+    denotes_second = q;
+    second_of_job = js;
+    root = root;
+    differs = first;
+    printed = said.1;
+  }
+
+pub pair_is_different : (input text : List ℕ) → DueFor (Some Compare) input 7 text → IsPairDifferent input text
+pair_is_different input text (Ok (job, rest), judged, (middle, ends, due)) = different_pair input text job rest judged middle ends due
+pair_is_different input text (Err refusal, judged, said) = absurd (omega (arith, said.0))
 
 -- what is true of each accepted pipeline is true of the run that `debug` prints from
 printed_script : (Fact : Job → List Inputs → Trace → Type 0) → HoldsOfPipe Fact

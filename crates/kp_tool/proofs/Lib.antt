@@ -15,6 +15,7 @@ pub mod VerilogShapes
 pub mod Readings
 pub mod Differences
 pub mod Outcomes
+pub mod Misreads
 pub mod Agreeing
 pub mod Heads
 pub mod Skips

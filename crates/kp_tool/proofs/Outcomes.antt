@@ -97,7 +97,7 @@ said_of_head n input (Ok (job, rest)) = by_verdict (ReadsVerilog input rest) (Du
 said_of_head n input (Err refusal) = says 2 (refusal_line refusal)
 
 -- two modules after a job: each has one verdict, and so has the pair
-one_module_reading : (job : Job) (text : List ℕ) (from : ℕ) (v w : Result Net Refusal) → ReadsModule job text from v → ReadsModule job text from w → v ≡ w
+pub one_module_reading : (job : Job) (text : List ℕ) (from : ℕ) (v w : Result Net Refusal) → ReadsModule job text from v → ReadsModule job text from w → v ≡ w
 one_module_reading job text from _ _ (misread {refusal = r} p) (misread {refusal = q} i) = one_reading text from (Err r) (Err q) p i
 one_module_reading job text from _ _ (misread {refusal = r} p) (not_jobs {net = net} i other) = cc (one_reading text from (Err r) (Ok net) p i)
 one_module_reading job text from _ _ (misread {refusal = r} p) (jobs {net = net} i is) = cc (one_reading text from (Err r) (Ok net) p i)

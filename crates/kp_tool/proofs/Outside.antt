@@ -4,8 +4,8 @@ use Rattle.std.specs.{declared.option.Option.Option, declared.result.Result.Resu
 use Rattle.kp_base.specs.{declared.refusal.Refusal.Refusal, Causes.Rose}
 use Rattle.kp_words.specs.{declared.commands.Command.Command, Commands.command_of, Commands.reads_input}
 use Rattle.kp_tool_report.specs.Texts.{bad_words}
-use Rattle.kp_tool.{proofs.Refusals.refused_where_broken, proofs.Ends.weaker, proofs.Statuses.final, proofs.Statuses.no_command, specs.Saying.Says}
-use Rattle.kp_tool.specs.{Due.DueFor, Due.IsDue, Due.IsFinal, Due.Completes, Due.Begins, Due.Between, Refused.Breaks, Ends.Ends, Ends.EndsAt}
+use Rattle.kp_tool.{proofs.Refusals.refused_where_broken, proofs.Misreads.misread_where_broken, proofs.Ends.weaker, proofs.Statuses.final, proofs.Statuses.no_command, specs.Saying.Says}
+use Rattle.kp_tool.specs.{Due.DueFor, Due.IsDue, Due.IsFinal, Due.Completes, Due.Begins, Due.Between, Refused.Breaks, Misread.Misreads, Ends.Ends, Ends.EndsAt}
 use Rattle.kp_tool.specs.{inner.Failures.stop_status, inner.Failures.end_status, declared.failure.Failure.Failure, declared.failure.Stop.Stop}
 use Rattle.kp_tool.specs.declared.failure.Stop.TheVariants.{ReadFault, WriteFault, NoMemory}
 
@@ -109,3 +109,9 @@ module _ {S : Type 0} (held : S → Option (List ℕ)) (faults : S → ℕ) (V :
         → Between left left_after (held old) (held new) (λ input text. (refusal : Refusal) → Breaks command input refusal → ⊥)
     not_refused command status is other whole =
         between command status status _ (λ input text due refusal broken. other (refused_where_broken command input status text refusal due broken)) is refl whole
+
+    -- the same for the rules of Verilog
+    pub not_misread : (command : Command) (status : ℕ) → command_of words ≡ Some command → status ≢ 6 → Whole status
+        → Between left left_after (held old) (held new) (λ input text. (refusal : Refusal) → Misreads command input refusal → ⊥)
+    not_misread command status is other whole =
+        between command status status _ (λ input text due refusal broken. other (misread_where_broken command input status text refusal due broken)) is refl whole

@@ -15,7 +15,7 @@ use Rattle.kp_net.specs.Netlist.{Net, Input, State, state_after, last_of}
 use Rattle.kp_sched.specs.{Runs.due_value, Naming.module_name, Naming.value_shown, Traces.trace_of, Traces.inputs_seen, Traces.AreQuiet}
 use Rattle.kp_sched.specs.{Shows.IsOfJob, Shows.HasOutputs, Anew.trace_from, Anew.left_by_reset, Anew.HasMemory, Anew.BeginsAnew}
 use Rattle.kp_vlog.specs.{Denote.Denotes, Splitting.FirstEnds}
-use Rattle.kp_equiv.specs.{declared.verdict.Verdict.TheVariants.Same, Runs.RunAlike, Showing.renamed, Showing.ShowsButName, Texts.verdict_line}
+use Rattle.kp_equiv.specs.{declared.verdict.Verdict.TheVariants.Same, declared.verdict.Verdict.TheVariants.Differs, Agreement.IsFirstDifference, Runs.RunAlike, Showing.renamed, Showing.ShowsButName, Texts.verdict_line}
 use Rattle.kp_frontend.specs.Judging.{Judges, JudgesHead, broken_in}
 use Rattle.kp_debug_report.specs.{declared.command.Command.Command, Scripts.script_of, Inspecting.all_cycles, Inspecting.printed}
 use Rattle.kp_run.specs.Cycles.{own_trace}
@@ -148,6 +148,23 @@ pub record IsPairAlike (input text : List ℕ) : Type 0 where
   pub alike : RunAlike first second
   pub shows : ShowsButName first job ↔ ShowsButName second job
   pub begins : ShowsButName first job → BeginsAnew (renamed first (module_name job)) job ↔ BeginsAnew (renamed second (module_name job)) job
+
+-- The two texts after a job denote netlists of the job, and the root that the text names is the first one at which they don't agree: all roots before it agree.
+pub record IsPairDifferent (input text : List ℕ) : Type 0 where
+  pub job : Job
+  pub rest : ℕ
+  pub judged : JudgesHead input (Ok (job, rest))
+  pub middle : ℕ
+  pub ends : FirstEnds rest (drop rest input) middle
+  pub first : Net
+  pub denotes_first : ReadsVerilog (take middle input) rest (Ok first)
+  pub first_of_job : IsOfJob first job
+  pub second : Net
+  pub denotes_second : ReadsVerilog input middle (Ok second)
+  pub second_of_job : IsOfJob second job
+  pub root : ℕ
+  pub differs : IsFirstDifference first second root
+  pub printed : text ≡ verdict_line first second (Differs root)
 
 -- The netlist implements the machine of the job up to the name of its module, and restarts correctly after each reset.
 abbrev pub Implements : Net → Job → Type 0

@@ -7,8 +7,8 @@ ghost use Rattle.kp_words.specs.declared.commands.Command.TheVariants.{OnJob, Wa
 ghost use Rattle.kp_words.specs.declared.commands.JobCommand.TheVariants.{Check, Sim, Vcd, Timing, Pipe};
 ghost use Rattle.kp_tool_report.specs.Texts.{refusal_line};
 ghost use Rattle.kp_tool.specs.{Due.Due, Due.DueFor, Agreeing.IsSequential, Agreeing.IsChecked, Agreeing.IsFaulty, Agreeing.IsReadBack, Agreeing.IsWatched};
-ghost use Rattle.kp_tool.specs.Headline.{IsMoving, HasNoNeedlessStall, HasNoNeedlessStallFrom, IsVerilogWith, IsRunWith, IsDumpedWith, IsGeneratedWith, IsTimed, IsDebuggedWith, IsNetlistWith, IsPairAlike, IsImplementation, IsPairWith};
-ghost use Rattle.kp_tool.specs.Refused.{Breaks};
+ghost use Rattle.kp_tool.specs.Headline.{IsMoving, HasNoNeedlessStall, HasNoNeedlessStallFrom, IsVerilogWith, IsRunWith, IsDumpedWith, IsGeneratedWith, IsTimed, IsDebuggedWith, IsNetlistWith, IsPairAlike, IsPairDifferent, IsImplementation, IsPairWith};
+ghost use Rattle.kp_tool.specs.{Refused.Breaks, Misread.Misreads};
 
 /// The arguments and an input have exactly one specified outcome: one status, and one text with it. For `pipe`, which may print any netlist that
 /// implements the job, only the status is unique; that such a netlist exists is proved by synthesis.
@@ -111,4 +111,17 @@ pub fn the_first_broken_rule_is_named()
         → (refusal : Refusal) × Breaks command input refusal × (text ≡ refusal_line refusal) }
     ensures where_broken { (command : Command) (input : List ℕ) (status : ℕ) (text : List ℕ) (refusal : Refusal) → DueFor (Some command) input status text
         → Breaks command input refusal → status ≡ 2 }
+{}
+
+/// Status 6 comes with the line of the first rule of Verilog that the input violates (`by_a_rule`), and whenever it violates one (`where_broken`).
+pub fn the_first_broken_rule_of_verilog_is_named()
+    ensures by_a_rule { (command : Command) (input text : List ℕ) → DueFor (Some command) input 6 text
+        → (refusal : Refusal) × Misreads command input refusal × (text ≡ refusal_line refusal) }
+    ensures where_broken { (command : Command) (input : List ℕ) (status : ℕ) (text : List ℕ) (refusal : Refusal) → DueFor (Some command) input status text
+        → Misreads command input refusal → status ≡ 6 }
+{}
+
+/// If `equiv` ends with status 7, its text names the first root of the two netlists that doesn't agree.
+pub fn equiv_names_the_first_difference()
+    ensures { (input text : List ℕ) → DueFor (Some Compare) input 7 text → IsPairDifferent input text }
 {}

@@ -35,8 +35,8 @@ ghost use Rattle.kp_words.specs.{Commands.command_of, Commands.reads_input, decl
 ghost use Rattle.kp_words.specs.declared.commands.Command.TheVariants.{OnJob, Watch, Compare, Debug, Generate};
 ghost use Rattle.kp_words.specs.declared.commands.JobCommand.TheVariants.{Check, Sim, Vcd, Timing, Pipe};
 ghost use Rattle.kp_tool_report.specs.Texts.{refusal_line};
-ghost use Rattle.kp_tool.specs.{Saying.Says, Due.Due, Due.IsDue, Due.IsFinal, Due.Completes, Due.Begins, Due.Between, Refused.Breaks, Ends.Ends, Ends.EndsAt};
-ghost use Rattle.kp_tool.specs.Headline.{IsMoving, HasNoNeedlessStall, HasNoNeedlessStallFrom, IsVerilogWith, IsRunWith, IsDumpedWith, IsGeneratedWith, IsTimed, IsDebuggedWith, IsNetlistWith, IsPairAlike, IsImplementation, IsPairWith};
+ghost use Rattle.kp_tool.specs.{Saying.Says, Due.Due, Due.IsDue, Due.IsFinal, Due.Completes, Due.Begins, Due.Between, Refused.Breaks, Misread.Misreads, Ends.Ends, Ends.EndsAt};
+ghost use Rattle.kp_tool.specs.Headline.{IsMoving, HasNoNeedlessStall, HasNoNeedlessStallFrom, IsVerilogWith, IsRunWith, IsDumpedWith, IsGeneratedWith, IsTimed, IsDebuggedWith, IsNetlistWith, IsPairAlike, IsPairDifferent, IsImplementation, IsPairWith};
 ghost use Rattle.kp_tool.specs.Agreeing.{IsSequential, IsChecked, IsFaulty, IsReadBack, IsWatched};
 ghost use Rattle.kp_tool.specs.inner.Failures.{end_status};
 
@@ -82,6 +82,14 @@ pub fn tool<S: Source, K: Sink>(alloc: Global, words: &[String], source: &mut S,
     ensures refused_only { (command : Command) → command_of (map string_bytes words.now) ≡ Some command → IsFinal result → result ≢ 2
         → Between (S.left source.old) (S.left source.new) (K.held sink.old) (K.held sink.new)
         (λ input text. (refusal : Refusal) → Breaks command input refusal → ⊥) }
+
+    // Status 6 comes with the first rule of Verilog that the input violates, and whenever it violates one.
+    ensures misread { (command : Command) → command_of (map string_bytes words.now) ≡ Some command → result ≡ 6
+        → Between (S.left source.old) (S.left source.new) (K.held sink.old) (K.held sink.new)
+        (λ input text. (refusal : Refusal) × Misreads command input refusal × (text ≡ refusal_line refusal)) }
+    ensures misread_only { (command : Command) → command_of (map string_bytes words.now) ≡ Some command → IsFinal result → result ≢ 6
+        → Between (S.left source.old) (S.left source.new) (K.held sink.old) (K.held sink.new)
+        (λ input text. (refusal : Refusal) → Misreads command input refusal → ⊥) }
 
     // The headline. What `pipe` writes denotes a netlist of which every run is legal, for all inputs: each register and each word of a file has the
     // value of the sequential machine after as many instructions as its stage has completed. In whatever state the reset is raised, the machine
@@ -171,6 +179,10 @@ pub fn tool<S: Source, K: Sink>(alloc: Global, words: &[String], source: &mut S,
         → Between (S.left source.old) (S.left source.new) (K.held sink.old) (K.held sink.new) (IsPairWith (λ job s. IsMoving job)) }
     ensures equiv_has_no_needless_stall { command_of (map string_bytes words.now) ≡ Some Compare → result ≡ 0
         → Between (S.left source.old) (S.left source.new) (K.held sink.old) (K.held sink.new) (IsPairWith HasNoNeedlessStallFrom) }
+
+    // If it ends with status 7, the text names the first root of the two netlists that doesn't agree.
+    ensures equiv_finds_a_difference { command_of (map string_bytes words.now) ≡ Some Compare → result ≡ 7
+        → Between (S.left source.old) (S.left source.new) (K.held sink.old) (K.held sink.new) IsPairDifferent }
 {
     status_of(ended(alloc, words, source, sink))
 }
