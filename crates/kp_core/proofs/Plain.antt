@@ -1,5 +1,5 @@
 -- Without ports a module is the canonical text of its netlist.
-use Rattle.std.proofs.Common.{◌≡◌, ◌∙◌, ℕ, ◌+◌, ◌-◌, ◌≤◌, List, [], ◌++◌, take, drop, sym, ap, subst, arith}
+use Rattle.std.proofs.Common.{◌≡◌, ◌∙◌, ℕ, ◌+◌, ◌-◌, ◌≤◌, List, [], ◌++◌, take, drop, refl, sym, ap, subst, arith}
 use Rattle.std.proofs.lemmas.List.{drop-drop, take-append-drop}
 use Rattle.std.specs.Prelude.{slice_range}
 use Rattle.kp_ast.specs.declared.tree.Job.{Job}
@@ -7,7 +7,7 @@ use Rattle.kp_net.specs.Netlist.{Net}
 use Rattle.kp_vlog.specs.{Canon.canon, Denote.Denotes}
 use Rattle.kp_core_ports.specs.Core.{core_text, header_ports, header_end, last_line}
 use Rattle.kp_tool.specs.Written.{IsVerilogOf}
-use Rattle.kp_core.specs.{Due.IsCoreOf, declared.request.Form.TheVariants.Module}
+use Rattle.kp_core.{specs.Due.IsCoreOf, specs.declared.request.Form.TheVariants.Module, proofs.Outcomes.all_registers}
 
 -- a text is what is before its first place, between its two places, and after its second one
 in_three : (h n : ℕ) (text : List ℕ) → h ≤ n → take h text ++ (slice_range text h n ++ drop n text) ≡ text
@@ -32,4 +32,5 @@ written job text core = record {
   order = core.order;
   distinct = core.distinct;
   few = core.few;
+  regs = all_registers core.net job job core.carries refl;
 }

@@ -11,6 +11,7 @@ pub mod Dues
 pub mod Pairs
 pub mod Headline
 pub mod Refusals
+pub mod Registers
 pub mod VerilogShapes
 pub mod Readings
 pub mod Differences

@@ -23,6 +23,7 @@ pub fn pipe<K: Sink>(alloc: Global, job: &Accepted, sink: &mut K) -> Result<u8, 
 }
 
 // The netlist of the job's pipelined machine, whose canonical text denotes it. The only error is out of memory.
+#[tactic(auto, using(crate::proofs::Registers::one_for_each_key))]
 fn pipelined(alloc: Global, job: &Accepted) -> Result<Netlist, NoMemory>
     ensures { IfOk result (λ net. IsVerilogOf job.now.design.job (canon net)) }
 {
