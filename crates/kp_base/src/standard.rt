@@ -1,12 +1,13 @@
 // The real ends of a program: std's readers and writers. Their bytes are those that the reader or the writer specifies.
-ghost use Rattle.std.specs.Prelude.{◌≡◌};
-ghost use Rattle.std.specs.Io.KnownBytes.{Keeps};
+ghost use Rattle.std.specs.Prelude.{◌≡◌, ◌+◌, ◌-◌, ◌^◌, ◌<◌, length, min, IfOk, is_err, if◌then◌else◌};
+ghost use Rattle.std.specs.Io.{ReadsAtMost, WritesAtMost};
+ghost use Rattle.std.specs.Io.KnownBytes.{Keeps, ReadConsumes, WriteAppends};
 ghost use Rattle.kp_base.specs.Causes.{HasCause};
 
 use crate::{Failed, Sink, Source};
 use std::io::{Read, Write};
 
-/// A source over a reader of std. Each error of the reader counts as a fault.
+/// A source over a reader of std. Each error of the reader counts as a fault, and nothing else does.
 #[derive(Drop)]
 pub struct StdSource<R: Read> {
     reader: R,
@@ -28,7 +29,14 @@ impl<R: Read> Source for StdSource<R> {
 
     ghost faults = { λ s. s.faults };
 
-    fn read(&mut self, buf: &mut [u8]) -> Result<usize, Failed> {
+    fn read(&mut self, buf: &mut [u8]) -> Result<usize, Failed>
+        requires { 0 < length buf.old }
+        ensures bound { ReadsAtMost result buf.new }
+        ensures bytes { ReadConsumes (R.remaining self.old.reader) (R.remaining self.new.reader) result buf.new }
+        ensures cause { HasCause self.old.faults self.new.faults result }
+
+        ensures faults { self.new.faults ≡ (if is_err result then min (self.old.faults + 1) (2 ^ 64 - 1) else self.old.faults) }
+    {
         match self.reader.read(buf) {
             Ok(count) => Ok(count),
             Err(_) => {
@@ -39,7 +47,7 @@ impl<R: Read> Source for StdSource<R> {
     }
 }
 
-/// A sink over a writer of std. Each error of the writer counts as a fault, and so does a write that accepts no byte.
+/// A sink over a writer of std. Each error of the writer counts as a fault, and so does a write that accepts no byte, and nothing else does.
 #[derive(Drop)]
 pub struct StdSink<W: Write> {
     writer: W,
@@ -59,6 +67,7 @@ impl<W: Write> StdSink<W> {
     pub fn finish(&mut self) -> Result<(), Failed>
         ensures bytes { Keeps (W.contents self.old.writer) (W.contents self.new.writer) }
         ensures cause { HasCause self.old.faults self.new.faults result }
+        ensures faults { self.new.faults ≡ (if is_err result then min (self.old.faults + 1) (2 ^ 64 - 1) else self.old.faults) }
     {
         match self.writer.flush() {
             Ok(()) => Ok(()),
@@ -75,7 +84,15 @@ impl<W: Write> Sink for StdSink<W> {
 
     ghost faults = { λ s. s.faults };
 
-    fn write(&mut self, piece: &[u8]) -> Result<usize, Failed> {
+    fn write(&mut self, piece: &[u8]) -> Result<usize, Failed>
+        requires { 0 < length piece.now }
+        ensures bound { WritesAtMost result piece.now }
+        ensures some { IfOk result (λ count. 0 < count) }
+        ensures bytes { WriteAppends (W.contents self.old.writer) (W.contents self.new.writer) result piece.now }
+        ensures cause { HasCause self.old.faults self.new.faults result }
+
+        ensures faults { self.new.faults ≡ (if is_err result then min (self.old.faults + 1) (2 ^ 64 - 1) else self.old.faults) }
+    {
         match self.writer.write(piece) {
             Ok(count) if count > 0 => Ok(count),
             _ => {
