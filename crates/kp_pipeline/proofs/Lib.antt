@@ -31,3 +31,4 @@ pub mod Steps
 pub mod Cells
 pub mod Retired
 pub mod Causes
+pub mod Many

@@ -2,10 +2,10 @@
 //! cycles: a stall word and sample values for each. `W` is the last write stage of a guessed register.
 #![tactic(auto, using(crate::proofs::Proved::laws, crate::proofs::Proved::nearest))]
 
-ghost use Rattle.std.specs.Prelude.{◌≡◌, ℕ, suc, ◌+◌, ◌<◌, ◌≤◌, List, [], ◌∷◌, ◌++◌, length, true, false, Option, Some, ◌⊎◌};
+ghost use Rattle.std.specs.Prelude.{◌≡◌, ℕ, suc, ◌+◌, ◌-◌, ◌*◌, ◌<◌, ◌≤◌, List, [], ◌∷◌, ◌++◌, length, true, false, Option, Some, ◌⊎◌};
 ghost use Rattle.std.specs.List.{AllByRecursion};
 ghost use Rattle.kp_pipeline.specs.Accepted.{Accepted};
-ghost use Rattle.kp_pipeline.specs.Claims.{Legal, Moves, HighestStays, StandsBefore};
+ghost use Rattle.kp_pipeline.specs.Claims.{Legal, Moves, HighestStays, StandsBefore, stall_free_cycles};
 ghost use Rattle.kp_pipeline.specs.Machine.{Machine};
 ghost use Rattle.kp_pipeline.specs.Nearest.{HasNoHit, IsNearestHit, IsGreatestMismatch, select, candidates};
 ghost use Rattle.kp_pipeline.specs.Pipeline.{Inputs, PipelineState, above, forwarded, mismatches, back, pipeline_start};
@@ -34,6 +34,16 @@ pub fn pipeline_moves()
 pub fn rows_are_the_timeline()
     ensures { (m : Machine) (s : ℕ → ℕ → ℕ) (hints : ℕ → ℕ) (ins : List Inputs) → Accepted m
         → HasNoGuessOrSample m → (pipe m s hints ins).rows ≡ timeline_rows m s start_hold ins }
+{}
+
+/// Any n * k stall-free cycles, consecutive or not, retire k instructions, where n is the number of stages: if between the cycles T and U there are that many,
+/// at least k instructions leave the last stage between them. This holds of each trace that moves.
+#[tactic(auto, using(crate::proofs::Many::retire_many))]
+pub fn stall_free_cycles_retire_as_many()
+    ensures { (m : Machine) (ins : List Inputs) (trace : Trace) (T U k : ℕ) → 1 ≤ m.stages → Moves m ins trace → T ≤ U
+        → U ≤ length trace.rows
+        → m.stages * k ≤ stall_free_cycles m.stages ins U - stall_free_cycles m.stages ins T
+        → k ≤ passed trace.rows (m.stages - 1) U - passed trace.rows (m.stages - 1) T }
 {}
 
 /// The highest full stage is never squashed: `back` is at most its number in every row.
