@@ -6,6 +6,9 @@
 //! left out where it is empty. `explain` has one text, that of standard error, or its help, and the status 1 where its words are not accepted. A head of
 //! the words `# ..` is a title: it is printed, and the text below it is no input of any case.
 //!
+//! `==== piped PROGRAM WORDS` is a call of the program, and its input is the text, followed by what `kp pipe` writes for it. If `kp pipe` ends with another
+//! status than 0, this is printed, and there is no call.
+//!
 //! Two more forms run libraries, and have no status. `==== netlist N TITLE`: the netlist of the job runs N cycles under the job's stalls and inputs, and
 //! the line of each cycle is printed, then the registers of the job in the last state, and the words of its files that are not 0; with `nodes` in place
 //! of N, how many nodes the netlist has. `==== dump TITLE`: the name of the dump's module, how many signals, times and changes it has, and whether the
@@ -27,6 +30,7 @@ mod cycles;
 mod dump;
 mod head;
 mod netlist;
+mod piped;
 mod programs;
 mod report;
 mod streams;
@@ -34,6 +38,7 @@ mod streams;
 use dump::add_dump;
 use head::{cut, words_in};
 use netlist::add_netlist;
+use piped::piped;
 use programs::run;
 use report::{Report, Term};
 use std::alloc::{AllocError, Global};
@@ -95,10 +100,25 @@ fn add_case(report: &mut Report, alloc: Global, head: &[u8], input: &[u8]) {
     } else if form == b"dump".as_slice() {
         report.add(&[Term::Text(b"\n")]);
         add_dump(report, alloc, input);
+    } else if form == b"piped".as_slice() {
+        add_piped(report, alloc, rest, input);
     } else {
         add_call(report, alloc, head, input);
     }
     report.add(&[Term::Text(b"\n")]);
+}
+
+// Appends the result of a call on the text and what `kp pipe` writes for it.
+fn add_piped(report: &mut Report, alloc: Global, head: &[u8], text: &[u8]) {
+    match piped(alloc, text) {
+        Some((0, input)) => add_call(report, alloc, head, input.as_slice()),
+        Some((status, _)) => report.add(&[
+            Term::Text(b"\nkp pipe gives "),
+            Term::Number(u64::from(status)),
+            Term::Text(b"\n"),
+        ]),
+        None => report.fail(),
+    }
 }
 
 fn add_call(report: &mut Report, alloc: Global, head: &[u8], input: &[u8]) {
