@@ -9,10 +9,11 @@
 //! `==== piped PROGRAM WORDS` is a call of the program, and its input is the text, followed by what `kp pipe` writes for it. If `kp pipe` ends with another
 //! status than 0, this is printed, and there is no call.
 //!
-//! Two more forms run libraries, and have no status. `==== netlist N TITLE`: the netlist of the job runs N cycles under the job's stalls and inputs, and
+//! Three more forms run libraries, and have no status. `==== netlist N TITLE`: the netlist of the job runs N cycles under the job's stalls and inputs, and
 //! the line of each cycle is printed, then the registers of the job in the last state, and the words of its files that are not 0; with `nodes` in place
 //! of N, how many nodes the netlist has. `==== dump TITLE`: the name of the dump's module, how many signals, times and changes it has, and whether the
-//! text of what was read is this text; if it differs, it follows; or the rule that the dump violates.
+//! text of what was read is this text; if it differs, it follows; or the rule that the dump violates. `==== region N | carve N,N..`:
+//! the spans that are carved from a region of N words, one after the other, or that it is full.
 //!
 //! After the words, each after ` | `, a head may have options:
 //!
@@ -32,6 +33,7 @@ mod head;
 mod netlist;
 mod piped;
 mod programs;
+mod region;
 mod report;
 mod streams;
 
@@ -40,6 +42,7 @@ use head::{cut, words_in};
 use netlist::add_netlist;
 use piped::piped;
 use programs::run;
+use region::add_region;
 use report::{Report, Term};
 use std::alloc::{AllocError, Global};
 use std::io;
@@ -100,6 +103,9 @@ fn add_case(report: &mut Report, alloc: Global, head: &[u8], input: &[u8]) {
     } else if form == b"dump".as_slice() {
         report.add(&[Term::Text(b"\n")]);
         add_dump(report, alloc, input);
+    } else if form == b"region".as_slice() {
+        report.add(&[Term::Text(b"\n")]);
+        add_region(report, alloc, rest);
     } else if form == b"piped".as_slice() {
         add_piped(report, alloc, rest, input);
     } else {
