@@ -1,7 +1,8 @@
 -- Decimal and hexadecimal digits, and lists that are written from the front.
-use Rattle.std.proofs.Common.{◌≡◌, ◌∙◌, refl, sym, ap, ℕ, zero, suc, ◌+◌, ◌-◌, ◌*◌, ◌/◌, ◌%◌, ◌^◌, ◌<◌, ◌≤◌, arith, List, [], ◌∷◌, ◌++◌, length, take, drop, set, ltb}
+use Rattle.std.proofs.Common.{◌≡◌, ◌∙◌, refl, sym, ap, ℕ, zero, suc, ◌+◌, ◌-◌, ◌*◌, ◌/◌, ◌%◌, ◌^◌, ◌<◌, ◌≤◌, arith, List, [], ◌∷◌, ◌++◌, length, take, set, map, ltb}
 use Rattle.std.proofs.{Math.Nat.pow-suc, lemmas.Nat.pow-add, lemmas.List.append_assoc, lemmas.List.take_more_set, lemmas.List.append-nil, lemmas.List.take_all}
-use Rattle.std.{proofs.lemmas.Bool.cond-true, proofs.lemmas.Bool.lt-ltb, proofs.lemmas.Int.Digits.digits_of_step, specs.Char.digit_char}
+use Rattle.std.proofs.lemmas.{Bool.cond-true, Bool.lt-ltb, Fmt.decimal-digits_of, Fmt.length-decimal-le, Int.Digits.all_below_base_digits_of}
+use Rattle.std.specs.{Prelude.decimal, Char.digit_char, Int.Digits.digits_of, Int.Digits.AllBelowBase}
 use Rattle.kp_bits.specs.Spelling.{decimal_digits, hex_digits}
 
 -- a hexadecimal digit is four bits
@@ -27,38 +28,15 @@ hex_all out i count n h l inv =
     let t : take i out ≡ out = take_all i out (omega arith) in
     sym (append-nil out) ∙ (rw (e, t) at inv)
 
-decimal_digit : (d : ℕ) → d < 10 → digit_char d ≡ 48 + d
-decimal_digit d h = cond-true (ltb d 10) (48 + d) (87 + d) (lt-ltb d 10 h)
+-- the digits that are printed
+same_digits : (ds : List ℕ) → AllBelowBase 10 ds → map (λ d. 48 + d) ds ≡ map digit_char ds
+same_digits [] h = refl
+same_digits (d ∷ ds) h =
+    ap (λ c. c ∷ map (λ d. 48 + d) ds) (sym (cond-true (ltb d 10) (48 + d) (87 + d) (lt-ltb d 10 h.0)))
+    ∙ ap (λ (cs : List ℕ). digit_char d ∷ cs) (same_digits ds h.1)
 
-pub one_digit : (n : ℕ) → 1 ≤ n → n < 10 → decimal_digits n ≡ (48 + n) ∷ []
-one_digit n l h =
-    let q : n / 10 ≡ 0 = omega arith in
-    let r : n % 10 ≡ n = omega arith in
-    rw (digits_of_step 10 n (omega arith) l, q, r, decimal_digit n h) refl
+pub decimal_spelled : (n : ℕ) → 1 ≤ n → n < 2 ^ 64 → decimal n ≡ decimal_digits n
+decimal_spelled n low h = decimal-digits_of n low h ∙ same_digits (digits_of 10 n) (all_below_base_digits_of 10 n (omega arith))
 
-pub two_digits : (n : ℕ) → 10 ≤ n → n < 100 → decimal_digits n ≡ (48 + n / 10) ∷ (48 + n % 10) ∷ []
-two_digits n l h =
-    let q : n / 10 / 10 ≡ 0 = omega arith in
-    let r : n / 10 % 10 ≡ n / 10 = omega arith in
-    rw (digits_of_step 10 n (omega arith) (omega arith), digits_of_step 10 (n / 10) (omega arith) (omega arith), q, r, decimal_digit (n / 10) (omega arith), decimal_digit (n % 10) (omega arith)) refl
-
-pub one_digit_long : (n : ℕ) → 1 ≤ n → n < 10 → 1 ≡ length (decimal_digits n)
-one_digit_long n l h = rw (one_digit n l h) refl
-
-pub two_digits_long : (n : ℕ) → 10 ≤ n → n < 100 → 2 ≡ length (decimal_digits n)
-two_digits_long n l h = rw (two_digits n l h) refl
-
-set_first : (out : List ℕ) (a : ℕ) → 1 ≤ length out → set out 0 a ≡ a ∷ drop 1 out
-set_first [] a h = absurd (omega arith)
-set_first (x ∷ xs) a h = refl
-
-set_second : (out : List ℕ) (a b : ℕ) → 2 ≤ length out → set (set out 0 a) 1 b ≡ a ∷ b ∷ drop 2 out
-set_second [] a b h = absurd (omega arith)
-set_second (x ∷ []) a b h = absurd (omega arith)
-set_second (x ∷ y ∷ xs) a b h = refl
-
-pub one_digit_written : (n : ℕ) (out : List ℕ) → 1 ≤ n → n < 10 → 1 ≤ length out → set out 0 (48 + n) ≡ decimal_digits n ++ drop (length (decimal_digits n)) out
-one_digit_written n out l h k = rw (one_digit n l h) (set_first out (48 + n) k)
-
-pub two_digits_written : (n : ℕ) (out : List ℕ) → 10 ≤ n → n < 100 → 2 ≤ length out → set (set out 0 (48 + n / 10)) 1 (48 + n % 10) ≡ decimal_digits n ++ drop (length (decimal_digits n)) out
-two_digits_written n out l h k = rw (two_digits n l h) (set_second out (48 + n / 10) (48 + n % 10) k)
+pub width_short : (n : ℕ) → n ≤ 64 → length (decimal n) ≤ 2
+width_short n h = length-decimal-le 2 n (omega arith) (omega arith) (omega arith)

@@ -4,6 +4,7 @@ ghost use Rattle.std.specs.Char.{digit_char};
 ghost use Rattle.kp_bits.specs.Spelling.{decimal_digits, hex_digits, spelling};
 
 use crate::bits::Bits;
+use itoa::Buffer;
 
 impl Bits {
     /// Writes the canonical form, such as `8'h0b`, at the front of `out`, and returns its length: the width in
@@ -23,7 +24,7 @@ impl Bits {
 }
 
 // Writes a width in decimal at the front of `out`, and returns the length.
-#[tactic(auto, using(crate::proofs::Spellings::one_digit_long, crate::proofs::Spellings::two_digits_long, crate::proofs::Spellings::one_digit_written, crate::proofs::Spellings::two_digits_written))]
+#[tactic(auto, using(crate::proofs::Spellings::decimal_spelled, crate::proofs::Spellings::width_short))]
 fn write_width(width: u8, out: &mut [u8; 20]) -> usize
     requires positive { 1 ≤ width }
     requires at_most { width ≤ 64 }
@@ -31,13 +32,10 @@ fn write_width(width: u8, out: &mut [u8; 20]) -> usize
     ensures short { result ≤ 2 }
     ensures written { out.new ≡ decimal_digits width ++ drop (length (decimal_digits width)) out.old }
 {
-    if width < 10 {
-        out[0] = b'0' + width;
-        return 1;
-    }
-    out[0] = b'0' + width / 10;
-    out[1] = b'0' + width % 10;
-    2
+    let mut buffer = Buffer::new();
+    let digits = buffer.format(width).as_bytes();
+    out[..digits.len()].copy_from_slice(digits);
+    digits.len()
 }
 
 // Fills `out` with the last digits of the number in hexadecimal.
