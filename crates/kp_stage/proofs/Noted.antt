@@ -1,8 +1,7 @@
 -- What is noted in tables are the facts of the job.
-use Rattle.std.proofs.Common.{◌≡◌, ◌∙◌, ℕ, zero, suc, ◌+◌, List, [], ◌∷◌, ◌++◌, Option, Some, None, Bool, true, false, cond, nat_eq, map, append-nil, append_assoc, refl, ap, sym, arith}
+use Rattle.std.proofs.Common.{◌≡◌, ◌∙◌, ℕ, zero, suc, ◌+◌, List, [], ◌∷◌, ◌++◌, Option, Some, None, true, false, cond, map, append-nil, append_assoc, refl, ap, sym, arith}
 use Rattle.std.specs.{Prelude.is_some, Prelude.slice_get, Option.option_or}
-use Rattle.std.specs.Cmp.Lexicographic.{pointwise, bytes_decides, nat_list_eq_equiv}
-use Rattle.indexmap.specs.IndexMap.{insert_entry}
+use Rattle.std.specs.Cmp.Lexicographic.{bytes_decides, nat_list_eq_equiv}
 use Rattle.kp_base.specs.First.{first}
 use Rattle.kp_ast.specs.{Expressions.is_same_name, declared.tree.Decl.Decl, declared.tree.Stmt.Stmt, declared.tree.StmtKind.StmtKind, declared.tree.Block.Block}
 use Rattle.kp_ast.specs.declared.tree.Job.{Job}
@@ -12,32 +11,6 @@ use Rattle.kp_stage.specs.declared.facts.Facts as stored
 use Rattle.kp_stage.specs.Facts.{At, where_same, put_at, puts_in, puts_of, aim_at, aims_in, aims_of, set_at, sets_in, first_set, hints_of, results_of, sample_at, stage_at, write_at, less, least, largest, facts_of}
 use Rattle.kp_stage.specs.inner.Tables.{Entries, look_up, Known, with_value, with_first, less_than, with_less, Named, named, none_named, decl_noted, decls_noted, Given, given, between, stmt_noted, stmts_noted, ended, blocks_noted, table_in, facts_in}
 use Rattle.kp_width.proofs.Calls.{by_test}
-
-swapped : {X : Type 0} (a b : Bool) (x y r : X) → (a ≡ true → b ≡ false) → cond b y (cond a x r) ≡ cond a x (cond b y r)
-swapped true true x y r h = cc (h refl)
-swapped true false x y r h = refl
-swapped false b x y r h = refl
-
-twice : {X : Type 0} (a b : Bool) (x y r : X) → a ≡ b → cond b x r ≡ cond a x (cond b y r)
-twice true true x y r h = refl
-twice false false x y r h = refl
-twice true false x y r h = cc
-twice false true x y r h = cc
-
-module _ {V : Type 0} (n : List ℕ) (v : V) (q : List ℕ) where
-  -- an entry that is added or changed, seen by a look-up
-  pub look_up-with_entry : (es : Entries V) → look_up (insert_entry (pointwise nat_eq) es n v) q ≡ cond (pointwise nat_eq q n) (Some v) (look_up es q)
-  look_up-with_entry [] = refl
-  look_up-with_entry (e ∷ es) = by_test (pointwise nat_eq n e.0)
-      (λ y.
-      ap (λ b. look_up (cond b ((e.0, v) ∷ es) (e ∷ insert_entry (pointwise nat_eq) es n v)) q) y
-      ∙ twice (pointwise nat_eq q n) (pointwise nat_eq q e.0) (Some v) (Some e.1) (look_up es q)
-      (nat_list_eq_equiv.symm q n ∙ nat_list_eq_equiv.congr n e.0 q y ∙ nat_list_eq_equiv.symm e.0 q))
-      (λ m.
-      ap (λ b. look_up (cond b ((e.0, v) ∷ es) (e ∷ insert_entry (pointwise nat_eq) es n v)) q) m
-      ∙ ap (cond (pointwise nat_eq q e.0) (Some e.1)) (look_up-with_entry es)
-      ∙ swapped (pointwise nat_eq q n) (pointwise nat_eq q e.0) (Some v) (Some e.1) (look_up es q)
-      (λ y. nat_list_eq_equiv.congr q n e.0 y ∙ m))
 
 or_none : {X : Type 0} (o : Option X) → option_or o None ≡ o
 or_none None = refl

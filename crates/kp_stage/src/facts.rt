@@ -3,10 +3,10 @@ ghost use Rattle.std.specs.Prelude.{◌≡◌, ◌==◌, [], None, length, OnOk,
 ghost use Rattle.kp_stage.specs.Facts.{facts_of, largest, largest_in, guessed};
 ghost use Rattle.kp_stage.specs.inner.Tables.{look_up, with_value, with_first, less_than, with_less, named, none_named, decl_noted, decls_noted, given, between, stmt_noted, stmts_noted, ended, blocks_noted, facts_in};
 
+use indexmap::IndexMap;
 use kp_ast::{Block, Decl, Job, Name, Stmt, StmtKind};
 use kp_base::NoMemory;
 use std::alloc::Global;
-use std::collections::HashMap;
 use std::marker::Model;
 
 // A statement: its stage, and its number in the block.
@@ -28,7 +28,7 @@ impl Model for Spot {
 
 // A map from names to values.
 pub(crate) struct Table<V> {
-    values: HashMap<Name, V>,
+    values: IndexMap<Name, V>,
 }
 
 impl<V: Drop> Drop for Table<V> {
@@ -51,7 +51,7 @@ impl<V: Copy> Table<V> {
         ensures { result ≡ [] }
     {
         Table {
-            values: HashMap::new(alloc),
+            values: IndexMap::new(alloc),
         }
     }
 
@@ -59,7 +59,7 @@ impl<V: Copy> Table<V> {
     pub fn is_empty(&self) -> bool
         ensures { result ≡ (length self.now == 0) }
     {
-        self.values.len() == 0
+        self.values.is_empty()
     }
 
     /// The value of a name, if it has one.
