@@ -38,10 +38,10 @@ fn joined_by_steps(alloc: Global, pool: &mut Pool, parts: &[NodeId]) -> Result<N
     match parts.len() {
         0 => unreachable!(),
         1 => Ok(parts[0]),
-        2..=12 => Ok(row(pool, parts)),
+        2..=12 => Ok(row(alloc, pool, parts)),
         _ => {
             let (front, back) = parts.split_at(12);
-            let first = row(pool, front);
+            let first = row(alloc, pool, front);
             let shorter = list_of(alloc, first, back)?;
             joined_by_steps(alloc, pool, shorter.as_slice())
         }
@@ -61,7 +61,7 @@ fn list_of(alloc: Global, first: NodeId, rest: &[NodeId]) -> Result<Vec<NodeId>,
 }
 
 // The concatenation of 2 to 12 nodes.
-fn row(pool: &mut Pool, parts: &[NodeId]) -> NodeId
+fn row(alloc: Global, pool: &mut Pool, parts: &[NodeId]) -> NodeId
     requires room { 1 ≤ pool.old.spare }
     requires some { 2 ≤ length parts.now }
     requires few { length parts.now ≤ 12 }
@@ -72,7 +72,7 @@ fn row(pool: &mut Pool, parts: &[NodeId]) -> NodeId
     ensures grown { Grown pool.old pool.new 1 }
 {
     let width = width_of(pool, parts);
-    join(pool, Operands::new(parts), width)
+    join(pool, Operands::new(alloc, parts), width)
 }
 
 // The width of the concatenation of nodes.

@@ -13,6 +13,7 @@ use kp_bits::{BinOp, Literal};
 use kp_net::{NodeId, Operands};
 use kp_net_gates::{binary, choose, complement, constant, join, part};
 use kp_pool::Pool;
+use std::alloc::Global;
 
 /// The value of a literal.
 pub(crate) fn number(pool: &mut Pool, literal: Literal) -> NodeId
@@ -93,7 +94,7 @@ pub(crate) fn sliced(pool: &mut Pool, a: NodeId, hi: u64, lo: u64) -> NodeId
 }
 
 /// `zext(a, width)`: zeros in the high bits.
-pub(crate) fn zero_extended(pool: &mut Pool, a: NodeId, width: u64) -> NodeId
+pub(crate) fn zero_extended(alloc: Global, pool: &mut Pool, a: NodeId, width: u64) -> NodeId
     requires room { 2 ≤ pool.old.spare }
     requires inside { a.0 < length pool.old.nodes }
     requires fit { IsThere (λ c. checked_zext width (word_at c pool.old.nodes a.0)) }
@@ -106,11 +107,11 @@ pub(crate) fn zero_extended(pool: &mut Pool, a: NodeId, width: u64) -> NodeId
         return a;
     }
     let zeros = constant(pool, more, 0);
-    pair(pool, zeros, a)
+    pair(alloc, pool, zeros, a)
 }
 
 /// `sext(a, width)`: copies of the top bit in the high bits, which are all ones or all zeros.
-pub(crate) fn sign_extended(pool: &mut Pool, a: NodeId, width: u64) -> NodeId
+pub(crate) fn sign_extended(alloc: Global, pool: &mut Pool, a: NodeId, width: u64) -> NodeId
     requires room { 5 ≤ pool.old.spare }
     requires inside { a.0 < length pool.old.nodes }
     requires fit { IsThere (λ c. checked_sext width (word_at c pool.old.nodes a.0)) }
@@ -123,7 +124,7 @@ pub(crate) fn sign_extended(pool: &mut Pool, a: NodeId, width: u64) -> NodeId
         return a;
     }
     let front = copies(pool, a, more);
-    pair(pool, front, a)
+    pair(alloc, pool, front, a)
 }
 
 // n copies of the top bit.
@@ -144,7 +145,7 @@ fn copies(pool: &mut Pool, a: NodeId, count: u8) -> NodeId
 }
 
 // `{high, low}`
-fn pair(pool: &mut Pool, high: NodeId, low: NodeId) -> NodeId
+fn pair(alloc: Global, pool: &mut Pool, high: NodeId, low: NodeId) -> NodeId
     requires room { 1 ≤ pool.old.spare }
     requires high { high.0 < length pool.old.nodes }
     requires low { low.0 < length pool.old.nodes }
@@ -154,5 +155,5 @@ fn pair(pool: &mut Pool, high: NodeId, low: NodeId) -> NodeId
     ensures grown { Grown pool.old pool.new 1 }
 {
     let width = pool.width(high) + pool.width(low);
-    join(pool, Operands::new(&[high, low]), width)
+    join(pool, Operands::new(alloc, &[high, low]), width)
 }

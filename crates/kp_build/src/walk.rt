@@ -58,11 +58,11 @@ pub(crate) fn node_for(
         }
         ExprKind::Zext(a, width) => {
             let a = node_for(alloc, pool, env, a.get())?;
-            Ok(zero_extended(pool, a, width.value))
+            Ok(zero_extended(alloc, pool, a, width.value))
         }
         ExprKind::Sext(a, width) => {
             let a = node_for(alloc, pool, env, a.get())?;
-            Ok(sign_extended(pool, a, width.value))
+            Ok(sign_extended(alloc, pool, a, width.value))
         }
         ExprKind::Call(name, args) => {
             let args = nodes_for(alloc, pool, env, args.as_slice())?;

@@ -67,7 +67,7 @@ fn classes_of_net(
 {
     let mut classes = Vec::new(alloc);
     for n in net.nodes() {
-        let shape = known.shape(net, classes.as_slice(), n);
+        let shape = known.shape(alloc, net, classes.as_slice(), n);
         let class = table.number(shape)?;
         classes.push(class)?;
     }

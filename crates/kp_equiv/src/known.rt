@@ -61,7 +61,7 @@ impl<'m> Known<'m> {
     }
 
     /// The shape of a node whose operands have these classes.
-    pub fn shape(&self, net: &Netlist, classes: &[NodeId], n: &Node) -> Node
+    pub fn shape(&self, alloc: Global, net: &Netlist, classes: &[NodeId], n: &Node) -> Node
         requires few { AreFew self.now }
         requires right { NodeOk net.now.nodes (length classes.now) n.now }
         requires cell { CellOk net.now.nodes net.now.parts n.now.width n.now.kind }
@@ -69,11 +69,11 @@ impl<'m> Known<'m> {
     {
         Node {
             width: n.width,
-            kind: self.kind(net, classes, n.width, &n.kind),
+            kind: self.kind(alloc, net, classes, n.width, &n.kind),
         }
     }
 
-    fn kind(&self, net: &Netlist, classes: &[NodeId], width: u8, kind: &Kind) -> Kind
+    fn kind(&self, alloc: Global, net: &Netlist, classes: &[NodeId], width: u8, kind: &Kind) -> Kind
         requires few { AreFew self.now }
         requires right { KindOk net.now.nodes (length classes.now) width kind.now }
         requires cell { CellOk net.now.nodes net.now.parts width kind.now }
@@ -102,7 +102,7 @@ impl<'m> Known<'m> {
                 class_of(classes, *yes),
                 class_of(classes, *no),
             ),
-            Kind::Concat(nodes) => Kind::Concat(joined(classes, nodes)),
+            Kind::Concat(nodes) => Kind::Concat(joined(alloc, classes, nodes)),
             Kind::Slice(a, hi, lo) => Kind::Slice(class_of(classes, *a), *hi, *lo),
         }
     }
@@ -119,7 +119,7 @@ fn binary(op: BinOp, a: NodeId, b: NodeId) -> Kind
     }
 }
 
-fn joined(classes: &[NodeId], nodes: &Operands) -> Operands
+fn joined(alloc: Global, classes: &[NodeId], nodes: &Operands) -> Operands
     requires { All (λ x. x.0 < length classes.now) nodes.now }
     ensures { result ≡ map (class_in classes.now) nodes.now }
 {
@@ -128,5 +128,5 @@ fn joined(classes: &[NodeId], nodes: &Operands) -> Operands
     for i in 0..parts.len() {
         there[i] = class_of(classes, parts[i]);
     }
-    Operands::new(&there[..parts.len()])
+    Operands::new(alloc, &there[..parts.len()])
 }

@@ -3,6 +3,7 @@ ghost use Rattle.std.specs.Prelude.{◌≡◌};
 
 use crate::operands::Operands;
 use kp_bits::BinOp;
+use std::alloc::Global;
 
 /// A node, by its index in the list of nodes, counted from 0.
 #[derive(Clone, Copy, Default, PartialEq, Eq, Hash)]
@@ -42,18 +43,18 @@ pub struct Node {
 
 impl Node {
     /// A copy of the node. Allocates nothing.
-    pub fn copied(&self) -> Node
+    pub fn copied(&self, alloc: Global) -> Node
         ensures { result ≡ self.now }
     {
         Node {
             width: self.width,
-            kind: self.kind.copied(),
+            kind: self.kind.copied(alloc),
         }
     }
 }
 
 impl Kind {
-    fn copied(&self) -> Kind
+    fn copied(&self, alloc: Global) -> Kind
         ensures { result ≡ self.now }
     {
         match self {
@@ -65,7 +66,7 @@ impl Kind {
             Kind::Not(a) => Kind::Not(*a),
             Kind::Binary(op, a, b) => Kind::Binary(*op, *a, *b),
             Kind::Mux(test, yes, no) => Kind::Mux(*test, *yes, *no),
-            Kind::Concat(parts) => Kind::Concat(Operands::new(parts.nodes())),
+            Kind::Concat(parts) => Kind::Concat(Operands::new(alloc, parts.nodes())),
             Kind::Slice(a, hi, lo) => Kind::Slice(*a, *hi, *lo),
         }
     }

@@ -8,43 +8,45 @@ ghost use Rattle.std.specs.Hash as fed;
 ghost use Rattle.kp_net.specs.Operands.{same_id, number_of};
 
 use crate::node::NodeId;
+use smallvec::SmallVec;
+use std::alloc::Global;
 use std::hash::{Hash, Hasher};
 use std::marker::Model;
-
-const MOST: usize = 12;
 
 /// 2 to 12 nodes, stored in the value itself.
 ///
 /// Contracts see operands as the list of them.
-#[derive(Drop)]
 pub struct Operands {
-    nodes: [NodeId; 12],
-    count: u8,
+    nodes: SmallVec<NodeId, 12>,
+}
+
+impl Drop for Operands {
+    fn drop(self) {
+        let Operands { nodes } = self;
+        drop(nodes);
+    }
 }
 
 impl Model for Operands {
-    ghost use Rattle.std.specs.Prelude.{◌≤◌, List, take};
+    ghost use Rattle.std.specs.Prelude.{◌≤◌, ◌≡◌, List, length};
     ghost use Rattle.kp_net.specs.declared.node.NodeId.{NodeId};
 
     ghost Value = { List NodeId };
 
-    ghost view = { λ o. take o.count o.nodes };
+    ghost view = { λ o. o.nodes.items };
 
-    ghost invariant = { λ o. (2 ≤ o.count) × (o.count ≤ 12) };
+    ghost invariant = { λ o. (2 ≤ length o.nodes.items) × (length o.nodes.items ≤ 12) × (o.nodes.capacity ≡ 12) };
 }
 
 impl Operands {
-    /// These nodes, in this order.
-    pub fn new(parts: &[NodeId]) -> Operands
+    /// These nodes, in this order. Allocates nothing.
+    pub fn new(alloc: Global, parts: &[NodeId]) -> Operands
         requires at_least { 2 ≤ length parts.now }
         requires at_most { length parts.now ≤ 12 }
         ensures { result ≡ parts.now }
     {
-        let mut nodes = [NodeId(0); MOST];
-        nodes[..parts.len()].copy_from_slice(parts);
         Operands {
-            nodes,
-            count: parts.len() as u8,
+            nodes: SmallVec::from_slice(alloc, parts).unwrap(),
         }
     }
 
@@ -54,7 +56,7 @@ impl Operands {
         ensures at_least { 2 ≤ length self.now }
         ensures at_most { length self.now ≤ 12 }
     {
-        &self.nodes[..self.count as usize]
+        self.nodes.as_slice()
     }
 }
 

@@ -63,6 +63,6 @@ pub fn close_nodes(
     let control = steer(pool, layout, reads, outs);
     let nexts = next_nodes(alloc, pool, layout, reads, outs, &control)?;
     let ports = write_ports(alloc, pool, layout, reads, outs, &control.updates)?;
-    let row = row_nodes(pool, layout, reads, &control);
+    let row = row_nodes(alloc, pool, layout, reads, &control);
     Ok(Ends { nexts, ports, row })
 }

@@ -13,6 +13,7 @@ use kp_net_gates::join;
 use kp_pool::Pool;
 use kp_synth_registers::{Reads, full_in};
 use kp_synth_tables::Layout;
+use std::alloc::Global;
 
 // The first nodes in reverse order.
 fn reversed(bits: &[NodeId; 12], n: u32) -> [NodeId; 12]
@@ -27,7 +28,7 @@ fn reversed(bits: &[NodeId; 12], n: u32) -> [NodeId; 12]
 }
 
 // The word whose bit k is the node of stage k.
-fn word_of(pool: &mut Pool, bits: &[NodeId; 12], n: u32) -> NodeId
+fn word_of(alloc: Global, pool: &mut Pool, bits: &[NodeId; 12], n: u32) -> NodeId
     requires room { 1 ≤ pool.old.spare }
     requires at_least { 2 ≤ n }
     requires at_most { n ≤ 12 }
@@ -37,7 +38,7 @@ fn word_of(pool: &mut Pool, bits: &[NodeId; 12], n: u32) -> NodeId
     ensures grown { Grown pool.old pool.new 1 }
 {
     let parts = reversed(bits, n);
-    let parts = Operands::new(&parts[..n as usize]);
+    let parts = Operands::new(alloc, &parts[..n as usize]);
     joined(pool, parts, n as u8)
 }
 
@@ -71,7 +72,13 @@ fn fulls_of(pool: &mut Pool, layout: &Layout<'_>, reads: &Reads) -> [NodeId; 12]
 }
 
 /// The outputs of the netlist in a cycle: the full bits and the update enables with a bit for each stage, and the rollback.
-pub fn row_nodes(pool: &mut Pool, layout: &Layout<'_>, reads: &Reads, control: &Control) -> RowNodes
+pub fn row_nodes(
+    alloc: Global,
+    pool: &mut Pool,
+    layout: &Layout<'_>,
+    reads: &Reads,
+    control: &Control,
+) -> RowNodes
     requires room { 14 ≤ pool.old.spare }
     requires ready { Ready layout.now pool.old reads.now }
     requires controls { Controls layout.now pool.old control.now }
@@ -80,8 +87,8 @@ pub fn row_nodes(pool: &mut Pool, layout: &Layout<'_>, reads: &Reads, control: &
 {
     let n = layout.stages();
     let fulls = fulls_of(pool, layout, reads);
-    let full = word_of(pool, &fulls, n);
-    let ue = word_of(pool, &control.updates, n);
+    let full = word_of(alloc, pool, &fulls, n);
+    let ue = word_of(alloc, pool, &control.updates, n);
     RowNodes {
         full,
         ue,

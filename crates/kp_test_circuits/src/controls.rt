@@ -13,10 +13,12 @@ use crate::report::Report;
 use kp_net::NodeId;
 use kp_net_gates::{Candidate, Sweep, carried, hit_of, mismatch, select, sweep};
 use kp_pool::Pool;
+use std::alloc::Global;
 
 /// Names the nodes that a line requests, and appends the node of an operation. Returns whether the line is well-formed.
 pub fn name<'t>(
     report: &mut Report,
+    alloc: Global,
     pool: &mut Pool,
     circuit: &mut Circuit<'t>,
     line: Line<'t>,
@@ -28,18 +30,19 @@ pub fn name<'t>(
         Op::Select => nearest(pool, circuit, line),
         Op::Carried => carry(pool, circuit, line),
         Op::Sweep => rollback(pool, circuit, line),
-        _ => name_one(report, pool, circuit, line, op),
+        _ => name_one(report, alloc, pool, circuit, line, op),
     }
 }
 
 fn name_one<'t>(
     report: &mut Report,
+    alloc: Global,
     pool: &mut Pool,
     circuit: &mut Circuit<'t>,
     line: Line<'t>,
     op: Op,
 ) -> bool {
-    let Some(node) = made(pool, &*circuit, line, op) else {
+    let Some(node) = made(alloc, pool, &*circuit, line, op) else {
         return false;
     };
     if !circuit.only_rows {
@@ -48,7 +51,13 @@ fn name_one<'t>(
     circuit.name(line, &[("", node)])
 }
 
-fn made(pool: &mut Pool, circuit: &Circuit<'_>, line: Line<'_>, op: Op) -> Option<NodeId> {
+fn made(
+    alloc: Global,
+    pool: &mut Pool,
+    circuit: &Circuit<'_>,
+    line: Line<'_>,
+    op: Op,
+) -> Option<NodeId> {
     if pool.spare() < 1 {
         return None;
     }
@@ -59,7 +68,7 @@ fn made(pool: &mut Pool, circuit: &Circuit<'_>, line: Line<'_>, op: Op) -> Optio
         Op::Not | Op::Part | Op::Same | Op::Mux | Op::Binary(_) => {
             of_words(pool, circuit, line, op)
         }
-        Op::Join => row(pool, circuit, line),
+        Op::Join => row(alloc, pool, circuit, line),
         Op::Hit => hit(pool, circuit, line),
         Op::Mismatch => wrong(pool, circuit, line),
         _ => of_bits(pool, circuit, line, op),

@@ -14,6 +14,7 @@ use kp_net_gates::{
     same, stall_of, update_of,
 };
 use kp_pool::Pool;
+use std::alloc::Global;
 
 /// Whether a node is in the pool.
 pub fn is_there(pool: &Pool, a: NodeId) -> bool
@@ -181,7 +182,7 @@ fn of_three(pool: &mut Pool, op: Op, a: NodeId, b: NodeId, c: NodeId, d: NodeId)
 }
 
 /// `{a, b}`
-pub fn row(pool: &mut Pool, circuit: &Circuit<'_>, line: Line<'_>) -> Option<NodeId>
+pub fn row(alloc: Global, pool: &mut Pool, circuit: &Circuit<'_>, line: Line<'_>) -> Option<NodeId>
     requires { 1 ≤ pool.old.spare }
 {
     let mut parts = [NodeId(0); 12];
@@ -191,7 +192,7 @@ pub fn row(pool: &mut Pool, circuit: &Circuit<'_>, line: Line<'_>) -> Option<Nod
     }
     let parts = &parts[..count];
     match width_of_row(pool, parts) {
-        Some(width) if 1 <= width => Some(join(pool, Operands::new(parts), width)),
+        Some(width) if 1 <= width => Some(join(pool, Operands::new(alloc, parts), width)),
         _ => None,
     }
 }

@@ -121,7 +121,7 @@ fn add_lines<'t>(
         rest = after;
         let line = Line(text);
         let is_taken = if line.word(1) == b"=".as_slice() {
-            controls::name(report, pool, circuit, line)
+            controls::name(report, alloc, pool, circuit, line)
         } else {
             circuit.take(alloc, &*pool, line)
         };

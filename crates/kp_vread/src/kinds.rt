@@ -71,5 +71,5 @@ fn operands<'m>(alloc: Global, wires: &Places<'m>, parts: &'m [Named]) -> Result
     for part in parts {
         nodes.push(node(wires, part))?;
     }
-    Ok(Operands::new(nodes.as_slice()))
+    Ok(Operands::new(alloc, nodes.as_slice()))
 }
