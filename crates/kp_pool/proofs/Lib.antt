@@ -1,3 +1,3 @@
 pub mod Folds
-pub mod Chains
+pub mod Numbers
 pub mod Unfolded

@@ -1,4 +1,3 @@
 -- Definitions for private contracts and proofs of this crate only: no public clause depends on them.
-pub mod Chains
 pub mod Folds
-pub mod Hashes
+pub mod Numbers

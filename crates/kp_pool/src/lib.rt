@@ -2,7 +2,6 @@
 #![tactic(auto)]
 
 mod fold;
-mod hash;
 mod index;
 mod pool;
 

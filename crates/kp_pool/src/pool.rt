@@ -6,7 +6,7 @@ ghost use Rattle.kp_net.specs.Depth.{depth, depth_of};
 ghost use Rattle.kp_pool.specs.Folding.{foldable, NoneFoldable};
 ghost use Rattle.kp_net.specs.Parts.{PartsOk};
 ghost use Rattle.kp_net.specs.Growth.{Held, Wire, Kept, Grown, AddsOnly};
-ghost use Rattle.kp_pool.specs.inner.Chains.{Chains};
+ghost use Rattle.kp_pool.specs.inner.Numbers.{IsIndex};
 
 use crate::fold::{Folded, fold};
 use crate::index::Index;
@@ -39,27 +39,26 @@ impl Model for Pool {
     ghost use Rattle.kp_net.specs.Widths.{AllRight, Distinct};
     ghost use Rattle.kp_pool.specs.Folding.{NoneFoldable};
     ghost use Rattle.kp_net.specs.Growth.{Held};
-    ghost use Rattle.kp_pool.specs.inner.Chains.{Chains};
+    ghost use Rattle.kp_pool.specs.inner.Numbers.{IsIndex};
 
     ghost Value = { Held };
 
     ghost view = { λ p. record { nodes = p.nodes.items; spare = p.spare } };
 
-    ghost invariant = { λ p. (vec_len p.nodes + p.spare ≤ vec_capacity p.nodes) × (vec_len p.nodes + p.spare ≤ 16777216) × AllRight p.nodes.items × Distinct p.nodes.items × NoneFoldable p.nodes.items × Chains p.index.heads.items p.index.links.items p.nodes.items × (vec_len p.nodes + p.spare ≤ vec_capacity p.index.links) };
+    ghost invariant = { λ p. (vec_len p.nodes + p.spare ≤ vec_capacity p.nodes) × (vec_len p.nodes + p.spare ≤ 16777216) × AllRight p.nodes.items × Distinct p.nodes.items × NoneFoldable p.nodes.items × IsIndex p.index p.nodes.items };
 }
 
 impl Pool {
-    /// An empty pool with capacity for this many nodes, at most 2^24. All its memory is allocated here. Error: out of memory.
+    /// An empty pool with capacity for this many nodes, at most 2^24. Error: out of memory.
     pub fn reserve(alloc: Global, nodes: u32) -> Result<Pool, NoMemory>
         requires { nodes ≤ 16777216 }
         ensures { IfOk result (λ p. p ≡ record { nodes = []; spare = nodes }) }
     {
         let room = Vec::with_capacity(alloc, nodes as usize)?;
-        let index = Index::reserve(alloc, nodes)?;
         Ok(Pool {
             nodes: room,
             spare: nodes,
-            index,
+            index: Index::new(alloc),
         })
     }
 
@@ -113,7 +112,8 @@ impl Pool {
         Netlist::from_nodes(nodes, parts)
     }
 
-    /// A node with the value of `n`, no deeper: an existing node, a constant in place of it, or `n` itself, which is added.
+    /// A node with the value of `n`, no deeper: an existing node, a constant in place of it, or `n` itself, which is added. Memory that isn't
+    /// available for the index only makes later calls slower.
     pub fn node(&mut self, n: Node) -> NodeId
         requires room { 1 ≤ self.old.spare }
         requires right { NodeOk self.old.nodes (length self.old.nodes) n }

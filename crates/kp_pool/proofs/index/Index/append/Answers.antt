@@ -1,16 +1,21 @@
-use Rattle.std.proofs.Common.{◌≡◌, ◌+◌, ℕ, List, [], ◌∷◌, ◌++◌, length, get_or, sym, ap, subst, ◌∙◌, rules}
-use Rattle.std.proofs.{lemmas.List.get_or_default, Math.ListN.set}
-use Rattle.kp_pool.{specs.inner.Chains.Chains, proofs.Chains.chained}
+use Rattle.std.proofs.Common.{◌++◌, ◌∷◌, [], sym, subst, arith}
+use Rattle.std.proofs.lemmas.Result.{on_ok_weaker}
+use Rattle.kp_net.specs.declared.node.Node.{Node}
+use Rattle.kp_pool.{specs.inner.Numbers.Numbered, specs.inner.Numbers.IsIndex, proofs.Numbers.stays, proofs.Numbers.inserted}
 use Rattle.kp_pool.proofs.index.Index.append.Goals as goal
 
-pub returns-clause-indexes : goal.returns-clause-indexes
-returns-clause-indexes c =
-    let hs = c.args.self.now.heads.items in
-    let ls = c.args.self.now.links.items in
+pub returns-then-len-number : goal.returns-then-len-number
+returns-then-len-number c =
     let ns = c.args.nodes.now in
-    let b = c.bucket-bucket.result in
-    let x = c.index.result.now in
-    let first : x ≡ get_or hs b 0 = c.index.ensures ∙ get_or_default hs b x 0 c.bucket-bucket.ensures.below in
-    let pushed : c.push.new.self.items ≡ ls ++ x ∷ [] = search rules in
-    let P : List ℕ → Type 0 = λ xs. Chains (set hs b (length ns + 1)) xs (ns ++ c.args.n.now ∷ []) in
-    subst P (ap (λ y. ls ++ y ∷ []) (sym first) ∙ sym pushed) (chained hs ls ns c.args.n.now b c.requires.indexes c.bucket-bucket.ensures.bucket c.bucket-bucket.ensures.below)
+    let t = c.self.inside.numbers.entries in
+    let u = c.insert.new.self.entries in
+    let h = subst (λ (x : Numbered). IsIndex x ns) (sym c.self.view_is) c.requires.indexes in
+    subst (λ (x : Node). IsIndex u (ns ++ x ∷ [])) c.copied-copy.ensures
+    (inserted ns c.copied-copy.result t u c.insert.result _ h (omega (arith, c.len.ensures.len, c.if-len-number.true)) (omega (arith, c.requires.few))
+    (on_ok_weaker c.insert.result (λ k. k.0) c.insert.ensures.updates) c.insert.ensures.len c.insert.ensures.err)
+
+pub returns-else-len-number : goal.returns-else-len-number
+returns-else-len-number c =
+    let ns = c.args.nodes.now in
+    subst (λ (x : Numbered). IsIndex x (ns ++ c.args.n.now ∷ [])) c.self.view_is
+    (stays ns c.args.n.now c.self.inside.numbers.entries (subst (λ (x : Numbered). IsIndex x ns) (sym c.self.view_is) c.requires.indexes))

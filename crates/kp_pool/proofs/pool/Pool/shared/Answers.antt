@@ -3,7 +3,7 @@ use Rattle.kp_net.specs.{declared.node.Node.Node, Widths.NodeOk, Widths.AllRight
 use Rattle.kp_net.{specs.inner.Lookup.LacksBelow, proofs.Depths.depth_new, proofs.Depths.depth_there, proofs.Exact.node_whole}
 use Rattle.kp_net.proofs.Rightness.{right_more, distinct_more}
 use Rattle.kp_net.proofs.Growing.{kept_new, grown_new, added_new, wire_new, value_new, wire_there, value_there}
-use Rattle.kp_pool.{specs.Folding.foldable, specs.Folding.NoneFoldable, specs.inner.Chains.Chains, proofs.Unfolded.unfolded_more}
+use Rattle.kp_pool.{specs.Folding.foldable, specs.Folding.NoneFoldable, specs.inner.Numbers.IsIndex, proofs.Unfolded.unfolded_more}
 use Rattle.kp_pool.proofs.pool.Pool.shared.Goals as goal
 
 -- the lists that the pool holds before and after an addition
@@ -35,9 +35,7 @@ invariant_of-self c =
       stays_right _ _ _ _ c.add.ensures.items vn a.2 c.requires.right,
       stays_distinct _ _ _ _ c.add.ensures.items c.as_slice.ensures.value a.3 c.in-None.ensures,
       stays_unfolded _ _ _ _ c.add.ensures.items vn a.2 c.requires.right a.4 c.requires.unfolded,
-      (let P : List Node → Type 0 = Chains c.append.new.self.heads.items c.append.new.self.links.items in
-          subst P (ap (λ (xs : List Node). xs ++ c.args.n ∷ []) c.as_slice-in-None.ensures.value ∙ sym c.add.ensures.items) c.append.ensures.indexes),
-      omega (arith, a.6, c.append.ensures.room),
+      (let P : List Node → Type 0 = IsIndex c.append.new.self in subst P (ap (λ (xs : List Node). xs ++ c.args.n ∷ []) c.as_slice-in-None.ensures.value ∙ sym c.add.ensures.items) c.append.ensures),
     )
 
 pub returns-in-Some-clause-wire : goal.returns-in-Some-clause-wire
