@@ -50,9 +50,9 @@ fn facts(alloc: Global, text: &[u8], refusal: PortRefusal) -> Result<Vec<u8>, No
     let excerpt = Excerpt::at(text, refusal.place);
     let mut out = Vec::from_slice(alloc, sentence(refusal.rule).as_bytes())?;
     out.extend_from_slice(b"\n")?;
-    excerpt.write(alloc, &mut out)?;
+    excerpt.write(&mut out)?;
     if let Some(help) = help(refusal.rule) {
-        excerpt.write_help(alloc, &mut out, help)?;
+        excerpt.write_help(&mut out, help)?;
     }
     Ok(out)
 }

@@ -5,8 +5,8 @@ ghost use Rattle.kp_view_excerpt.specs.Lines.{from_place, line_at};
 ghost use Rattle.kp_view_excerpt.specs.Tokens.{token_length};
 
 use crate::place::{line_at, token_length};
+use itoa::Buffer;
 use kp_base::{NoMemory, Place};
-use std::alloc::Global;
 
 // The most bytes that are shown before the token, of it, and after it.
 const BEFORE: usize = 400;
@@ -59,12 +59,11 @@ impl<'t> Excerpt<'t> {
 
     /// Appends the excerpt: an empty line, the line, and a line with carets.
     #[tactic(auto, unfolding(crate::specs::Excerpts::excerpt_text), using(std::proofs::Common::append_assoc))]
-    pub fn write(&self, alloc: Global, out: &mut Vec<u8>) -> Result<(), NoMemory>
+    pub fn write(&self, out: &mut Vec<u8>) -> Result<(), NoMemory>
         ensures { OnOk result (out.new.items ≡ out.old.items ++ excerpt_text self.now) }
     {
-        let line = self.line;
-        let number = format!(in alloc; "{line}")?;
-        let digits = number.as_bytes();
+        let mut number = Buffer::new();
+        let digits = number.format(self.line).as_bytes();
         write_bar(out, digits, b" |\n")?;
         out.extend_from_slice(digits)?;
         out.extend_from_slice(b" | ")?;
@@ -101,12 +100,11 @@ impl<'t> Excerpt<'t> {
 
     /// Appends a line of help.
     #[tactic(auto, unfolding(crate::specs::Excerpts::help_text), using(std::proofs::Common::append_assoc))]
-    pub fn write_help(&self, alloc: Global, out: &mut Vec<u8>, help: &str) -> Result<(), NoMemory>
+    pub fn write_help(&self, out: &mut Vec<u8>, help: &str) -> Result<(), NoMemory>
         ensures { OnOk result (out.new.items ≡ out.old.items ++ help_text self.now.line help.now) }
     {
-        let line = self.line;
-        let number = format!(in alloc; "{line}")?;
-        write_bar(out, number.as_bytes(), b" = ")?;
+        let mut number = Buffer::new();
+        write_bar(out, number.format(self.line).as_bytes(), b" = ")?;
         out.extend_from_slice(help.as_bytes())?;
         out.push(b'\n')?;
         Ok(())

@@ -44,11 +44,11 @@ pub fn write_fault<M: fmt::Display, H: fmt::Display>(
     let sentence = message.to_string(alloc)?;
     out.extend_from_slice(sentence.as_bytes())?;
     out.push(b'\n')?;
-    excerpt.write(alloc, out)?;
+    excerpt.write(out)?;
     match help {
         Some(help) => {
             let advice = help.to_string(alloc)?;
-            excerpt.write_help(alloc, out, advice.as_str())
+            excerpt.write_help(out, advice.as_str())
         }
         None => Ok(()),
     }

@@ -4,6 +4,7 @@ ghost use Rattle.kp_view_findings.specs.Messages.{AppendsCaution, AppendsExcerpt
 ghost use Rattle.kp_view_message.specs.Texts.{message_text};
 
 use crate::finding::{Caution, Finding};
+use itoa::Buffer;
 use kp_base::{NoMemory, Place};
 use kp_view_excerpt::Excerpt;
 use kp_view_help::Help;
@@ -40,14 +41,13 @@ pub fn write_finding(
 {
     let number = finding.message.rule();
     out.push(b'\n')?;
-    write_head(alloc, out, file, finding.place, "error E", number)?;
+    write_head(out, file, finding.place, "error E", number)?;
     write_message(alloc, out, text, finding.place, finding.message)?;
     Ok(())
 }
 
 // The name of the file, the place, and what is reported there, with its number.
 fn write_head(
-    alloc: Global,
     out: &mut Vec<u8>,
     file: &[u8],
     place: Place,
@@ -57,9 +57,16 @@ fn write_head(
     ensures { OnOk result (out.new.items ≡ out.old.items ++ head_text file.now place class.now number) }
 {
     let Place { line, col } = place;
-    let head = format!(in alloc; ":{line}:{col}: {class}{number}: ")?;
+    let mut digits = Buffer::new();
     out.extend_from_slice(file)?;
-    out.extend_from_slice(head.as_bytes())?;
+    out.push(b':')?;
+    out.extend_from_slice(digits.format(line).as_bytes())?;
+    out.push(b':')?;
+    out.extend_from_slice(digits.format(col).as_bytes())?;
+    out.extend_from_slice(b": ")?;
+    out.extend_from_slice(class.as_bytes())?;
+    out.extend_from_slice(digits.format(number).as_bytes())?;
+    out.extend_from_slice(b": ")?;
     Ok(())
 }
 
@@ -77,7 +84,6 @@ pub fn write_caution(
     let line = format!(in alloc; "{warning}\n")?;
     write_gap(out)?;
     write_head(
-        alloc,
         out,
         file,
         caution.place,
@@ -111,7 +117,7 @@ fn write_excerpt(
 {
     let [first, second, third] = helps;
     let excerpt = Excerpt::at(text, place);
-    excerpt.write(alloc, out)?;
+    excerpt.write(out)?;
     write_help(alloc, out, &excerpt, first)?;
     write_help(alloc, out, &excerpt, second)?;
     write_help(alloc, out, &excerpt, third)?;
@@ -130,6 +136,6 @@ fn write_help(
         return Ok(());
     };
     let line = help.to_string(alloc)?;
-    excerpt.write_help(alloc, out, line.as_str())?;
+    excerpt.write_help(out, line.as_str())?;
     Ok(())
 }

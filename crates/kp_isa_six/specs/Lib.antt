@@ -1,0 +1,4 @@
+pub mod Text
+pub mod Six
+pub mod Isa
+pub mod Verilog
