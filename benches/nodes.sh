@@ -6,7 +6,7 @@
 set -eu
 . "$(dirname "$0")/../checks/common.sh"
 mkdir -p "$work/crates/kp_test_circuits/src" "$work/crates/kp_test_circuits/proofs" "$work/crates/kp_test_circuits/specs"
-for name in kp_base kp_pipeline kp_bits kp_net kp_pool kp_net_gates kp_cycle_plan kp_cycle; do
+for name in kp_base kp_region kp_pipeline kp_bits kp_net kp_pool kp_net_gates kp_cycle_plan kp_cycle; do
     mkdir -p "$work/crates/$name/out"
     for part in src specs proofs out/rlib; do
         [ ! -d "$top/crates/$name/$part" ] || cp -r "$top/crates/$name/$part" "$work/crates/$name/$part"

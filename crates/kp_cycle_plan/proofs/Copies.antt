@@ -1,15 +1,14 @@
 -- Copies of the complete state are disjoint from it.
 use Rattle.std.proofs.Common.{◌≡◌, ◌≢◌, ℕ, ◌+◌, ◌-◌, ◌<◌, ◌≤◌, Bool, true, false, cond, List, [], ◌∷◌, ◌++◌, length, get_or, set, map, take, drop, replicate, zero, suc, refl, sym, subst, ap, ◌∙◌, arith, ⊎_elim, inl, inr, Option, None, Some}
-use Rattle.std.proofs.lemmas.List.{get_or-set_other, length-set, map-set, length-take-le, length-map, length-append, length-drop, get_or-replicate, get_or_past, length-replicate, take-take, take_at, drop_at, ext_get_or}
+use Rattle.std.proofs.lemmas.List.{get_or-set_other, length-set, map-set, length-map, get_or-replicate, get_or_past, length-replicate, take-take, ext_get_or}
 use Rattle.std.proofs.lemmas.{Bool.cases_lt, Bool.cases_eq, Bool.cond-true, Bool.cond-false, Slice.between_is, Grind.get_or-set_at}
 use Rattle.std.{proofs.Math.ListN.get_or-map, proofs.Math.Seq.map-set_same, specs.Prelude.IsSome}
-use Rattle.kp_cycle_plan.specs.declared.span.Span.{Span}
-use Rattle.kp_cycle_plan.specs.Words.{Words, IsSound, IsWithin, IsDisjoint, span_words, written, copied}
+use Rattle.kp_region.specs.{declared.span.Span.Span, Words.Words, Words.IsWithin, Words.IsDisjoint, Words.span_words, Words.written, Words.copied, Spans.Apart, Spans.no_span}
+use Rattle.kp_region.proofs.Spans.{copy_stays, copy_lands, length_copied, span_stays, other_way, pieces_apart, apart_still, apart_grown}
 use Rattle.kp_cycle_plan.specs.declared.slots.Slot.{Slot}
-use Rattle.kp_cycle_plan.specs.inner.Spans.{Apart, IsInside, Laid, no_span, no_slot, part, state_in, held}
+use Rattle.kp_cycle_plan.specs.inner.Spans.{IsInside, IsLast, Laid, front, no_slot, part, state_in, held}
 use Rattle.kp_cycle_plan.specs.Storage.{Stored, Fits, StateFits, SlotsFit, IsStateOf, state_of}
-use Rattle.kp_cycle_plan.proofs.Laid.{laid_below, laid_above}
-use Rattle.kp_cycle_plan.proofs.Spans.{span_length, span_stays, other_way, pieces_apart, apart_still, apart_grown}
+use Rattle.kp_cycle_plan.proofs.Spans.{stored_in}
 use Rattle.kp_net.specs.Netlist.{Net, State}
 
 -- lists whose elements two functions take to the same
@@ -34,32 +33,6 @@ same_but xs ys j x d e other =
 within_disjoint : (u t s : Span) → IsInside u t → IsDisjoint t s → IsDisjoint u s
 within_disjoint u t s inside apart = ⊎_elim (λ below. inl (omega arith)) (λ above. inr (omega arith)) apart
 
-module _ (r : Words) (from to : Span) (sound : IsSound r) (from_within : IsWithin from r) (to_within : IsWithin to r) (same : from.len ≡ to.len) where
-  size : length (span_words r from) ≡ from.len
-  size = span_length r from sound from_within
-
-  length_copied : length (copied r from to).words ≡ length r.words
-  length_copied =
-      let mid : List ℕ = span_words r from in
-      let rest : List ℕ = drop (to.start + length mid) r.words in
-      omega (arith, size, length-append (take to.start r.words) (mid ++ rest), length-append mid rest, length-take-le to.start r.words (omega arith), length-drop (to.start + length mid) r.words)
-
-  -- what is disjoint from the target stays, and the target holds what the source does
-  copy_stays : (s : Span) → IsDisjoint s to → span_words (copied r from to) s ≡ span_words r s
-  copy_stays s apart =
-      let room : to.start ≤ length r.words = omega arith in
-      ⊎_elim
-      (λ below. laid_below r.words (span_words r from) to.start room s.start (s.start + s.len) below)
-      (λ above. laid_above r.words (span_words r from) to.start room s.start (s.start + s.len) (omega (arith, size)))
-      apart
-
-  copy_lands : span_words (copied r from to) to ≡ span_words r from
-  copy_lands =
-      let mid : List ℕ = span_words r from in
-      let rest : List ℕ = drop (to.start + length mid) r.words in
-      ap (take (to.start + to.len - to.start)) (drop_at (take to.start r.words) (mid ++ rest) to.start (length-take-le to.start r.words (omega arith)))
-      ∙ take_at mid rest (to.start + to.len - to.start) (omega (arith, size))
-
 saved_there : (slots : List (Option State)) (k : ℕ) → IsSome (get_or slots k None) → k < length slots
 saved_there slots k some = ⊎_elim
     (λ (l : k < length slots). l)
@@ -69,6 +42,18 @@ saved_there slots k some = ⊎_elim
 marked_saved : (b : Bool) (x : State) → IsSome (cond b (Some x) None) → b ≡ true
 marked_saved true x some = refl
 marked_saved false x some = some
+
+-- the last span of a region remains so
+pub written_last : (r : Words) (n s : Span) (i v : ℕ) → IsLast n r → IsLast n (written r s i v)
+written_last r n s i v last = (last.0, last.1 ∙ sym (length-set r.words (s.start + i) v))
+
+-- and when one span before it is copied to another
+module _ (r : Words) (n : Span) (last : IsLast n r) (from to : Span) (same : from.len ≡ to.len) (from_before : IsWithin from (front r n)) (to_before : IsWithin to (front r n)) where
+  pub copied_last : IsLast n (copied r from to)
+  copied_last = (last.0, last.1 ∙ sym (length_copied r from to (omega (arith, last)) (omega (arith, last)) (omega (arith, last)) same))
+
+  pub copied_past : span_words (copied r from to) n ≡ span_words r n
+  copied_past = copy_stays r from to (omega (arith, last)) (omega (arith, last)) (omega (arith, last)) same n (inr to_before)
 
 module _ (r : Words) (g : Span) (fs : List Span) (w : Span) (slots : List Slot) (h : Laid r g fs w slots) where
   -- the complete state, by the words of its span
@@ -135,6 +120,27 @@ module _ (r : Words) (g : Span) (fs : List Span) (w : Span) (slots : List Slot) 
       let s : Span = get_or (g ∷ fs) k no_span in
       slots_stay (written r s i v)
       (λ j there. let t : Span = (get_or slots j no_slot).span in span_stays r t s i v (other_way s t (within_disjoint s w t (h.inside k l) (other_way t w (beside_whole j there)))) m)
+
+  -- a write to words past those that are used
+  module _ (ws : List ℕ) (same : take r.used ws ≡ take r.used r.words) where
+    abbrev later : Words
+    later = record r { words = ws }
+
+    span_kept : (s : Span) → IsWithin s r → span_words later s ≡ span_words r s
+    span_kept s in_used =
+        let end : ℕ = s.start + s.len in
+        let first : take end ws ≡ take end r.words = sym (take-take end r.used ws in_used) ∙ ap (take end) same ∙ take-take end r.used r.words in_used in
+        between_is ws s.start end ∙ ap (drop s.start) first ∙ sym (between_is r.words s.start end)
+
+    pub laid_past : length ws ≡ length r.words → Laid later g fs w slots
+    laid_past many = laid_still later refl many
+
+    pub view_past : (values : List ℕ) → stored_in values g fs (map (held later g fs) slots) later ≡ stored_in values g fs (map (held r g fs) slots) r
+    view_past values =
+        let regs : span_words later g ≡ span_words r g = span_kept g (h.apart.within 0 (omega arith)) in
+        let files : map (span_words later) fs ≡ map (span_words r) fs = map_alike (span_words later) (span_words r) fs no_span (λ k l. span_kept (get_or fs k no_span) (h.apart.within (suc k) (omega arith))) in
+        let states : map (held later g fs) slots ≡ map (held r g fs) slots = slots_stay later (λ k l. span_kept (get_or slots k no_slot).span (slot_within k l)) in
+        λ i. record { nodes = values; regs = regs i; files = files i; slots = states i }
 
   -- the complete state copied into slot j
   module _ (j : ℕ) (there : j < length slots) where

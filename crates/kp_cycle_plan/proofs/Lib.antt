@@ -1,7 +1,6 @@
 pub mod Latching
 pub mod Lists
 pub mod Marking
-pub mod Laid
 pub mod Copies
 pub mod Spans
 pub mod Storing

@@ -1,7 +1,7 @@
 -- A memory after a copy between the complete state and a slot, by what its spans hold.
 use Rattle.std.proofs.Common.{◌≡◌, ◌<◌, ℕ, List, Some, None, true, length, get_or, map, set, sym, subst, ap, ◌∙◌, arith}
 use Rattle.std.{proofs.lemmas.List.get_or_default, proofs.lemmas.List.length-map, specs.Prelude.IsSome}
-use Rattle.kp_cycle_plan.specs.{declared.span.Span.Span, Words.Words, Words.IsWithin, Words.IsDisjoint, Words.span_words, Words.copied}
+use Rattle.kp_region.specs.{declared.span.Span.Span, Words.Words, Words.IsWithin, Words.IsDisjoint, Words.span_words, Words.copied}
 use Rattle.kp_cycle_plan.specs.{declared.slots.Slot.Slot, inner.Spans.Laid, inner.Spans.no_slot, inner.Spans.state_in, inner.Spans.held}
 use Rattle.kp_cycle_plan.specs.Storage.{Stored, state_of}
 use Rattle.kp_cycle_plan.proofs.Copies.{is_marked, slot_within, beside_whole, laid_saved, state_saved, slots_saved, laid_loaded, held_loaded, slots_loaded}

@@ -1,7 +1,6 @@
 pub mod Codes
 pub mod Latches
 pub mod Plans
-pub mod Words
 pub mod Storage
 pub mod Lending
 pub mod inner

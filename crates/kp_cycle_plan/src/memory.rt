@@ -1,4 +1,4 @@
-// The storage of a simulator: one region with the registers, the files and the saved states, and the values of the nodes.
+// The storage of a simulator: one region with the registers, the files, the saved states and the values of the nodes.
 ghost use Rattle.std.specs.Prelude.{◌≡◌, ◌<◌, ◌≤◌, ◌++◌, [], length, get_or, set, take, drop, replicate, None, Some, IsSome, IfOk, All};
 ghost use Rattle.std.specs.List.{sum_by};
 ghost use Rattle.std.specs.Borrow.{sem};
@@ -6,59 +6,57 @@ ghost use Rattle.kp_net.specs.Netlist.{Net, start_regs, start_of};
 ghost use Rattle.kp_cycle_plan.specs.{Storage.Stored, Storage.Fits, Storage.FitsBelow, Storage.state_of, Lending.LendsNodes};
 
 use crate::slots::{Slot, carve_slots, words_of_slots};
-use crate::{Region, Span};
 use kp_base::NoMemory;
 use kp_net::{NetFile, Netlist};
+use kp_region::{Region, Span};
 use std::alloc::Global;
 use std::marker::Model;
 
-/// The registers of a netlist and the words of its files, each in a span of one region. The registers are in the first
-/// span, so that the index of a register is that of its word. All these are adjacent, so that the complete state is a
-/// span as well, and each slot is another span of its size. The values of the nodes are no part of the state: each cycle
-/// computes those that are needed.
+/// The registers of a netlist, the words of its files and the values of its nodes, each in a span of one region. The
+/// registers are in the first span, so that the index of a register is that of its word. Registers and files are adjacent,
+/// so that the complete state is a span as well, and each slot is another span of its size. The nodes are in the last span.
+/// Their values are no part of the state: each cycle computes those that are needed.
 pub struct Memory {
-    nodes: Vec<u64>,
     region: Region,
     reg_count: u32,
     files: Vec<Span>,
     whole: Span,
     slots: Vec<Slot>,
+    nodes: Span,
 }
 
 impl Drop for Memory {
     fn drop(self) {
         let Memory {
-            nodes,
             region,
             reg_count: _,
             files,
-            whole,
+            whole: _,
             slots,
+            nodes: _,
         } = self;
-        drop(nodes);
         drop(region);
         drop(files);
-        drop(whole);
         drop(slots);
     }
 }
 
 impl Model for Memory {
     ghost use Rattle.std.specs.Prelude.{map};
-    ghost use Rattle.kp_cycle_plan.specs.Words.{span_words};
+    ghost use Rattle.kp_region.specs.Words.{span_words};
     ghost use Rattle.kp_cycle_plan.specs.Storage.{Stored};
-    ghost use Rattle.kp_cycle_plan.specs.inner.Spans.{first_span, held, Laid};
+    ghost use Rattle.kp_cycle_plan.specs.inner.Spans.{first_span, front, held, IsLast, Laid};
 
     ghost Value = { Stored };
 
     ghost view = { λ m. record {
-      nodes = m.nodes.items;
+      nodes = span_words m.region m.nodes;
       regs = span_words m.region (first_span m.reg_count);
       files = map (span_words m.region) m.files.items;
       slots = map (held m.region (first_span m.reg_count) m.files.items) m.slots.items;
     } };
 
-    ghost invariant = { λ m. Laid m.region (first_span m.reg_count) m.files.items m.whole m.slots.items };
+    ghost invariant = { λ m. Laid (front m.region m.nodes) (first_span m.reg_count) m.files.items m.whole m.slots.items × IsLast m.nodes m.region };
 }
 
 impl Memory {
@@ -78,7 +76,7 @@ impl Memory {
         Ok(memory)
     }
 
-    // A span for the registers, one for each file, and for each slot one of the size of all these together.
+    // A span for the registers, one for each file, for each slot one of the size of all these together, and one for the nodes.
     #[tactic(auto, using(std::proofs::lemmas::List::Sums::sum_by_more_le))]
     fn lay_out(alloc: Global, net: &Netlist, slots: u32) -> Result<Memory, NoMemory>
         requires { slots ≤ 64 }
@@ -91,9 +89,9 @@ impl Memory {
         let file_words = words_of(files);
         let size = reg_count + file_words;
         let slot_words = words_of_slots(slots, size);
+        let node_count = net.nodes().len() as u32;
         let mut spans = Vec::with_capacity(alloc, files.len())?;
-        let nodes = vec![in alloc; 0; net.nodes().len()]?;
-        let mut region = Region::take(alloc, size + slot_words)?;
+        let mut region = Region::take(alloc, size + slot_words + node_count)?;
         let regs = region.carve(reg_count).unwrap();
         for file in files {
             let span = region.carve(file.words.as_slice().len() as u32).unwrap();
@@ -104,13 +102,14 @@ impl Memory {
             len: size,
         };
         let copies = carve_slots(alloc, &mut region, size, slots)?;
+        let nodes = region.carve(node_count).unwrap();
         Ok(Memory {
-            nodes,
             region,
             reg_count: regs.len,
             files: spans,
             whole,
             slots: copies,
+            nodes,
         })
     }
 
@@ -119,7 +118,7 @@ impl Memory {
         requires { i < length self.now.nodes }
         ensures { result ≡ get_or self.now.nodes i 0 }
     {
-        self.nodes[i as usize]
+        self.region.get(self.nodes, i)
     }
 
     /// Sets the value of a node.
@@ -127,7 +126,7 @@ impl Memory {
         requires { i < length self.old.nodes }
         ensures { self.new ≡ record self.old { nodes = set self.old.nodes i value } }
     {
-        self.nodes[i as usize] = value;
+        self.region.put(self.nodes, i, value);
     }
 
     /// The values of all nodes, to be changed.
@@ -135,7 +134,7 @@ impl Memory {
         ensures* writes_back { sem 𝓛 (LendsNodes self.entry result) }
         ensures value { result.now ≡ self.old.nodes }
     {
-        self.nodes.as_mut_slice()
+        self.region.words_mut(self.nodes)
     }
 
     /// Copies the first registers to the first nodes.
@@ -144,12 +143,15 @@ impl Memory {
         requires regs { count ≤ length self.old.regs }
         ensures { self.new ≡ record self.old { nodes = take count self.old.regs ++ drop count self.old.nodes } }
     {
-        let span = Span {
+        let from = Span {
             start: 0,
-            len: self.reg_count,
+            len: count,
         };
-        let regs = self.region.words(span);
-        copy_front(self.nodes.as_mut_slice(), regs, count as usize);
+        let to = Span {
+            start: self.nodes.start,
+            len: count,
+        };
+        self.region.copy(from, to);
     }
 
     /// The value of a register.
@@ -223,15 +225,6 @@ impl Memory {
         let copy = self.slots[slot as usize];
         self.region.copy(copy.span, self.whole);
     }
-}
-
-// Copies the first of the registers over the first of the nodes.
-fn copy_front(nodes: &mut [u64], regs: &[u64], count: usize)
-    requires nodes { count ≤ length nodes.old }
-    requires regs { count ≤ length regs.now }
-    ensures { nodes.new ≡ take count regs.now ++ drop count nodes.old }
-{
-    nodes[..count].copy_from_slice(&regs[..count]);
 }
 
 // The number of words of all files.

@@ -1,9 +1,10 @@
 // Slots for saved states.
-ghost use Rattle.std.specs.Prelude.{◌≡◌, ◌+◌, ◌*◌, ◌≤◌, ◌^◌, ◌<◌, ℕ, List, ◌++◌, length, get_or, map, replicate, false, IfOk};
-ghost use Rattle.kp_cycle_plan.specs.{declared.span.Span.Span as Stretch, Words.IsSound, inner.Spans.Apart, inner.Spans.no_slot};
+ghost use Rattle.std.specs.Prelude.{◌≡◌, ◌+◌, ◌*◌, ◌≤◌, ◌^◌, ◌<◌, ℕ, List, ◌++◌, length, get_or, map, replicate, false, IfOk, OnOk};
+ghost use Rattle.kp_region.specs.{declared.span.Span.Span as Stretch, Spans.Apart};
+ghost use Rattle.kp_cycle_plan.specs.inner.Spans.{no_slot};
 
-use crate::{Region, Span};
 use kp_base::NoMemory;
+use kp_region::{Region, Span};
 use std::alloc::Global;
 
 /// Storage for a copy of the complete state, and whether one was saved in it.
@@ -36,7 +37,8 @@ pub fn carve_slots(
     ensures sizes { IfOk result (λ slots. (k : ℕ) → k < count → (get_or slots.items k no_slot).span.len ≡ size) }
     ensures unsaved { IfOk result (λ slots. map (λ s. s.is_saved) slots.items ≡ replicate count false) }
     ensures apart { IfOk result (λ slots. (spans : List Stretch) → Apart region.old spans → Apart region.new (spans ++ map (λ s. s.span) slots.items)) }
-    ensures used { region.old.used ≤ region.new.used }
+    ensures used { OnOk result (region.new.used ≡ region.old.used + count * size) }
+    ensures words { length region.new.words ≡ length region.old.words }
 {
     let mut slots = Vec::with_capacity(alloc, count as usize)?;
     for _ in 0..count {

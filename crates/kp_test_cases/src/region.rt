@@ -1,7 +1,7 @@
 //! Cases of regions of words.
 use crate::head::{cut, number, numbers_in};
 use crate::report::{Report, Term};
-use kp_cycle_plan::Region;
+use kp_region::Region;
 use std::alloc::Global;
 
 /// Appends the spans that are carved from a new region, which has as many words as the head begins with.

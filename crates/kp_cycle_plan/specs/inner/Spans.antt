@@ -1,23 +1,12 @@
--- Disjoint spans of a region.
-use Rattle.std.specs.Prelude.{ℕ, ◌+◌, ◌^◌, ◌≡◌, ◌<◌, ◌≤◌, if◌then◌else◌, false, List, ◌∷◌, length, get_or, map, slice_range, Option, None, Some}
-use Rattle.kp_cycle_plan.specs.{declared.span.Span.Span, Words.Words, Words.IsSound, Words.IsWithin, Words.IsDisjoint, Words.span_words}
+-- The spans of a memory.
+use Rattle.std.specs.Prelude.{ℕ, ◌+◌, ◌≡◌, ◌<◌, ◌≤◌, if◌then◌else◌, false, List, ◌∷◌, length, get_or, map, slice_range, Option, None, Some}
+use Rattle.kp_region.specs.{declared.span.Span.Span, Words.Words, Words.span_words, Words.released, Spans.Apart, Spans.no_span}
 use Rattle.kp_cycle_plan.specs.declared.slots.Slot.{Slot}
 use Rattle.kp_net.specs.Netlist.{State}
-
--- the default for a span that doesn't exist
-abbrev pub no_span : Span
-no_span = record { start = 0; len = 0 }
 
 -- the first span of a region
 abbrev pub first_span : ℕ → Span
 first_span n = record { start = 0; len = n }
-
--- all spans end within the used words, which are fewer than 2^32, and no two of them overlap
-pub record Apart (r : Words) (spans : List Span) : Type 0 where
-  pub sound : IsSound r
-  pub few : r.used < 2 ^ 32
-  pub within : (k : ℕ) → k < length spans → IsWithin (get_or spans k no_span) r
-  pub apart : (j k : ℕ) → j < k → k < length spans → IsDisjoint (get_or spans j no_span) (get_or spans k no_span)
 
 -- one span is inside another
 abbrev pub IsInside : Span → Span → Type 0
@@ -47,3 +36,11 @@ pub record Laid (r : Words) (regs : Span) (files : List Span) (whole : Span) (sl
   pub inside : (k : ℕ) → k < length (regs ∷ files) → IsInside (get_or (regs ∷ files) k no_span) whole
   pub beside : Apart r (whole ∷ map (λ s. s.span) slots)
   pub sizes : (k : ℕ) → k < length slots → (get_or slots k no_slot).span.len ≡ whole.len
+
+-- a region up to a span
+abbrev pub front : Words → Span → Words
+front r s = released r s.start
+
+-- the span has the last words of a region, and all words are used
+abbrev pub IsLast : Span → Words → Type 0
+IsLast s r = (s.start + s.len ≡ r.used) × (r.used ≡ length r.words)

@@ -1,15 +1,11 @@
-use Rattle.std.proofs.Common.{◌≡◌, ◌+◌, ◌*◌, ◌^◌, ◌<◌, ◌≤◌, ℕ, List, [], ◌∷◌, ◌++◌, length, get_or, map, false, Bool, Result, Ok, Err, subst, sym, ap, ◌∙◌, refl, arith, append_assoc, ⊎_elim}
+use Rattle.std.proofs.Common.{◌≡◌, ◌+◌, ◌*◌, ◌^◌, ◌<◌, ◌≤◌, ℕ, List, [], ◌∷◌, ◌++◌, length, get_or, map, false, Bool, Result, subst, sym, ap, ◌∙◌, arith, append_assoc, ⊎_elim}
 use Rattle.std.proofs.Math.Nat.{mul-le-mul_right}
 use Rattle.std.proofs.lemmas.{List.map-append, List.replicate_more, List.get_or_append_left, List.length-append, List.get_or_at, Bool.cases_lt}
-use Rattle.std.specs.Prelude.{IsOk, IsErr, IfOk, OnOk}
-use Rattle.kp_cycle_plan.specs.{declared.span.Span.Span, declared.region.Full.Full, Words.Words, Words.IsSound, Words.next_span, Words.carved}
-use Rattle.kp_cycle_plan.specs.{declared.slots.Slot.Slot, inner.Spans.Apart, inner.Spans.no_slot}
-use Rattle.kp_cycle_plan.proofs.Spans.{apart_carved, length_carved}
+use Rattle.std.specs.Prelude.{IfOk, OnOk}
+use Rattle.kp_region.specs.{declared.span.Span.Span, declared.region.Full.Full, Words.Words, Words.IsSound, Words.next_span, Words.carved, Spans.Apart}
+use Rattle.kp_cycle_plan.specs.{declared.slots.Slot.Slot, inner.Spans.no_slot}
+use Rattle.kp_region.proofs.Spans.{apart_carved, length_carved, ok_unless}
 use Rattle.kp_cycle_plan.proofs.slots.carve_slots.Goals as goal
-
-ok_unless : {T E : Type 0} (r : Result T E) → (IsErr r → ⊥) → IsOk r
-ok_unless (Ok x) f = refl
-ok_unless (Err e) f = absurd (f refl)
 
 -- the capacity suffices for one more
 room_more : (used size i count words : ℕ) → i < count → used + count * size ≤ words → used + i * size + size ≤ words

@@ -1,5 +1,6 @@
 use Rattle.std.proofs.Common.{◌≡◌, ◌+◌, ◌*◌, ◌<◌, ℕ, List, ◌++◌, length, get_or, map, replicate, false}
-use Rattle.kp_cycle_plan.specs.{declared.span.Span.Span, inner.Spans.Apart, inner.Spans.no_slot}
+use Rattle.kp_region.specs.{declared.span.Span.Span, Spans.Apart}
+use Rattle.kp_cycle_plan.specs.inner.Spans.{no_slot}
 use Rattle.kp_cycle_plan.proofs.slots.carve_slots.Given as goal
 
 abbrev pub invariant-loop : goal.invariant-loop

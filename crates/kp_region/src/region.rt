@@ -1,6 +1,8 @@
 // A region of words and its operations.
 ghost use Rattle.std.specs.Prelude.{◌≡◌, ◌+◌, ◌<◌, ◌≤◌, ◌↔◌, length, slice_index, IfOk, OnOk, OnErr, IsErr};
-ghost use Rattle.kp_cycle_plan.specs.Words.{IsSound, IsWithin, IsDisjoint, fresh, next_span, span_words, carved, written, copied, released};
+ghost use Rattle.std.specs.Borrow.{sem};
+ghost use Rattle.kp_region.specs.Lending.{LendsWords};
+ghost use Rattle.kp_region.specs.Words.{IsSound, IsWithin, IsDisjoint, fresh, next_span, span_words, carved, written, copied, released};
 
 use crate::span::Span;
 use kp_base::NoMemory;
@@ -36,7 +38,7 @@ pub struct Region {
 
 impl Model for Region {
     ghost use Rattle.std.specs.Prelude.{◌≤◌, ◌<◌, ◌^◌, length};
-    ghost use Rattle.kp_cycle_plan.specs.Words.{Words};
+    ghost use Rattle.kp_region.specs.Words.{Words};
 
     ghost Value = { Words };
 
@@ -101,6 +103,16 @@ impl Region {
         ensures sound { IsSound self.new }
     {
         self.words[s.start as usize + i as usize] = v;
+    }
+
+    /// All words of the span, to be changed.
+    pub fn words_mut(&mut self, s: Span) -> &mut [u64]
+        requires within { IsWithin s self.old }
+        ensures* writes_back { sem 𝓛 (LendsWords self.entry s result) }
+        ensures value { result.now ≡ span_words self.old s }
+    {
+        let start = s.start as usize;
+        self.words.slice_mut(start..start + s.len as usize)
     }
 
     /// Copies the words of one span over those of another.

@@ -1,7 +1,7 @@
 //! How spans of a region are related. Each function has an empty body: its clause is a law.
 ghost use Rattle.std.specs.Prelude.{◌≡◌, ℕ, ◌+◌, ◌<◌, ◌≤◌, length, slice_index, slice_set, replicate};
-ghost use Rattle.kp_cycle_plan.specs.Words.{Words, IsSound, IsWithin, IsDisjoint, span_words, next_span, carved, written, copied, released};
-ghost use Rattle.kp_cycle_plan.specs.declared.span.Span.{Span};
+ghost use Rattle.kp_region.specs.Words.{Words, IsSound, IsWithin, IsDisjoint, span_words, next_span, carved, written, copied, released};
+ghost use Rattle.kp_region.specs.declared.span.Span.{Span};
 
 /// A word of a span, by its index in the span, is the word of the region that `get` returns.
 pub fn words_of_spans()

@@ -2,7 +2,7 @@
 use Rattle.std.proofs.Common.{◌≡◌, ◌∙◌, ℕ, ◌+◌, ◌-◌, ◌≤◌, List, length, take, drop, arith, sym, ap, refl}
 use Rattle.std.proofs.lemmas.{List.length-take-le, List.take-append-le, List.take-take, List.drop-drop, Slice.between_is, Slice.drop-put_mid}
 use Rattle.std.specs.Prelude.{slice_range}
-use Rattle.kp_cycle_plan.specs.Words.{laid_over}
+use Rattle.kp_region.specs.Words.{laid_over}
 
 module _ (ws others : List ℕ) (at : ℕ) (room : at ≤ length ws) where
   -- the words before

@@ -1,6 +1,6 @@
 use Rattle.std.proofs.{Common.◌≡◌, Common.◌+◌, Common.◌≤◌, Common.length, Common.arith, Common.⊎_elim, lemmas.List.Edits.length-between}
-use Rattle.kp_cycle_plan.{specs.Words.span_words, proofs.Laid.laid_below, proofs.Laid.laid_above}
-use Rattle.kp_cycle_plan.proofs.laws.copies_stay_apart.Goals as goal
+use Rattle.kp_region.{specs.Words.span_words, proofs.Laid.laid_below, proofs.Laid.laid_above}
+use Rattle.kp_region.proofs.laws.copies_stay_apart.Goals as goal
 
 pub returns : goal.returns
 returns c r s from to sound from_within to_within same apart =

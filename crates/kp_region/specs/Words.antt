@@ -1,6 +1,7 @@
 -- A region: a list of words, a prefix of which is used, and spans of it.
 use Rattle.std.specs.Prelude.{ℕ, ◌+◌, ◌≤◌, ◌⊎◌, List, ◌++◌, length, take, drop, replicate, slice_set, slice_range}
-use Rattle.kp_cycle_plan.specs.declared.span.Span.{Span}
+use Rattle.std.specs.List.{refill}
+use Rattle.kp_region.specs.declared.span.Span.{Span}
 
 -- all words of a region, and how many of them, from the first one, are used
 pub record Words : Type 0 where
@@ -46,6 +47,10 @@ written r s i v = record r { words = slice_set r.words (s.start + i) v }
 -- a span is copied over another of its length
 abbrev pub copied : Words → Span → Span → Words
 copied r from to = record r { words = laid_over r.words to.start (span_words r from) }
+
+-- words are written over as many from the start of a span on, and over none past the last
+abbrev pub overwritten : Words → Span → List ℕ → Words
+overwritten r s ws = record r { words = refill (length r.words) r.words (take s.start r.words ++ (ws ++ drop (length ws) (drop s.start r.words))) }
 
 -- only this many words are used, and all words are unchanged
 abbrev pub released : Words → ℕ → Words
