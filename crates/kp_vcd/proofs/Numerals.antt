@@ -1,12 +1,12 @@
 -- How the numbers and the bits of a dump's text are read.
 use Rattle.std.proofs.Common.{◌≡◌, ◌∙◌, refl, sym, ap, ap₂, subst, arith, ℕ, zero, suc, ◌+◌, ◌*◌, ◌/◌, ◌%◌, ◌^◌, ◌<◌, ◌≤◌, Bool, true, false, not, ltb, List, [], ◌∷◌, length, map, fold, get_or, Option, None, Some, Ok, Err}
-use Rattle.std.proofs.lemmas.{Bool.cond-true, Bool.and_from, Bool.agree_below_at, Bool.lt-ltb, Bool.le-leb, Fmt.decimal-digits_of}
+use Rattle.std.proofs.lemmas.{Bool.cond-true, Bool.and_from, Bool.agree_below_at, Bool.lt-ltb, Bool.le-leb}
 use Rattle.std.proofs.lemmas.{Int.Digits.all_below_base_digits_of, Int.Digits.first_digits_of, Int.Digits.length-digits_of_step, List.length-map}
 use Rattle.std.proofs.{lemmas.Nat.mod-pow-add, Math.Nat.mod-eq_of_lt, Math.Nat.pow-suc, Math.Nat.add-mul, Math.Nat.mul_assoc, Math.Nat.mul_comm}
 use Rattle.std.specs.Prelude.{codes, decimal, nat_le, nat_lt, ◌==◌, ◌&&◌, ◌-◌, unwrap_or, if◌then◌else◌}
 use Rattle.std.specs.{Fmt.digits, Char.digit_char, Int.Digits.digits_of, Int.Digits.AllBelowBase, List.list_all}
 use Rattle.kp_bits.specs.Literals.{is_number, numeral_next, numeral_value, number_within, number_of}
-use Rattle.kp_bits.{specs.Spelling.decimal_digits, specs.Word.word, proofs.RoundTrips.decimal_value, proofs.RoundTrips.decimal_number}
+use Rattle.kp_bits.{specs.Spelling.decimal_digits, specs.Word.word, proofs.RoundTrips.decimal_value, proofs.RoundTrips.decimal_number, proofs.Spellings.decimal_spelled}
 use Rattle.kp_vcd.specs.{Text.bit_digits, Forms.capped, Forms.is_padded, Forms.index_in, Forms.width_of, Forms.is_bit, Forms.are_bits, Forms.value_of}
 use Rattle.kp_vcd.proofs.Spots.{is_part}
 
@@ -16,15 +16,6 @@ pub record IsPlain (w : List ℕ) : Type 0 where
   pub parts : list_all is_part w ≡ true
 
 -- ---- numbers
-
-same_digits : (ds : List ℕ) → AllBelowBase 10 ds → map (λ d. 48 + d) ds ≡ map digit_char ds
-same_digits [] h = refl
-same_digits (d ∷ ds) h =
-    ap (λ c. c ∷ map (λ d. 48 + d) ds) (sym (cond-true (nat_lt d 10) (48 + d) (87 + d) (lt-ltb d 10 h.0)))
-    ∙ ap (λ (cs : List ℕ). digit_char d ∷ cs) (same_digits ds h.1)
-
-spelled : (n : ℕ) → 1 ≤ n → n < 2 ^ 64 → decimal n ≡ decimal_digits n
-spelled n low h = decimal-digits_of n low h ∙ same_digits (digits_of 10 n) (all_below_base_digits_of 10 n (omega arith))
 
 digits_plain : (ds : List ℕ) → AllBelowBase 10 ds → list_all is_part (map digit_char ds) ≡ true
 digits_plain [] h = refl
@@ -50,7 +41,7 @@ zero_spelled = refl
 pub is_numeral : (n : ℕ) → n < 2 ^ 64 → IsNumeral n (decimal n)
 is_numeral zero h = subst (IsNumeral zero) (sym zero_spelled) (record { plain = record { some = omega arith; parts = refl }; number = refl; value = refl; padded = refl })
 is_numeral (suc k) h =
-    subst (IsNumeral (suc k)) (sym (spelled (suc k) (omega arith) h))
+    subst (IsNumeral (suc k)) (sym (decimal_spelled (suc k) (omega arith) h))
     (record {
       plain = record {
         some = let l = length-digits_of_step 10 (suc k) (omega arith) (omega arith) in let m = length-map (digits_of 10 (suc k)) digit_char in omega (arith, l, m);

@@ -1,16 +1,15 @@
 -- Runs of bytes that are written: decimal numbers, literals, names.
-use Rattle.std.proofs.Common.{◌≡◌, ◌∙◌, ℕ, zero, suc, ◌+◌, ◌*◌, ◌/◌, ◌%◌, ◌^◌, ◌≤◌, ◌<◌, List, [], ◌∷◌, ◌++◌, length, take, map, Bool, true, false, Some, None, refl, sym, ap, subst, arith, length-append, nat_lt, add-one}
-use Rattle.std.proofs.lemmas.{Fmt.decimal_by_steps, Fmt.length-decimal-le, Fmt.decimal-digits_of, Int.Digits.all_below_base_digits_of}
+use Rattle.std.proofs.Common.{◌≡◌, ◌∙◌, ℕ, zero, suc, ◌+◌, ◌*◌, ◌/◌, ◌%◌, ◌^◌, ◌≤◌, ◌<◌, List, [], ◌∷◌, ◌++◌, length, take, Bool, true, false, Some, None, refl, sym, ap, subst, arith, length-append, nat_lt, add-one}
+use Rattle.std.proofs.lemmas.{Fmt.decimal_by_steps, Fmt.length-decimal-le}
 use Rattle.std.proofs.lemmas.Bool.{agree_below_at, cond-true, cond-false, and_from, lt-ltb, le-ltb, and_right, agree_below, and_left, Decides.nat_tests}
 use Rattle.std.proofs.Math.Seq.{take-append_seam, drop-append_seam}
 use Rattle.std.specs.{Prelude.codes, Prelude.decimal, Prelude.fold, Prelude.◌==◌, Prelude.◌&&◌, List.list_all, Char.digit_char}
-use Rattle.std.specs.Int.Digits.{digits_of, AllBelowBase}
 use Rattle.std.specs.Char as chars
 use Rattle.kp_bits.specs.Word as bits
 use Rattle.kp_bits.specs.Literals as read
 use Rattle.kp_bits.specs.Literals.{number_of, numeral_next, numeral_value, number_within, is_number}
 use Rattle.kp_bits.specs.{Spelling.decimal_digits, Spelling.hex_digits, Spelling.quarters, Spelling.spelling, declared.literal.Literal.Literal}
-use Rattle.kp_bits.proofs.RoundTrips.{spelling_read}
+use Rattle.kp_bits.proofs.{RoundTrips.spelling_read, Spellings.decimal_spelled}
 use Rattle.kp_net.specs.Names.{is_in_identifier}
 use Rattle.kp_base.specs.Characters.{is_digit, run_length, is_letter}
 use Rattle.kp_vlog.specs.Tokens.{Word, name, number, literal, takes, broken, front, is_in_run, identifier, keyword_or_name, number_run, number_or_literal, literal_or_broken, is_layout, begins_with, Front}
@@ -128,13 +127,6 @@ spells_number n rest ws h stop s =
 abbrev pub literal_for : bits.Word → Literal
 literal_for a = record { width = a.width; value = a.value }
 
-same_digits : (ds : List ℕ) → AllBelowBase 10 ds → map (λ d. 48 + d) ds ≡ map digit_char ds
-same_digits [] h = refl
-same_digits (d ∷ ds) h = ap (λ c. c ∷ map (λ d. 48 + d) ds) (sym (cond-true (nat_lt d 10) (48 + d) (87 + d) (lt-ltb d 10 h.0))) ∙ ap (λ (cs : List ℕ). digit_char d ∷ cs) (same_digits ds h.1)
-
-width_digits : (n : ℕ) → 1 ≤ n → n < 2 ^ 64 → decimal n ≡ decimal_digits n
-width_digits n low h = decimal-digits_of n low h ∙ same_digits (digits_of 10 n) (all_below_base_digits_of 10 n (omega arith))
-
 hex_runs : (k v : ℕ) → Each is_in_run (hex_digits k v)
 hex_runs zero v = tt
 hex_runs (suc k) v = (agree_below_at (λ d. is_in_run (digit_char d)) (λ _. true) 16 (v / 16 ^ k % 16) refl (omega arith), hex_runs k v)
@@ -154,7 +146,7 @@ spells_literal a rest ws h stop s =
     let low = h.positive in
     let high = h.at_most in
     let digits = hex_digits (quarters a.width) a.value in
-    let same : decimal a.width ≡ decimal_digits a.width = width_digits a.width low (omega arith) in
+    let same : decimal a.width ≡ decimal_digits a.width = decimal_spelled a.width low (omega arith) in
     let value : number_run (spelling a) ≡ takes (literal (literal_for a)) (length (spelling a)) =
     ap (number_or_literal (spelling a)) (no_number (decimal_digits a.width) (104 ∷ digits)) ∙ ap (literal_or_broken (length (spelling a))) (spelling_read a h) in
     spells_led (spelling a) rest (literal (literal_for a)) ws
