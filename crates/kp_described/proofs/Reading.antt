@@ -54,9 +54,9 @@ module _ (text : List ℕ) (lexed : Lexed) (j : Job) (outcome : HasOutcome text 
   by_tokens r (Some ts) e h =
       let f = finds 1000000 [] [] text lexed ts outcome e in
       let all : lexemes text lexed.tokens ≡ map lexeme ts ++ map (lexeme_of text) f.more =
-          ap (lexemes text) f.tokens ∙ map-append (lexeme_of text) (map (λ (t : Found). t.0) ts) f.more ∙ ap (λ (x : List Lexeme). x ++ map (lexeme_of text) f.more) f.bytes in
+      ap (lexemes text) f.tokens ∙ map-append (lexeme_of text) (map (λ (t : Found). t.0) ts) f.more ∙ ap (λ (x : List Lexeme). x ++ map (lexeme_of text) f.more) f.bytes in
       let l : Led (Nonterminal JOB ∷ []) (at [] []) (lexemes text lexed.tokens) (Accepts (at [] (job j ∷ []))) =
-          is_accepted language tables JOB is_predictive never (no_limit language) tree refl in
+      is_accepted language tables JOB is_predictive never (no_limit language) tree refl in
       record {
         more = map (lexeme_of text) f.more;
         leads = along 1000000 (Nonterminal JOB ∷ []) (at [] []) (map lexeme ts) (map (lexeme_of text) f.more) _ _ r
