@@ -1,0 +1,5 @@
+use Rattle.kp_isa_rv.proofs.Predicting.{same_ib}
+use Rattle.kp_isa_rv.proofs.rv32ib.an_instruction_is_that_of_rv32i.Goals as goal
+
+pub returns : goal.returns
+returns c = same_ib
