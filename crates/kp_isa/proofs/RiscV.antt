@@ -1,11 +1,12 @@
 -- A legal run of the RISC-V description is one by the table.
-use Rattle.std.proofs.Common.{◌≡◌, ◌∙◌, ℕ, ◌*◌, ◌/◌, ◌%◌, ◌<◌, ◌^◌, List, [], Option, None, refl, ap, sym, subst, arith}
+use Rattle.std.proofs.Common.{◌≡◌, ◌∙◌, ℕ, ◌*◌, ◌/◌, ◌%◌, ◌<◌, ◌^◌, List, [], Option, None, refl, ap, sym, subst, arith, Bool, true, false, cond, eqb}
+use Rattle.std.proofs.lemmas.Bool.{ne_eqb}
 use Rattle.std.specs.Prelude.{codes, unwrap_or}
 use Rattle.kp_ast.specs.declared.tree.{Image.Image, Stalls.Stalls, Inputs.Inputs as Entries, Job.Job}
 use Rattle.kp_pipeline.specs.{Machine.Machine, Pipeline.Inputs, Rows.Trace, Rows.passed, Rows.taken, Sequential.seq}
 use Rattle.kp_stage.specs.Start.{start_of, image_of}
 use Rattle.kp_machine.specs.{Machine.state_of, Machine.machine_of, Machine.result_for}
-use Rattle.kp_sched.specs.{Legal.IsLegalFrom, Legal.value_from, Runs.passes}
+use Rattle.kp_sched.specs.{Legal.IsLegalFrom, Legal.value_from, Runs.passes, Anew.left_by_reset}
 use Rattle.kp_described.specs.Sections.{IsHead, HasSections, with_sections}
 use Rattle.kp_described.proofs.Sections.{described}
 use Rattle.kp_isa_rv.specs.{Text.rv32i_text, Rv32i.rv32i}
@@ -19,6 +20,14 @@ use Rattle.kp_isa.proofs.Memory.{unless_set, same_machine, five_stages}
 head_read : IsHead rv32i_head (rv32i None)
 unfolding rv32i_text
 head_read = record { image = λ rest. refl; stalls = λ rest. refl; ends = λ rest. refl }
+
+-- x0 is 0, whatever its word of the file is
+zero_or : (b : Bool) (x : ℕ) → x < 2 ^ 32 → cond b 0 x < 2 ^ 32
+zero_or true x h = omega arith
+zero_or false x h = h
+
+unless_zero : (n x : ℕ) → 0 < n → cond (eqb n 0) 0 x ≡ x
+unless_zero n x h = ap (λ (b : Bool). cond b 0 x) (ne_eqb n 0 (λ z. omega arith))
 
 module _ (image : Option (List Image)) (stalls : Option (List Stalls)) (inputs : Option (List Entries)) where
   abbrev own : Job
@@ -51,7 +60,8 @@ module _ (image : Option (List Image)) (stalls : Option (List Stalls)) (inputs :
     follows_own : Follows s trace
     follows_own = record {
       pc = λ T c h r. legal T 0 0 h (record { target = omega arith; address = omega arith }) ∙ value0 T ∙ ap (λ (c : Cpu). c.pc) (shows T 2 c r);
-      regs = λ T n c h small r. legal T 2 n h (record { target = omega arith; address = small }) ∙ value2 T n ∙ ap (λ (c : Cpu). c.regs n) (shows T 4 c r);
+      regs = λ T n c h positive small r.
+          legal T 2 n h (record { target = omega arith; address = small }) ∙ value2 T n ∙ sym (unless_zero n _ positive) ∙ ap (λ (c : Cpu). c.regs n) (shows T 4 c r);
       mem = λ T a c h r.
           ap (λ (w : ℕ). w / 2 ^ (8 * bits a 1 0) % 2 ^ 8) (legal T 3 (word_at a) h (record { target = omega arith; address = in_word a }) ∙ value3 T (word_at a))
           ∙ ap (λ (c : Cpu). c.mem a) (shows T 3 c r);
@@ -63,6 +73,12 @@ unfolding state_of start_of
 address j (image, stalls, inputs, e) =
     subst (λ (j : Job). Leaves (codes "PC") (image_of j) → start_state j 0 0 ≡ 0x100000) (sym e) (λ h. unless_set (codes "PC") (unwrap_or image []) 0x100000 h)
 
+-- where the table applies at the start, and after a reset
+pub ready : (job : Job) (s : ℕ → ℕ → ℕ) → HasSections (rv32i None) job → Leaves (codes "PC") (image_of job) → IsReady (start_state job) × IsReady (left_by_reset job s)
+ready job s (image, stalls, inputs, e) leaves =
+    let start = address job (image, stalls, inputs, e) leaves in
+    (ap (λ (n : ℕ). n % 4) start, subst (λ (job : Job). start_state job 0 0 ≡ 0x100000 → IsReady (left_by_reset job s)) (sym e) (λ h. ap (λ (n : ℕ). n % 4) h) start)
+
 -- the table gives one state
 pub one : (s : ℕ → ℕ → ℕ) (c d : Cpu) → IsState s → Executes (cpu_of s) (s 1 (word_at (s 0 0))) c → Executes (cpu_of s) (s 1 (word_at (s 0 0))) d → c ≡ d
 one s c d ok x y = sym (step None (λ q. 0) s c ok x) ∙ step None (λ q. 0) s d ok y
@@ -72,9 +88,8 @@ is_state job s (image, stalls, inputs, e) fits ready =
     let values : Fits (with_sections (rv32i None) image stalls inputs) s = subst (λ (job : Job). Fits job s) e fits in
     record {
       pc = values 0 0 (omega arith);
-      aligned = ready.aligned;
-      regs = λ n. values 2 n (omega arith);
-      zero_reg = ready.zero_reg;
+      aligned = ready;
+      regs = λ n. zero_or (eqb n 0) (s 2 n) (values 2 n (omega arith));
       words = λ n. values 3 n (omega arith);
     }
 
@@ -88,4 +103,4 @@ processor = record {
   retires = λ job ins trace has moves. five_stages (rv32i None) refl job ins trace has moves;
 }
 
-pub ruleset laws = (processor, address, one)
+pub ruleset laws = (processor, address, ready, one)

@@ -1,5 +1,5 @@
 -- The words of the sample processors: the fields of an instruction, and numbers of 32 bits.
-use Rattle.std.specs.Prelude.{ℕ, ◌+◌, ◌-◌, ◌*◌, ◌/◌, ◌%◌, ◌^◌, Bool, true, false, not, nat_lt, if◌then◌else◌}
+use Rattle.std.specs.Prelude.{ℕ, ◌+◌, ◌-◌, ◌/◌, ◌%◌, ◌^◌, Bool, true, false, not, nat_lt, if◌then◌else◌}
 
 -- the bits of a number from position hi down to position lo
 abbrev pub bits : ℕ → ℕ → ℕ → ℕ
