@@ -7,3 +7,4 @@ pub mod Showing
 pub mod Beginning
 mod Loading
 mod Memory
+mod Executing

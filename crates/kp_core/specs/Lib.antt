@@ -5,3 +5,4 @@ pub mod Due
 pub mod Values
 pub mod Beginning
 pub mod Loading
+pub mod Cores

@@ -81,3 +81,11 @@ pub fn commit_counts_what_leaves_the_last_stage(design: &Design)
         ≡ passed (trace_from design.now.job net s ins).rows (design.now.job.stages.value - 1) T
         + port_value design.now.job net (get_or ins T i) (state_in net s ins T) a Commit }
 {}
+
+/// The output of `show R` is the value of R that is visible in the run, and the output of `peek F` the word of F at the address at its port that is.
+pub fn show_and_peek_show_what_is_visible()
+    ensures show { (job : Job) (net : Net) (s : State) (ins : List Input) (i : Input) (T t a : ℕ)
+        → port_value job net i (state_in net s ins T) a (Show t) ≡ (trace_from job net s ins).visible T t 0 }
+    ensures peek { (job : Job) (net : Net) (s : State) (ins : List Input) (i : Input) (T t a : ℕ)
+        → port_value job net i (state_in net s ins T) a (Peek t) ≡ (trace_from job net s ins).visible T t a }
+{}

@@ -12,6 +12,7 @@ mod answer;
 mod inputs;
 pub mod laws;
 mod message;
+pub mod processors;
 mod request;
 pub mod runs;
 mod texts;

@@ -24,3 +24,4 @@ mod After
 pub mod OwnText
 mod Watches
 pub mod Together
+pub mod Executing

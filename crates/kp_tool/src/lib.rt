@@ -19,6 +19,7 @@ pub mod laws;
 mod netlist;
 mod outcome;
 mod pipe;
+pub mod processors;
 mod read;
 mod seq;
 mod sim;

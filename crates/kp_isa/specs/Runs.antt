@@ -1,0 +1,35 @@
+-- What is said of each processor.
+use Rattle.std.specs.Prelude.{◌≡◌, ℕ, ◌+◌, ◌-◌, ◌*◌, ◌^◌, ◌<◌, ◌≤◌, List, All, false, length}
+use Rattle.kp_ast.specs.{Expressions.is_same_name, declared.tree.Image.Image, declared.tree.Job.Job}
+use Rattle.kp_parse_grammar.specs.declared.token.Lexed.{Lexed}
+use Rattle.kp_stage.specs.Start.{start_of}
+use Rattle.kp_pipeline.specs.{Claims.Moves, Claims.stall_free_cycles, Pipeline.Inputs, Rows.Trace, Rows.passed}
+use Rattle.kp_machine.specs.{Machine.machine_of, Machine.state_of, Slots.targets_of, Words.target}
+use Rattle.kp_sched.specs.Legal.{IsLegalFrom}
+use Rattle.kp_frontend.specs.Judging.{IsSentenceOf}
+use Rattle.kp_described.specs.Sections.{IsWith, HasSections}
+
+-- the values of registers and files at the start of a job, with what its image section puts there
+abbrev pub start_state : Job → ℕ → ℕ → ℕ
+start_state job = state_of job (start_of job)
+
+-- each value is one of its register's or file's width
+abbrev pub Fits : Job → (ℕ → ℕ → ℕ) → Type 0
+Fits job s = (t a : ℕ) → t < length (targets_of job.decls) → s t a < 2 ^ (target job t).width
+
+-- no entry of an image section has this name
+abbrev pub Leaves : List ℕ → List Image → Type 0
+Leaves name image = All (λ (e : Image). is_same_name e.name.name name ≡ false) image
+
+-- Any 5 stall-free cycles retire an instruction: between the times T and U there are at most 4 more of them than 5 times the instructions that leave
+-- stage 4.
+abbrev pub Retires : List Inputs → Trace → Type 0
+Retires ins trace =
+    (T U : ℕ) → T ≤ U → U ≤ length trace.rows → stall_free_cycles 5 ins U - stall_free_cycles 5 ins T ≤ 5 * (passed trace.rows 4 U - passed trace.rows 4 T) + 4
+
+-- A PROCESSOR: each text that begins with the head describes the job, with some sections; each legal run of it, from values that are ready, follows the
+-- instruction set; and a run that moves retires instructions.
+pub record IsProcessor (head : List ℕ) (base : Job) (Ready : (ℕ → ℕ → ℕ) → Type 0) (Follows : (ℕ → ℕ → ℕ) → Trace → Type 0) : Type 0 where
+  pub text : (input : List ℕ) (lexed : Lexed) (job : Job) → IsWith head input → IsSentenceOf input lexed job → HasSections base job
+  pub runs : (job : Job) (s : ℕ → ℕ → ℕ) (ins : List Inputs) (trace : Trace) → HasSections base job → Fits job s → IsLegalFrom job s ins trace → Ready s → Follows s trace
+  pub retires : (job : Job) (ins : List Inputs) (trace : Trace) → HasSections base job → Moves (machine_of job) ins trace → Retires ins trace
