@@ -94,8 +94,10 @@ module _ (s : ℕ → ℕ → ℕ) (rest : Word → Tree) (n : ℕ) where
   abbrev runs : Tree → StageOutcome
   runs t = run (λ t a. Some (s t a)) (λ h. 0) t
 
-  by_cases : (u z : Bool) → runs (cond u (Ask 2 n (λ x. rest (cond (eqb (cond z 1 0) 1) (word 32 0) (word 32 x)))) (rest (cond (eqb (cond z 1 0) 1) (word 32 0) (word 32 0))))
-      ≡ runs (rest (word 32 (cond u (cond z 0 (s 2 n)) 0)))
+  abbrev by_test : Bool → ℕ → Word
+  by_test z x = cond (eqb (cond z 1 0) 1) (word 32 0) (word 32 x)
+
+  by_cases : (u z : Bool) → runs (cond u (Ask 2 n (λ x. rest (by_test z x))) (rest (by_test z 0))) ≡ runs (rest (word 32 (cond u (cond z 0 (s 2 n)) 0)))
   by_cases true true = refl
   by_cases true false = refl
   by_cases false true = refl
