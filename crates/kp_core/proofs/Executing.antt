@@ -22,7 +22,7 @@ names_kept job none = (first_none _ _ none).0
 module _ (head : List ℕ) (base : Job) (Ready : (ℕ → ℕ → ℕ) → Type 0) (Follows : (ℕ → ℕ → ℕ) → Trace → Type 0) (p : IsProcessor head base Ready Follows)
     (input text : List ℕ) (is : IsWith head input) where
   abbrev RunsFrom : Job → (ℕ → ℕ → ℕ) → List Inputs → Trace → Type 0
-  RunsFrom job s ins trace = (Ready s → Follows s trace) × Retires ins trace
+  RunsFrom job s ins trace = (Ready s → Follows s trace) × Retires base.stages.value ins trace
 
   module _ (job : Job) (rest : ℕ) (judged : JudgesHead input (Ok (job, rest))) where
     runs_from : (net : Net) → Shows net job → BeginsAnew net job → (s : State) (v : ℕ → ℕ → ℕ) (ins : List Input) → Begins net job s v → AreQuiet ins

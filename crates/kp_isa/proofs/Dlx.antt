@@ -14,7 +14,7 @@ use Rattle.kp_isa_dlx.specs.Words.{fields, word_at}
 use Rattle.kp_isa_dlx.proofs.Running.{runs, step}
 use Rattle.kp_isa.specs.Runs.{start_state, Fits, Leaves, IsProcessor}
 use Rattle.kp_isa.specs.Dlx.{IsReady, Follows}
-use Rattle.kp_isa.proofs.Memory.{unless_set, same_machine, five_stages}
+use Rattle.kp_isa.proofs.Memory.{unless_set, same_machine, moving_retires}
 
 -- the text
 head_read : IsHead dlxs_head (dlxs None)
@@ -80,7 +80,7 @@ pub processor : IsProcessor dlxs_head (dlxs None) IsReady Follows
 processor = record {
   text = λ input lexed job is h. described dlxs_head (dlxs None) head_read input is lexed job h.tokens h.tree;
   runs = λ job s ins trace has fits legal ready. follows job s ins trace has legal (is_state job s has fits ready);
-  retires = λ job ins trace has moves. five_stages (dlxs None) refl job ins trace has moves;
+  retires = λ job ins trace has moves. moving_retires (dlxs None) job ins trace has moves;
 }
 
 pub ruleset laws = (processor, address, one)

@@ -14,7 +14,7 @@ use Rattle.kp_isa_rv.specs.Isa.{Executes, Runs, IsState, Cpu, word_at, bits, cpu
 use Rattle.kp_isa_rv.proofs.Running.{runs, step}
 use Rattle.kp_isa.specs.Runs.{start_state, Fits, Leaves, IsProcessor}
 use Rattle.kp_isa.specs.RiscV.{rv32i_head, IsReady, Follows}
-use Rattle.kp_isa.proofs.Memory.{unless_set, same_machine, five_stages}
+use Rattle.kp_isa.proofs.Memory.{unless_set, same_machine, moving_retires}
 
 -- the text
 head_read : IsHead rv32i_head (rv32i None)
@@ -100,7 +100,7 @@ pub processor : IsProcessor rv32i_head (rv32i None) IsReady Follows
 processor = record {
   text = λ input lexed job is h. described rv32i_head (rv32i None) head_read input is lexed job h.tokens h.tree;
   runs = λ job s ins trace has fits legal ready. follows job s ins trace has legal (is_state job s has fits ready);
-  retires = λ job ins trace has moves. five_stages (rv32i None) refl job ins trace has moves;
+  retires = λ job ins trace has moves. moving_retires (rv32i None) job ins trace has moves;
 }
 
 pub ruleset laws = (processor, address, ready, one)

@@ -21,15 +21,16 @@ Fits job s = (t a : ℕ) → t < length (targets_of job.decls) → s t a < 2 ^ (
 abbrev pub Leaves : List ℕ → List Image → Type 0
 Leaves name image = All (λ (e : Image). is_same_name e.name.name name ≡ false) image
 
--- Any 5 stall-free cycles retire an instruction: between the times T and U there are at most 4 more of them than 5 times the instructions that leave
--- stage 4.
-abbrev pub Retires : List Inputs → Trace → Type 0
-Retires ins trace =
-    (T U : ℕ) → T ≤ U → U ≤ length trace.rows → stall_free_cycles 5 ins U - stall_free_cycles 5 ins T ≤ 5 * (passed trace.rows 4 U - passed trace.rows 4 T) + 4
+-- Any n stall-free cycles of a machine of n stages retire an instruction: between the times T and U there are at most n - 1 more of them than n times the
+-- instructions that leave the last stage.
+abbrev pub Retires : ℕ → List Inputs → Trace → Type 0
+Retires n ins trace =
+    (T U : ℕ) → T ≤ U → U ≤ length trace.rows
+        → stall_free_cycles n ins U - stall_free_cycles n ins T ≤ n * (passed trace.rows (n - 1) U - passed trace.rows (n - 1) T) + (n - 1)
 
 -- A PROCESSOR: each text that begins with the head describes the job, with some sections; each legal run of it, from values that are ready, follows the
 -- instruction set; and a run that moves retires instructions.
 pub record IsProcessor (head : List ℕ) (base : Job) (Ready : (ℕ → ℕ → ℕ) → Type 0) (Follows : (ℕ → ℕ → ℕ) → Trace → Type 0) : Type 0 where
   pub text : (input : List ℕ) (lexed : Lexed) (job : Job) → IsWith head input → IsSentenceOf input lexed job → HasSections base job
   pub runs : (job : Job) (s : ℕ → ℕ → ℕ) (ins : List Inputs) (trace : Trace) → HasSections base job → Fits job s → IsLegalFrom job s ins trace → Ready s → Follows s trace
-  pub retires : (job : Job) (ins : List Inputs) (trace : Trace) → HasSections base job → Moves (machine_of job) ins trace → Retires ins trace
+  pub retires : (job : Job) (ins : List Inputs) (trace : Trace) → HasSections base job → Moves (machine_of job) ins trace → Retires base.stages.value ins trace

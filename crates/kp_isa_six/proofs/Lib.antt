@@ -1,3 +1,3 @@
 pub mod Computes
 pub mod Rows
-pub mod Follows
+pub mod Executing

@@ -1,4 +1,4 @@
 pub mod Text
 pub mod Six
 pub mod Isa
-pub mod Verilog
+pub mod Executing

@@ -3,7 +3,7 @@ use Rattle.std.specs.Prelude.{ℕ, List, [], ◌∷◌, Option, Some, None, code
 use Prim.Native.String.{String}
 use Rattle.kp_bits.specs.declared.operator.BinOp.TheVariants.{And, Or, Xor, Add, Sub, Mul, Eq, Lt, Shl, Shr}
 use Rattle.kp_ast.specs.declared.tree.{Named.Named, Num.Num, Image.Image, Job.Job}
-use Rattle.kp_plain.specs.Plain.{p, named, num, lit_of, Term, lit, var, inv, bin, mux, cat, cut, zx, sx, app, none, more, Act, read, bind, put, set, aim, Part, register, file, pipe, hint, result, func, job_of}
+use Rattle.kp_plain.specs.Plain.{p, named, num, lit_of, Term, lit, var, inv, bin, mux, cat, cut, zx, sx, app, none, more, Act, read, bind, put, set, aim, Part, register, file, pipe, hint, sample, result, func, job_of}
 
 -- a name, a number, and a name as an expression
 abbrev pub n : ℕ → ℕ → String → Named

@@ -1,8 +1,8 @@
--- The text of examples/cookbook/six.kp, line by line.
+-- The text of examples/cookbook/six.kp up to its first section.
 use Rattle.std.specs.Prelude.{ℕ, List, ◌++◌, codes}
 
-unfoldable pub six_text : List ℕ
-six_text =
+unfoldable pub six_head : List ℕ
+six_head =
     codes "// An accumulator machine with six instructions. An instruction has 8 bits: a code (3 bits), and a constant or an address (5 bits).\n"
     ++ codes "//\n"
     ++ codes "//   0  acc = constant            1  acc = DM[address]            2  acc = acc + DM[address]\n"
@@ -50,11 +50,3 @@ six_text =
     ++ codes "  set NPC = (OP == 3'h4) | ((OP == 3'h5) & ~(a == 8'h00)) ? AD : P + 5'h01;\n"
     ++ codes "}\n"
     ++ codes "stage 3 { }\n"
-    ++ codes "image {\n"
-    ++ codes "  IM[0] = 8'b000_00011, 8'b011_00001, 8'b100_00011;\n"
-    ++ codes "  IM[3] = 8'b001_00010, 8'b010_00001, 8'b011_00010;\n"
-    ++ codes "  IM[6] = 8'b001_00001, 8'b010_00000, 8'b011_00001, 8'b101_00011;\n"
-    ++ codes "  IM[10] = 8'b100_01010;\n"
-    ++ codes "  DM[0] = 8'hff;\n"
-    ++ codes "}\n"
-    ++ codes "end\n"

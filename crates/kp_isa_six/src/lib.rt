@@ -1,16 +1,20 @@
 //! The accumulator machine of examples/cookbook/six.kp executes its six instructions.
 //!
-//! `specs/Isa.antt` has the instruction set as a table, `specs/Six.antt` the tree of the description, `specs/Text.antt` its text, and `specs/Verilog.antt`
-//! what its Verilog does. Each function is a law, and has nothing to run. docs/COOKBOOK.md goes through all of them, from the table to the Verilog.
-#![tactic(auto, using(crate::proofs::Rows::step, crate::proofs::Rows::runs, crate::proofs::Follows::verilog))]
+//! `specs/Isa.antt` has the instruction set as a table, `specs/Six.antt` the tree of the description, `specs/Text.antt` its text, and
+//! `specs/Executing.antt` what its runs are. Each function is a law, and has nothing to run. docs/COOKBOOK.md goes through all of them, from the table
+//! to the Verilog.
+#![tactic(auto, using(crate::proofs::Rows::step, crate::proofs::Rows::runs, crate::proofs::Executing::processor))]
 
-ghost use Rattle.std.specs.Prelude.{◌≡◌, ℕ, List, Option};
+ghost use Rattle.std.specs.Prelude.{◌≡◌, ℕ, List, Option, None, Some};
 ghost use Rattle.kp_ast.specs.declared.tree.Image.{Image};
 ghost use Rattle.kp_pipeline.specs.Sequential.{exec, seq};
 ghost use Rattle.kp_machine.specs.Machine.{machine_of};
-ghost use Rattle.kp_sched.specs.Legal.{IsLegalFrom};
-ghost use Rattle.kp_tool.specs.Headline.{IsVerilogWith};
-ghost use Rattle.kp_isa_six.specs.{Six.six, Isa.Executes, Isa.Runs, Isa.Cpu, Isa.fields, Isa.cpu_of, Text.six_text, Verilog.IsSix};
+ghost use Rattle.kp_words.specs.declared.commands.Command.TheVariants.{OnJob};
+ghost use Rattle.kp_words.specs.declared.commands.JobCommand.TheVariants.{Pipe, Sim};
+ghost use Rattle.kp_described.specs.Sections.{IsWith};
+ghost use Rattle.kp_isa.specs.Runs.{IsProcessor};
+ghost use Rattle.kp_tool.specs.{Due.DueFor, Headline.IsVerilogWith, Headline.IsRunWith};
+ghost use Rattle.kp_isa_six.specs.{Six.six, Isa.Executes, Isa.Runs, Isa.Cpu, Isa.fields, Isa.cpu_of, Text.six_head, Executing.IsReady, Executing.Follows, Executing.IsSixFrom, Executing.IsSix};
 
 /// One instruction of the sequential machine is what the table says of the word at the program counter.
 pub fn an_instruction_is_by_the_table()
@@ -24,7 +28,13 @@ pub fn a_run_is_by_the_table()
         → Runs (cpu_of s) n c → cpu_of (seq (machine_of (six image)) s given n) ≡ c }
 {}
 
-/// Each text that `pipe` writes for examples/cookbook/six.kp is the Verilog of a machine that executes the table.
-pub fn the_verilog_executes_the_table()
-    ensures { (text : List ℕ) → IsVerilogWith IsLegalFrom six_text text → IsSix text }
+/// Each text that begins as the example, up to its image section, is that of this machine, and each legal run of it follows the table.
+pub fn six_is_a_processor()
+    ensures { IsProcessor six_head (six None) IsReady Follows }
+{}
+
+/// What `pipe` and `sim` write of such a text executes the table.
+pub fn six_executes_its_table()
+    ensures pipe { (input text : List ℕ) → IsWith six_head input → DueFor (Some (OnJob Pipe)) input 0 text → IsVerilogWith IsSixFrom input text }
+    ensures sim { (n : ℕ) (input text : List ℕ) → IsWith six_head input → DueFor (Some (OnJob (Sim n))) input 0 text → IsRunWith IsSix n input text }
 {}

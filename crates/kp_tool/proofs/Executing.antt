@@ -42,7 +42,7 @@ module _ (head : List ℕ) (base : Job) (Ready : (ℕ → ℕ → ℕ) → Type 
     (input text : List ℕ) (is : IsWith head input) where
   -- the facts of a run, from values of registers and files on, and from the start on
   abbrev RunsFrom : Job → (ℕ → ℕ → ℕ) → List Inputs → Trace → Type 0
-  RunsFrom job s ins trace = (Ready s → Follows s trace) × Retires ins trace
+  RunsFrom job s ins trace = (Ready s → Follows s trace) × Retires base.stages.value ins trace
 
   abbrev Runs : Job → List Inputs → Trace → Type 0
   Runs job ins trace = RunsFrom job (start_state job) ins trace
