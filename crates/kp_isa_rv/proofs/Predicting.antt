@@ -4,12 +4,11 @@ use Rattle.std.{proofs.Math.Path.fun_ext, proofs.lemmas.Bool.Decides.nat_tests, 
 use Rattle.kp_ast.specs.declared.tree.{ResultDecl.ResultDecl, Image.Image, Job.Job}
 use Rattle.kp_pipeline.specs.Sequential.{before_stage, intends, exec}
 use Rattle.kp_machine.specs.Machine.{machine_of, result_for}
-use Rattle.kp_plain.proofs.Stages.{tree_at}
 use Rattle.kp_isa_rv.specs.{Rv32i.n, Rv32i.k, Rv32i.rv32i, Rv32ib.rv32ib, Rv32ip.rv32ip}
 use Rattle.kp_isa_rv.specs.Rv32ib.{parts as parts_ib, blocks as blocks_ib}
 use Rattle.kp_isa_rv.specs.Rv32ip.{parts as parts_ip, blocks as blocks_ip}
 use Rattle.kp_isa_rv.specs.Isa.{word_at}
-use Rattle.kp_isa_rv.proofs.{Decoding.Fields, Decoding.fields, Computes.reading, Computes.fetched, Computes.after_by, Computes.exec_by, Computes.after, Computes.exec_is}
+use Rattle.kp_isa_rv.proofs.{Decoding.Fields, Decoding.fields, Computes.after_by, Computes.exec_by, Computes.after, Computes.exec_is}
 
 -- The targets have the numbers 0 to 3, and no result has another one.
 none_of : (a b c : Bool) (x y z : ResultDecl) → a ≡ false → b ≡ false → c ≡ false → cond a (Some x) (cond b (Some y) (cond c (Some z) None)) ≡ None
@@ -35,101 +34,68 @@ module _ (image : Option (List Image)) (s : ℕ → ℕ → ℕ) (q : ℕ → �
   abbrev i : ℕ
   i = s 1 (word_at (s 0 0))
 
-  abbrev of : ℕ → Bool → ℕ → ℕ → ℕ → ℕ → ℕ → Fields
-  of o load f3 b30 rd rs1 rs2 = record { op = o; is_load = load; f3 = f3; b30 = b30; rd = rd; rs1 = rs1; rs2 = rs2 }
+  -- Two descriptions write the same for these fields.
+  pub record Alike (after_other : Fields → ℕ → ℕ → ℕ) (f : Fields) : Type 0 where
+    pub pc : (a : ℕ) → after_other f 0 a ≡ after q s image f 0 a
+    pub code : (a : ℕ) → after_other f 1 a ≡ after q s image f 1 a
+    pub regs : (a : ℕ) → after_other f 2 a ≡ after q s image f 2 a
+    pub words : (a : ℕ) → after_other f 3 a ≡ after q s image f 3 a
 
-  past_i : (t : ℕ) → result_for (rv32i image) (suc (suc (suc (suc t)))) ≡ None
+  -- these fields, of a load or of another instruction
+  abbrev loading : Fields → Bool → Fields
+  loading f load = record f { is_load = load }
+
+  past : (t : ℕ) → result_for (rv32i image) (suc (suc (suc (suc t)))) ≡ None
   unfolding result_for
-  past_i t = none_of _ _ _ _ _ _ (differs0 t) (differs2 t) (differs3 t)
+  past t = none_of _ _ _ _ _ _ (differs0 t) (differs2 t) (differs3 t)
+
+  module _ (job : Job) (after_other : Fields → ℕ → ℕ → ℕ) (by : (t a : ℕ) → exec (machine_of job) s q t a ≡ after_other (fields i) t a)
+      (alike : Alike after_other (fields i)) (past_other : (t : ℕ) → result_for job (suc (suc (suc (suc t)))) ≡ None) where
+    target : (t a : ℕ) → exec (machine_of job) s q t a ≡ exec (machine_of (rv32i image)) s q t a
+    target zero a = by 0 a ∙ alike.pc a ∙ sym (exec_is q s image 0 a)
+    target (suc zero) a = by 1 a ∙ alike.code a ∙ sym (exec_is q s image 1 a)
+    target (suc (suc zero)) a = by 2 a ∙ alike.regs a ∙ sym (exec_is q s image 2 a)
+    target (suc (suc (suc zero))) a = by 3 a ∙ alike.words a ∙ sym (exec_is q s image 3 a)
+    target (suc (suc (suc (suc t)))) a =
+        unwritten s q job (suc (suc (suc (suc t)))) a (past_other t) ∙ sym (unwritten s q (rv32i image) (suc (suc (suc (suc t)))) a (past t))
+
+    same : exec (machine_of job) s q ≡ exec (machine_of (rv32i image)) s q
+    same = fun_ext (λ t. fun_ext (target t))
 
   -- rv32ib: the branch target buffer
   abbrev after_ib : Fields → ℕ → ℕ → ℕ
   after_ib f = after_by parts_ib blocks_ib q s (n 13 9 "rv32ib") (k 14 8 5) image f
 
-  reads_ib : tree_at parts_ib blocks_ib s q 1 (fetched parts_ib blocks_ib q s).pipes ≡ reading parts_ib blocks_ib q (fields i) (fetched parts_ib blocks_ib q s).pipes
-  reads_ib = refl
-
-  abbrev Same_ib : ℕ → Fields → Type 0
-  Same_ib t f = (a : ℕ) → after_ib f t a ≡ after q s image f t a
-
-  pc_ib : (o : ℕ) (load : Bool) (f3 b30 rd rs1 rs2 : ℕ) → Same_ib 0 (of o load f3 b30 rd rs1 rs2)
+  alike_ib : (f : Fields) (load : Bool) → Alike after_ib (loading f load)
   unfolding machine_of result_for
-  pc_ib o true f3 b30 rd rs1 rs2 a = refl
-  pc_ib o false f3 b30 rd rs1 rs2 a = refl
-
-  code_ib : (f : Fields) → Same_ib 1 f
-  unfolding machine_of result_for
-  code_ib f a = refl
-
-  regs_ib : (o : ℕ) (load : Bool) (f3 b30 rd rs1 rs2 : ℕ) → Same_ib 2 (of o load f3 b30 rd rs1 rs2)
-  unfolding machine_of result_for
-  regs_ib o true f3 b30 rd rs1 rs2 a = refl
-  regs_ib o false f3 b30 rd rs1 rs2 a = refl
-
-  words_ib : (o : ℕ) (load : Bool) (f3 b30 rd rs1 rs2 : ℕ) → Same_ib 3 (of o load f3 b30 rd rs1 rs2)
-  unfolding machine_of result_for
-  words_ib o true f3 b30 rd rs1 rs2 a = refl
-  words_ib o false f3 b30 rd rs1 rs2 a = refl
+  alike_ib f true = record { pc = λ a. refl; code = λ a. refl; regs = λ a. refl; words = λ a. refl }
+  alike_ib f false = record { pc = λ a. refl; code = λ a. refl; regs = λ a. refl; words = λ a. refl }
 
   past_ib : (t : ℕ) → result_for (rv32ib image) (suc (suc (suc (suc t)))) ≡ None
   unfolding result_for
   past_ib t = none_of _ _ _ _ _ _ (differs0 t) (differs2 t) (differs3 t)
 
-  by_ib : (t : ℕ) → Same_ib t (fields i) → (a : ℕ) → exec (machine_of (rv32ib image)) s q t a ≡ exec (machine_of (rv32i image)) s q t a
-  by_ib t h a = exec_by parts_ib blocks_ib q s (n 13 9 "rv32ib") (k 14 8 5) image refl reads_ib t a ∙ h a ∙ sym (exec_is q s image t a)
-
-  target_ib : (t a : ℕ) → exec (machine_of (rv32ib image)) s q t a ≡ exec (machine_of (rv32i image)) s q t a
-  target_ib zero = let f : Fields = fields i in by_ib 0 (pc_ib f.op f.is_load f.f3 f.b30 f.rd f.rs1 f.rs2)
-  target_ib (suc zero) = by_ib 1 (code_ib (fields i))
-  target_ib (suc (suc zero)) = let f : Fields = fields i in by_ib 2 (regs_ib f.op f.is_load f.f3 f.b30 f.rd f.rs1 f.rs2)
-  target_ib (suc (suc (suc zero))) = let f : Fields = fields i in by_ib 3 (words_ib f.op f.is_load f.f3 f.b30 f.rd f.rs1 f.rs2)
-  target_ib (suc (suc (suc (suc t)))) = λ a. unwritten s q (rv32ib image) (suc (suc (suc (suc t)))) a (past_ib t) ∙ sym (unwritten s q (rv32i image) (suc (suc (suc (suc t)))) a (past_i t))
+  by_ib : (t a : ℕ) → exec (machine_of (rv32ib image)) s q t a ≡ after_ib (fields i) t a
+  by_ib = exec_by parts_ib blocks_ib q s (n 13 9 "rv32ib") (k 14 8 5) image refl refl
 
   pub same_ib : exec (machine_of (rv32ib image)) s q ≡ exec (machine_of (rv32i image)) s q
-  same_ib = fun_ext (λ t. fun_ext (target_ib t))
+  same_ib = same (rv32ib image) after_ib by_ib (alike_ib (fields i) (fields i).is_load) past_ib
 
   -- rv32ip: the branch predictor and the return stack
   abbrev after_ip : Fields → ℕ → ℕ → ℕ
   after_ip f = after_by parts_ip blocks_ip q s (n 12 9 "rv32ip") (k 13 8 5) image f
 
-  reads_ip : tree_at parts_ip blocks_ip s q 1 (fetched parts_ip blocks_ip q s).pipes ≡ reading parts_ip blocks_ip q (fields i) (fetched parts_ip blocks_ip q s).pipes
-  reads_ip = refl
-
-  abbrev Same_ip : ℕ → Fields → Type 0
-  Same_ip t f = (a : ℕ) → after_ip f t a ≡ after q s image f t a
-
-  pc_ip : (o : ℕ) (load : Bool) (f3 b30 rd rs1 rs2 : ℕ) → Same_ip 0 (of o load f3 b30 rd rs1 rs2)
+  alike_ip : (f : Fields) (load : Bool) → Alike after_ip (loading f load)
   unfolding machine_of result_for
-  pc_ip o true f3 b30 rd rs1 rs2 a = refl
-  pc_ip o false f3 b30 rd rs1 rs2 a = refl
-
-  code_ip : (f : Fields) → Same_ip 1 f
-  unfolding machine_of result_for
-  code_ip f a = refl
-
-  regs_ip : (o : ℕ) (load : Bool) (f3 b30 rd rs1 rs2 : ℕ) → Same_ip 2 (of o load f3 b30 rd rs1 rs2)
-  unfolding machine_of result_for
-  regs_ip o true f3 b30 rd rs1 rs2 a = refl
-  regs_ip o false f3 b30 rd rs1 rs2 a = refl
-
-  words_ip : (o : ℕ) (load : Bool) (f3 b30 rd rs1 rs2 : ℕ) → Same_ip 3 (of o load f3 b30 rd rs1 rs2)
-  unfolding machine_of result_for
-  words_ip o true f3 b30 rd rs1 rs2 a = refl
-  words_ip o false f3 b30 rd rs1 rs2 a = refl
+  alike_ip f true = record { pc = λ a. refl; code = λ a. refl; regs = λ a. refl; words = λ a. refl }
+  alike_ip f false = record { pc = λ a. refl; code = λ a. refl; regs = λ a. refl; words = λ a. refl }
 
   past_ip : (t : ℕ) → result_for (rv32ip image) (suc (suc (suc (suc t)))) ≡ None
   unfolding result_for
   past_ip t = none_of _ _ _ _ _ _ (differs0 t) (differs2 t) (differs3 t)
 
-  by_ip : (t : ℕ) → Same_ip t (fields i) → (a : ℕ) → exec (machine_of (rv32ip image)) s q t a ≡ exec (machine_of (rv32i image)) s q t a
-  by_ip t h a = exec_by parts_ip blocks_ip q s (n 12 9 "rv32ip") (k 13 8 5) image refl reads_ip t a ∙ h a ∙ sym (exec_is q s image t a)
-
-  target_ip : (t a : ℕ) → exec (machine_of (rv32ip image)) s q t a ≡ exec (machine_of (rv32i image)) s q t a
-  target_ip zero = let f : Fields = fields i in by_ip 0 (pc_ip f.op f.is_load f.f3 f.b30 f.rd f.rs1 f.rs2)
-  target_ip (suc zero) = by_ip 1 (code_ip (fields i))
-  target_ip (suc (suc zero)) = let f : Fields = fields i in by_ip 2 (regs_ip f.op f.is_load f.f3 f.b30 f.rd f.rs1 f.rs2)
-  target_ip (suc (suc (suc zero))) = let f : Fields = fields i in by_ip 3 (words_ip f.op f.is_load f.f3 f.b30 f.rd f.rs1 f.rs2)
-  target_ip (suc (suc (suc (suc t)))) = λ a. unwritten s q (rv32ip image) (suc (suc (suc (suc t)))) a (past_ip t) ∙ sym (unwritten s q (rv32i image) (suc (suc (suc (suc t)))) a (past_i t))
+  by_ip : (t a : ℕ) → exec (machine_of (rv32ip image)) s q t a ≡ after_ip (fields i) t a
+  by_ip = exec_by parts_ip blocks_ip q s (n 12 9 "rv32ip") (k 13 8 5) image refl refl
 
   pub same_ip : exec (machine_of (rv32ip image)) s q ≡ exec (machine_of (rv32i image)) s q
-  same_ip = fun_ext (λ t. fun_ext (target_ip t))
+  same_ip = same (rv32ip image) after_ip by_ip (alike_ip (fields i) (fields i).is_load) past_ip
