@@ -1,7 +1,7 @@
 #!/bin/bash
 # What the program does where memory is refused: bash checks/memory.sh
 #
-# Runs `sim 3`, `timing 3` and `pipe` on the counter, `read` on its module, `watch 3` on both, `equiv` on the counter with its module twice, and
+# Runs `sim 3`, `timing 3`, `pipe` and words that aren't accepted on the counter, `read` on its module, `watch 3` on both, `equiv` on the counter with its module twice, and
 # `debug` on an example with its script. Each is run once for each call for memory that it makes, and that call fails in this run (checks/memory.c).
 # Each run must end with status 5 and nothing written, or with the status and the text of a run in which no call fails. The line of each command
 # says how many runs did the one and the other, and how many neither. The status is 0 where none did neither, and 77 where there is no C compiler.
@@ -42,6 +42,7 @@ cp "$top/examples/acc3.kp" "$work/input"
 each sim 3
 each timing 3
 each pipe
+each sim 3 4
 "$kp" pipe < "$top/examples/acc3.kp" > "$work/module"
 cp "$work/module" "$work/input"
 each read

@@ -1,7 +1,7 @@
 #!/bin/bash
 # The version in VERSION is the one that kpview and kpcore print: bash checks/version.sh
 #
-# The lines of `kpview --version` and `kpcore --version` are constants of kp_words and kp_core; they are compared in the source, and in the output
+# The lines of `kpview --version` and `kpcore --version` are constants of kp_view_words and kp_core; they are compared in the source, and in the output
 # of the programs where they are built. KPVIEW and KPCORE name other programs. The last line is `N checked, M wrong`, and the status is 0 where M is 0.
 top=$(cd "$(dirname "$0")/.." && pwd) || exit 70
 cd "$top" || exit 70
@@ -17,7 +17,7 @@ is() {
     wrong=$((wrong + 1))
 }
 said() { sed -n 's/.*VERSION: &str = "\(.*\)\\n";/\1/p' "$1"; }
-is kpview source "$(said crates/kp_words/src/texts.rt)"
+is kpview source "$(said crates/kp_view_words/src/texts.rt)"
 is kpcore source "$(said crates/kp_core/src/texts.rt)"
 if [ -x "$kpview" ]; then is kpview program "$("$kpview" --version)"; fi
 if [ -x "$kpcore" ]; then is kpcore program "$("$kpcore" --version)"; fi

@@ -1,12 +1,8 @@
 -- What words ask for, by the tests on them.
-use Rattle.std.proofs.Common.{◌≡◌, ℕ, Bool, true, false, cond, ◌||◌, List, [], ◌∷◌, map, refl, ap, ◌∙◌}
+use Rattle.std.proofs.Common.{◌≡◌, ℕ, Bool, true, false, cond, List, map, ap, ◌∙◌}
 use Rattle.std.specs.List.{list_any}
+use Rattle.kp_command_line.proofs.Parses.{any_text}
 use Rattle.kp_core.specs.Words.{Asked, help, version, is_help, is_version, table_or_module, asked_for}
-
--- a test of the texts of words
-any_text : {A : Type 0} (text : A → List ℕ) (test : List ℕ → Bool) (words : List A) → list_any (λ word. test (text word)) words ≡ list_any test (map text words)
-any_text text test [] = refl
-any_text text test (word ∷ words) = ap (λ (b : Bool). test (text word) || b) (any_text text test words)
 
 module _ {A : Type 0} (text : A → List ℕ) (words : List A) where
   abbrev all : List (List ℕ)

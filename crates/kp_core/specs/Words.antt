@@ -1,6 +1,7 @@
 -- THE WORDS of a command line of `kpcore`.
-use Rattle.std.specs.Prelude.{◌==◌, ℕ, Bool, true, false, ◌||◌, List, [], ◌∷◌, codes, if◌then◌else◌, Option, Some, None, option_map, string_bytes}
-use Rattle.std.specs.{List.list_any, Str.bytes_eq}
+use Rattle.std.specs.Prelude.{ℕ, Bool, true, false, ◌||◌, List, [], ◌∷◌, codes, if◌then◌else◌, Option, option_map, string_bytes}
+use Rattle.std.specs.{List.list_any, Option.option_map_or, Str.bytes_eq}
+use Rattle.kp_command_line.specs.Words.{file_in}
 use Rattle.kp_core.specs.declared.request.{Form.Form, Request.Request}
 use Rattle.kp_core.specs.declared.request.Form.TheVariants as forms
 use Rattle.kp_core.specs.declared.request.Request.TheVariants as requests
@@ -27,15 +28,9 @@ is_version word = bytes_eq word (codes "--version") || bytes_eq word (codes "-V"
 abbrev pub is_names : List ℕ → Bool
 is_names word = bytes_eq word (codes "--names")
 
-abbrev pub begins_with_dash : List ℕ → Bool
-begins_with_dash [] = false
-begins_with_dash (c ∷ cs) = c == 45
-
 -- at most one word, which is a file
 abbrev pub file_of : Form → List (List ℕ) → Asked
-file_of form [] = write form None
-file_of form (name ∷ []) = if begins_with_dash name then bad_words else write form (Some name)
-file_of form (name ∷ other ∷ rest) = bad_words
+file_of form words = option_map_or (λ file. write form file) (file_in words) bad_words
 
 -- the table, if the first word asks for it
 abbrev pub table_or_module : List (List ℕ) → Asked

@@ -1,7 +1,11 @@
 // The words of a command line, and what they ask for.
-ghost use Rattle.std.specs.Prelude.{◌≡◌, map, string_bytes};
+ghost use Rattle.std.specs.Prelude.{◌≡◌, map, string_bytes, IfOk};
 ghost use Rattle.std.specs.List.{list_any};
-ghost use Rattle.kp_core.specs.Words.{asked, asked_for, begins_with_dash, file_of, is_help, is_names, is_version, table_or_module};
+ghost use Rattle.kp_core.specs.Words.{asked, asked_for, file_of, is_help, is_names, is_version, table_or_module};
+
+use kp_base::NoMemory;
+use kp_command_line::match_file;
+use std::alloc::Global;
 
 /// What is written for a job that violates no rule.
 #[derive(Clone, Copy)]
@@ -24,45 +28,40 @@ pub enum Request<'w> {
 }
 
 impl<'w> Request<'w> {
-    /// What the words after the program's name ask for.
-    pub fn of(words: &'w [String]) -> Self
-        ensures { asked result ≡ asked_for (map string_bytes words.now) }
+    /// What the words after the program's name ask for. The only error is out of memory.
+    pub fn of(alloc: Global, words: &'w [String]) -> Result<Self, NoMemory>
+        ensures { IfOk result (λ request. asked request ≡ asked_for (map string_bytes words.now)) }
     {
         if has_help(words) {
-            return Request::Help;
+            return Ok(Request::Help);
         }
         if has_version(words) {
-            return Request::Version;
+            return Ok(Request::Version);
         }
-        Request::of_form(words)
+        let request = Request::of_form(alloc, words)?;
+        Ok(request)
     }
 
     // The same where no word asks for help or the version.
-    fn of_form(words: &'w [String]) -> Self
-        ensures { asked result ≡ table_or_module (map string_bytes words.now) }
+    fn of_form(alloc: Global, words: &'w [String]) -> Result<Self, NoMemory>
+        ensures { IfOk result (λ request. asked request ≡ table_or_module (map string_bytes words.now)) }
     {
         if let [first, rest @ ..] = words {
             if is_names(first.as_str()) {
-                return Request::of_file(Form::Names, rest);
+                return Request::of_file(alloc, Form::Names, rest);
             }
         }
-        Request::of_file(Form::Module, words)
+        Request::of_file(alloc, Form::Module, words)
     }
 
     // The same for this form, of which these are the other words.
-    fn of_file(form: Form, words: &'w [String]) -> Self
-        ensures { asked result ≡ file_of form (map string_bytes words.now) }
+    fn of_file(alloc: Global, form: Form, words: &'w [String]) -> Result<Self, NoMemory>
+        ensures { IfOk result (λ request. asked request ≡ file_of form (map string_bytes words.now)) }
     {
-        match words {
-            [] => Request::Core(form, None),
-            [name] => {
-                if begins_with_dash(name.as_bytes()) {
-                    Request::BadWords
-                } else {
-                    Request::Core(form, Some(name))
-                }
-            }
-            _ => Request::BadWords,
+        let input = match_file(alloc, "kpcore", words)?;
+        match input {
+            Some(input) => Ok(Request::Core(form, input.file)),
+            None => Ok(Request::BadWords),
         }
     }
 }
@@ -97,13 +96,4 @@ fn is_names(word: &str) -> bool
     ensures { result ≡ is_names word.now }
 {
     word == "--names"
-}
-
-fn begins_with_dash(word: &[u8]) -> bool
-    ensures { result ≡ begins_with_dash word.now }
-{
-    match word {
-        [b'-', ..] => true,
-        _ => false,
-    }
 }

@@ -1,11 +1,11 @@
 // The top calls of the programs.
 use crate::streams::Streams;
-use kp_base::{MemSink, MemSource, write_all};
+use kp_base::{MemSink, MemSource, NoMemory, write_all};
 use kp_core::{Request as CoreRequest, run_core};
 use kp_tool::tool;
 use kp_view::view;
 use kp_view_explain::{HELP, Order, asks_help, explain_source};
-use kp_words::Request as ViewRequest;
+use kp_view_words::Request as ViewRequest;
 use std::alloc::Global;
 
 /// Calls the program that the words begin with. Without one of the four programs nothing is called, and the status is 1.
@@ -15,26 +15,26 @@ pub fn run(alloc: Global, words: &[String], streams: &mut Streams) -> u8 {
     };
     match program.as_str() {
         "kp" => tool(alloc, rest, &mut streams.source, &mut streams.out),
-        "kpview" => {
-            let request = ViewRequest::of(rest);
-            view(
+        "kpview" => match ViewRequest::of(alloc, rest) {
+            Ok(request) => view(
                 alloc,
                 &request,
                 &mut streams.source,
                 &mut streams.out,
                 &mut streams.err,
-            )
-        }
-        "kpcore" => {
-            let request = CoreRequest::of(rest);
-            run_core(
+            ),
+            Err(NoMemory) => 5,
+        },
+        "kpcore" => match CoreRequest::of(alloc, rest) {
+            Ok(request) => run_core(
                 alloc,
                 &request,
                 &mut streams.source,
                 &mut streams.out,
                 &mut streams.err,
-            )
-        }
+            ),
+            Err(NoMemory) => 5,
+        },
         "explain" => explain(alloc, words, &mut streams.source, &mut streams.out),
         _ => 1,
     }
@@ -47,8 +47,10 @@ fn explain(alloc: Global, words: &[String], source: &mut MemSource, sink: &mut M
             Err(_) => 4,
         };
     }
-    let Some(order) = Order::of(words) else {
-        return 1;
+    let order = match Order::of(alloc, words) {
+        Ok(Some(order)) => order,
+        Ok(None) => return 1,
+        Err(NoMemory) => return 5,
     };
     let file = match order.file {
         Some(name) => name.as_bytes(),

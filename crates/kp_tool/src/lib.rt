@@ -238,7 +238,7 @@ fn run<S: Source, K: Sink>(
         (IsDue (map string_bytes words.now) (S.left source.old) (S.left source.new)) sink.old sink.new result }
     ensures unread { reads_input (command_of (map string_bytes words.now)) ≡ false → source.new ≡ source.old }
 {
-    let command = match Command::of(words) {
+    let command = match Command::of(alloc, words)? {
         None => return finish(BadWords, sink),
         Some(command) => command,
     };

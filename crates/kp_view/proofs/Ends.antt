@@ -5,7 +5,7 @@ use Rattle.kp_base.specs.{Bytes.AppendsPart, Causes.Rose, declared.refusal.Refus
 use Rattle.kp_base.specs.declared.refusal.Refused.TheVariants as refused
 use Rattle.kp_ast.specs.declared.tree.Job.{Job}
 use Rattle.kp_frontend.specs.{Judging.JudgesText, Judging.Judges.within, Accepting.AnswersText}
-use Rattle.kp_words.specs.Words.{Order, Task, names_for, show}
+use Rattle.kp_view_words.specs.Words.{Order, Task, names_for, show}
 use Rattle.kp_view.specs.Complaints.{complaint_status, complaint_text}
 use Rattle.kp_view.specs.{Due.DueFor, Due.DueOfJob, Due.DueOfNames, Due.Draws, Due.IsShown, Due.Says, Due.names_fit, Due.order_text, Texts.names_text}
 use Rattle.kp_view.specs.{Ends.Ends, Ends.EndsAt, inner.Failures.failure_of, declared.failure.Complaint.Complaint, declared.failure.Failure.Failure}

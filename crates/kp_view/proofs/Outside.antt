@@ -4,8 +4,8 @@ use Rattle.std.specs.{declared.option.Option.Option, declared.result.Result.Resu
 use Rattle.kp_base.specs.{declared.refusal.Refusal.Refusal, Causes.Rose}
 use Rattle.kp_ast.specs.declared.tree.Job.{Job}
 use Rattle.kp_frontend.{specs.Judging.Judges, specs.Judging.too_long, specs.Judging.Judges.over, specs.Judging.Judges.within, proofs.Verdicts.one_verdict}
-use Rattle.kp_words.specs.{Words.Asked, Words.Order, Words.Task, Words.bad_words, Words.help, Words.version, Words.show, declared.words.Topic.Topic}
-use Rattle.kp_words.specs.Texts.{help_text, version_text}
+use Rattle.kp_view_words.specs.{Words.Asked, Words.Order, Words.Task, Words.bad_words, Words.help, Words.version, Words.show, declared.words.Topic.Topic}
+use Rattle.kp_view_words.specs.Texts.{help_text, version_text}
 use Rattle.kp_view.specs.Due.{Says, DueFor, IsShown, order_text, wrong_names_text, DueOfNames, IsDue, IsFinal, IsWhole, Completes, Begins, Between, Prints, IsDrawn, IsRefusal, IsUnaccepted, IsUnrefused, names_fit, reads_input}
 use Rattle.kp_view.specs.{Texts.refusal_text, Ends.Ends, Ends.EndsAt, inner.Failures.stop_status, inner.Failures.end_status, declared.failure.Failure.Failure}
 use Rattle.kp_view.specs.declared.failure.{Failure.TheVariants.Complained, Stop.Stop}

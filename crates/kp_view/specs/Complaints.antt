@@ -1,6 +1,6 @@
 -- A complaint: a status other than 0, and a text on standard error.
 use Rattle.std.specs.Prelude.{ℕ, List, Option}
-use Rattle.kp_words.specs.Texts.{usage_text}
+use Rattle.kp_view_words.specs.Texts.{usage_text}
 use Rattle.kp_view.specs.{Texts.file_text, Texts.names_text, Texts.refusal_said, declared.failure.Complaint.Complaint}
 use Rattle.kp_view.specs.declared.failure.Complaint.TheVariants.{BadWords, WrongNames, Refused}
 

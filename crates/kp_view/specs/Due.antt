@@ -5,8 +5,8 @@ use Rattle.std.specs.Io.KnownBytes.{Consumes, Appends, IsAtEnd}
 use Rattle.kp_base.specs.{Bytes.AppendsPart, declared.refusal.Refusal.Refusal}
 use Rattle.kp_ast.specs.declared.tree.Job.{Job}
 use Rattle.kp_frontend.specs.Judging.{Judges}
-use Rattle.kp_words.specs.Words.{Asked, Order, Run, Task, bad_words, help, version, show, diagram, svg, page, paths, paths_svg, stalls, names_for}
-use Rattle.kp_words.specs.Texts.{help_text, usage_text, version_text}
+use Rattle.kp_view_words.specs.Words.{Asked, Order, Run, Task, bad_words, help, version, show, diagram, svg, page, paths, paths_svg, stalls, names_for}
+use Rattle.kp_view_words.specs.Texts.{help_text, usage_text, version_text}
 use Rattle.kp_pipeline.specs.Rows.{Row}
 use Rattle.kp_diagram_text.specs.{Charts.are_names, Figures.Figure, Text.diagram_text}
 use Rattle.kp_diagram_svg.specs.Picture.{picture}

@@ -11,7 +11,7 @@ use crate::failure::{Complaint, Stop};
 use crate::sentences::sentence_of;
 use itoa::Buffer;
 use kp_base::{Family, Refusal, Sink, SinkFault, write_all, write_pieces};
-use kp_words::usage_of;
+use kp_view_words::usage_of;
 
 /// Writes a complaint about the job of a file, or of standard input, and returns its status. The only error is a fault of the sink, which then has a
 /// prefix of the text.

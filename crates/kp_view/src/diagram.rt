@@ -1,6 +1,6 @@
 // `diagram`: the pipeline diagram as text.
 ghost use Rattle.std.specs.Prelude.{◌≡◌, None, true};
-ghost use Rattle.kp_words.specs.Asked.{run_seen};
+ghost use Rattle.kp_view_words.specs.Asked.{run_seen};
 ghost use Rattle.kp_diagram_text.specs.Charts.{are_names};
 ghost use Rattle.kp_diagram_text.specs.Text.{diagram_text};
 ghost use Rattle.kp_view.specs.Due.{Says, figure_drawn};
@@ -11,7 +11,7 @@ use kp_base::Sink;
 use kp_diagram_text::write_text;
 use kp_frontend::Accepted;
 use kp_stalls_run::{chart_of, run_job};
-use kp_words::Run;
+use kp_view_words::Run;
 use std::alloc::Global;
 
 /// Writes the diagram of a run of a job.

@@ -5,7 +5,7 @@ ghost use Rattle.kp_view.specs.declared.failure.Failure.TheVariants as failure;
 ghost use Rattle.kp_view.specs.declared.failure.Stop.TheVariants as stop;
 
 use kp_base::{NoMemory, Refusal, Refused, SinkFault};
-use kp_words::Topic;
+use kp_view_words::Topic;
 
 /// Why there is no specified outcome: the three failures.
 #[derive(Clone, Copy)]

@@ -1,6 +1,6 @@
 // What is shown of a job.
 ghost use Rattle.std.specs.Prelude.{◌≡◌, ◌≤◌, length, true};
-ghost use Rattle.kp_words.specs.{Asked.order_seen, Asked.task_seen, Words.show};
+ghost use Rattle.kp_view_words.specs.{Asked.order_seen, Asked.task_seen, Words.show};
 ghost use Rattle.kp_view.specs.Due.{DueFor, DueOfJob, Draws, names_fit};
 ghost use Rattle.kp_view.specs.Ends.{Ends};
 
@@ -17,7 +17,7 @@ use kp_frontend::{Accepted, judge};
 use kp_page::laws::listed_words_give_the_states;
 use kp_paths::laws::{the_arrows_are_the_cells, the_cells_are_the_paths};
 use kp_stalls_run::laws::{a_figure_shows_the_run, the_lines_show_causes};
-use kp_words::{Order, Task};
+use kp_view_words::{Order, Task};
 use std::alloc::Global;
 
 /// Writes what is to be shown of the job of an input. The job is read and dropped here.

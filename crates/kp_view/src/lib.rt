@@ -21,8 +21,8 @@ mod svg;
 ghost use Rattle.std.specs.Prelude.{◌≡◌, ◌≢◌, ◌⊎◌, List, ℕ, false, None, IfSome};
 ghost use Rattle.kp_base.specs.Causes.{Rose};
 ghost use Rattle.kp_base.specs.Refusal.{e_rule};
-ghost use Rattle.kp_words.specs.{Asked.asked, Asked.file_asked, Asked.task_seen, Words.Asked, Words.Task as TaskAsked, Words.bad_words, Words.show};
-ghost use Rattle.kp_words.specs.declared.words.Topic.{Topic};
+ghost use Rattle.kp_view_words.specs.{Asked.asked, Asked.file_asked, Asked.task_seen, Words.Asked, Words.Task as TaskAsked, Words.bad_words, Words.show};
+ghost use Rattle.kp_view_words.specs.declared.words.Topic.{Topic};
 ghost use Rattle.kp_view.specs.Due.{Says, DueFor, IsDue, IsFinal, Completes, Begins, Between, Prints, IsDrawn, IsRefusal, IsUnaccepted, IsUnrefused, reads_input};
 ghost use Rattle.kp_view.specs.Ends.{Ends, EndsAt};
 ghost use Rattle.kp_view.specs.inner.Failures.{end_status};
@@ -31,7 +31,7 @@ use complaint::complain;
 use failure::{Complaint, Failure, Stop};
 use job::on_job;
 use kp_base::{Place, ReadAll, Refusal, Sink, Source, read_all, write_all};
-use kp_words::{Request, Task, help_of, version};
+use kp_view_words::{Request, Task, help_of, version};
 use std::alloc::Global;
 
 /// Does what is asked for: reads the source if something is to be shown of a job, writes to standard output or to standard error, and returns the status. It is 0 if

@@ -1,6 +1,6 @@
 // `page`: a run as a page of HTML.
 ghost use Rattle.std.specs.Prelude.{◌≡◌, ◌≤◌, None, length, true};
-ghost use Rattle.kp_words.specs.Asked.{run_seen};
+ghost use Rattle.kp_view_words.specs.Asked.{run_seen};
 ghost use Rattle.kp_diagram_text.specs.Charts.{IsDrawable, are_names, figure_of, rows_of};
 ghost use Rattle.kp_page.specs.States.{states_text};
 ghost use Rattle.kp_page.specs.Page.{page as page_text};
@@ -17,7 +17,7 @@ use kp_page::write_page;
 use kp_paths::Paths;
 use kp_stalls_run::{chart_of, run_job};
 use kp_synth::synth;
-use kp_words::Run;
+use kp_view_words::Run;
 use std::alloc::Global;
 
 /// Writes the page of a run of a job, with the input that the job was read from.

@@ -1,6 +1,6 @@
 // `svg`: the pipeline diagram as a picture.
 ghost use Rattle.std.specs.Prelude.{◌≡◌, None, true};
-ghost use Rattle.kp_words.specs.Asked.{run_seen};
+ghost use Rattle.kp_view_words.specs.Asked.{run_seen};
 ghost use Rattle.kp_diagram_text.specs.Charts.{are_names};
 ghost use Rattle.kp_diagram_svg.specs.Picture.{picture};
 ghost use Rattle.kp_view.specs.Due.{Says, figure_drawn, rows_drawn};
@@ -11,7 +11,7 @@ use kp_base::Sink;
 use kp_diagram_svg::write_svg;
 use kp_frontend::Accepted;
 use kp_stalls_run::{chart_of, run_job};
-use kp_words::Run;
+use kp_view_words::Run;
 use std::alloc::Global;
 
 /// Writes the picture of a run of a job.

@@ -1,6 +1,7 @@
 -- The words of `explain`.
-use Rattle.std.specs.Prelude.{◌==◌, ℕ, Bool, true, false, ◌||◌, List, [], ◌∷◌, codes, if◌then◌else◌, Option, Some, None, is_some, option_map, string_bytes}
+use Rattle.std.specs.Prelude.{ℕ, Bool, true, false, ◌||◌, List, [], ◌∷◌, codes, if◌then◌else◌, Option, Some, None, is_some, option_and_then, option_map, slice_get, string_bytes}
 use Rattle.std.specs.Str.{bytes_eq}
+use Rattle.kp_command_line.specs.Words.{Matched, Name, file_in, has_dash, matched_in}
 use Rattle.kp_view_explain.specs.declared.words.{Order.Order, Subject.Subject}
 use Rattle.kp_view_explain.specs.declared.words.Subject.TheVariants as subjects
 
@@ -13,36 +14,34 @@ pub record Asked : Type 0 where
 abbrev pub order_seen : Order → Asked
 order_seen order = record { subject = order.subject; strict = order.strict; file = option_map (λ word. string_bytes word.now) order.file }
 
-abbrev pub begins_with_dash : List ℕ → Bool
-begins_with_dash [] = false
-begins_with_dash (c ∷ cs) = c == 45
-
--- at most one word more, which is a file
-abbrev pub with_file : Subject → Bool → List (List ℕ) → Option Asked
-with_file subject strict [] = Some (record { subject = subject; strict = strict; file = None })
-with_file subject strict (name ∷ []) =
-    if begins_with_dash name then None else Some (record { subject = subject; strict = strict; file = Some name })
-with_file subject strict (name ∷ other ∷ rest) = None
-
--- `--werror`, or nothing, before it
-abbrev pub with_flag : List (List ℕ) → Option Asked
-with_flag [] = with_file subjects.Job false []
-with_flag (first ∷ rest) = if bytes_eq first (codes "--werror") then with_file subjects.Job true rest else with_file subjects.Job false (first ∷ rest)
-
 -- the command of `kp` whose input is asked about
 abbrev pub subject_of : List ℕ → Option Subject
 subject_of word =
     if bytes_eq word (codes "read") then Some subjects.Verilog else (if bytes_eq word (codes "watch") then Some subjects.Watched
     else (if bytes_eq word (codes "asm") then Some subjects.Program else (if bytes_eq word (codes "debug") then Some subjects.Debugged else None)))
 
-abbrev pub with_subject : Option Subject → List (List ℕ) → List (List ℕ) → Option Asked
-with_subject (Some subject) rest words = with_file subject false rest
-with_subject None rest words = with_flag words
+-- the words that name one, each with at most a file after it
+abbrev pub subject_names : List Name
+subject_names = (codes "read", 1) ∷ (codes "watch", 1) ∷ (codes "asm", 1) ∷ (codes "debug", 1) ∷ []
 
--- such a word, or nothing, before the file
+abbrev pub subject_in : Option (List ℕ) → Option Subject
+subject_in None = Some subjects.Job
+subject_in (Some name) = subject_of name
+
+abbrev pub order_matched : Matched → Option Asked
+order_matched matched = option_map (λ subject. record { subject = subject; strict = false; file = slice_get matched.rest 0 }) (subject_in matched.name)
+
+-- such a word, or nothing, and at most a file
+abbrev pub with_subject : List (List ℕ) → Option Asked
+with_subject words = if has_dash words then None else option_and_then order_matched (matched_in subject_names 1 words)
+
+-- `--werror` and at most a file, or the same without it
 abbrev pub with_words : List (List ℕ) → Option Asked
-with_words [] = with_flag []
-with_words (word ∷ rest) = with_subject (subject_of word) rest (word ∷ rest)
+with_words [] = with_subject []
+with_words (first ∷ rest) =
+    if bytes_eq first (codes "--werror")
+    then option_map (λ file. record { subject = subjects.Job; strict = true; file = file }) (file_in rest)
+    else with_subject (first ∷ rest)
 
 -- the words after the name of the program
 abbrev pub order_of : List (List ℕ) → Option Asked

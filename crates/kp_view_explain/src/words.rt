@@ -1,6 +1,11 @@
 // The words of `explain`.
-ghost use Rattle.std.specs.Prelude.{◌≡◌, map, string_bytes, option_map};
-ghost use Rattle.kp_view_explain.specs.Words.{asks_help, begins_with_dash, help_follows, is_help, order_of, order_seen, subject_of, with_file, with_flag, with_words};
+ghost use Rattle.std.specs.Prelude.{◌≡◌, map, string_bytes, option_map, IfOk};
+ghost use Rattle.kp_command_line.specs.Words.{matched_seen};
+ghost use Rattle.kp_view_explain.specs.Words.{asks_help, help_follows, is_help, order_matched, order_of, order_seen, subject_in, subject_of, with_subject, with_words};
+
+use kp_base::NoMemory;
+use kp_command_line::{Matched, has_dash, match_file, match_words};
+use std::alloc::Global;
 
 /// The help of `explain`.
 pub const HELP: &str =
@@ -38,7 +43,20 @@ pub enum Subject {
     Debugged,
 }
 
+/// The words that name a subject, each with the greatest number of words after it.
+const SUBJECTS: [(&'static str, usize); 4] = [("read", 1), ("watch", 1), ("asm", 1), ("debug", 1)];
+
 impl Subject {
+    // The subject of a name, or a job without one.
+    fn named(name: Option<&str>) -> Option<Subject>
+        ensures { result ≡ subject_in (option_map (λ name. name.now) name.entry) }
+    {
+        match name {
+            Some(name) => Subject::of(name),
+            None => Some(Subject::Job),
+        }
+    }
+
     // The input of the command of `kp` with this name.
     fn of(word: &str) -> Option<Subject>
         ensures { result ≡ subject_of word.now }
@@ -67,80 +85,63 @@ pub struct Order<'w> {
 
 impl<'w> Order<'w> {
     /// What the words after the program's name ask for: `explain [--werror] [FILE]`, or `explain WORD [FILE]` for the word of a command of `kp`.
-    /// `None` for other words.
-    pub fn of(words: &'w [String]) -> Option<Self>
-        ensures { option_map order_seen result ≡ order_of (map string_bytes words.now) }
+    /// `None` for other words. The only error is out of memory.
+    pub fn of(alloc: Global, words: &'w [String]) -> Result<Option<Self>, NoMemory>
+        ensures { IfOk result (λ order. option_map order_seen order ≡ order_of (map string_bytes words.now)) }
     {
         match words {
             [word, rest @ ..] => {
                 if word.as_str() == "explain" {
-                    Order::with_words(rest)
+                    Order::with_words(alloc, rest)
                 } else {
-                    None
+                    Ok(None)
                 }
             }
-            [] => None,
+            [] => Ok(None),
         }
     }
 
-    fn with_words(words: &'w [String]) -> Option<Self>
-        ensures { option_map order_seen result ≡ with_words (map string_bytes words.now) }
+    fn with_words(alloc: Global, words: &'w [String]) -> Result<Option<Self>, NoMemory>
+        ensures { IfOk result (λ order. option_map order_seen order ≡ with_words (map string_bytes words.now)) }
     {
-        match words {
-            [word, rest @ ..] => match Subject::of(word.as_str()) {
-                Some(subject) => Order::with_file(subject, false, rest),
-                None => Order::with_flag(words),
-            },
-            [] => Order::with_flag(words),
-        }
-    }
-
-    fn with_flag(words: &'w [String]) -> Option<Self>
-        ensures { option_map order_seen result ≡ with_flag (map string_bytes words.now) }
-    {
-        match words {
-            [first, rest @ ..] => {
-                if first.as_str() == "--werror" {
-                    Order::with_file(Subject::Job, true, rest)
-                } else {
-                    Order::with_file(Subject::Job, false, words)
-                }
+        if let [first, rest @ ..] = words {
+            if first.as_str() == "--werror" {
+                let input = match_file(alloc, "kpview", rest)?;
+                return match input {
+                    Some(input) => Ok(Some(Order {
+                        subject: Subject::Job,
+                        strict: true,
+                        file: input.file,
+                    })),
+                    None => Ok(None),
+                };
             }
-            [] => Order::with_file(Subject::Job, false, words),
         }
+        Order::with_subject(alloc, words)
     }
 
-    fn with_file(subject: Subject, strict: bool, words: &'w [String]) -> Option<Self>
-        ensures { option_map order_seen result ≡ with_file subject strict (map string_bytes words.now) }
+    fn with_subject(alloc: Global, words: &'w [String]) -> Result<Option<Self>, NoMemory>
+        ensures { IfOk result (λ order. option_map order_seen order ≡ with_subject (map string_bytes words.now)) }
     {
-        match words {
-            [] => Some(Order {
-                subject,
-                strict,
-                file: None,
-            }),
-            [name] => {
-                if begins_with_dash(name.as_bytes()) {
-                    None
-                } else {
-                    Some(Order {
-                        subject,
-                        strict,
-                        file: Some(name),
-                    })
-                }
-            }
-            _ => None,
+        if has_dash(words) {
+            return Ok(None);
+        }
+        let matched = match_words(alloc, "kpview", SUBJECTS.as_slice(), 1, words)?;
+        match matched {
+            Some(matched) => Ok(Order::of_matched(&matched)),
+            None => Ok(None),
         }
     }
-}
 
-fn begins_with_dash(word: &[u8]) -> bool
-    ensures { result ≡ begins_with_dash word.now }
-{
-    match word {
-        [b'-', ..] => true,
-        _ => false,
+    fn of_matched(matched: &Matched<'w>) -> Option<Self>
+        ensures { option_map order_seen result ≡ order_matched (matched_seen matched.now) }
+    {
+        let subject = Subject::named(matched.name)?;
+        Some(Order {
+            subject,
+            strict: false,
+            file: matched.rest.first(),
+        })
     }
 }
 

@@ -1,7 +1,8 @@
 -- The lists of arguments that are accepted.
-use Rattle.std.specs.Prelude.{ℕ, Bool, true, false, List, [], ◌∷◌, length, nat_le, if◌then◌else◌, codes, Option, Some, None, option_and_then}
+use Rattle.std.specs.Prelude.{◌||◌, ℕ, Bool, true, false, List, [], ◌∷◌, length, nat_le, if◌then◌else◌, codes, Option, Some, None, option_and_then}
 use Rattle.std.specs.Str.{bytes_eq}
 use Rattle.kp_bits.specs.Literals.{number_of}
+use Rattle.kp_command_line.specs.Words.{begins_with_dash}
 use Rattle.kp_words.specs.declared.commands.Command.{Command}
 use Rattle.kp_words.specs.declared.commands.Command.TheVariants.{OnJob, Assemble, Read, Watch, Compare, Debug, Generate}
 use Rattle.kp_words.specs.declared.commands.JobCommand.TheVariants.{Seq, Check, Sim, Vcd, Timing, Pipe}
@@ -53,3 +54,7 @@ abbrev pub reads_input : Option Command → Bool
 reads_input None = false
 reads_input (Some (Generate seed count)) = false
 reads_input (Some command) = true
+
+-- the arguments that are in no accepted list, whatever the others are
+abbrev pub is_barred : List ℕ → Bool
+is_barred word = begins_with_dash word || bytes_eq word (codes "help")

@@ -1,5 +1,2 @@
 pub mod Commands
-pub mod Words
-pub mod Asked
-pub mod Texts
 pub mod inner

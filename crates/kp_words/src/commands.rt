@@ -1,8 +1,30 @@
 // The arguments of a command line.
-ghost use Rattle.std.specs.Prelude.{◌≡◌, map, string_bytes, option_and_then};
+ghost use Rattle.std.specs.Prelude.{◌≡◌, map, string_bytes, option_and_then, IfOk, Ok, None, true};
+ghost use Rattle.std.specs.List.{list_any};
+ghost use Rattle.kp_command_line.specs.Words.{matched_seen};
+ghost use Rattle.kp_words.specs.{inner.Matching.command_matched, Commands.is_barred};
 ghost use Rattle.kp_words.specs.Commands.{plain_command, counted_command, seeded_command, command_of, count_of, seed_of};
 
+use kp_base::NoMemory;
 use kp_bits::read_number;
+use kp_command_line::{Matched, begins_with_dash, match_words};
+use std::alloc::Global;
+
+/// The names of the commands, each with the greatest number of words after it.
+const NAMES: [(&'static str, usize); 12] = [
+    ("seq", 1),
+    ("check", 0),
+    ("sim", 1),
+    ("vcd", 1),
+    ("timing", 1),
+    ("pipe", 0),
+    ("asm", 0),
+    ("read", 0),
+    ("watch", 1),
+    ("equiv", 0),
+    ("debug", 0),
+    ("gen", 2),
+];
 
 /// The greatest number of instructions or cycles.
 const MOST_COUNT: u32 = 100_000;
@@ -44,14 +66,31 @@ pub enum Command {
 }
 
 impl Command {
-    /// The command of an accepted list of arguments, and `None` for any other list.
-    pub fn of(words: &[String]) -> Option<Self>
-        ensures { result ≡ command_of (map string_bytes words.now) }
+    /// The command of an accepted list of arguments, and `None` for any other list. The only error is out of memory; a list with an argument that
+    /// begins with `-` or is `help` has none.
+    pub fn of(alloc: Global, words: &[String]) -> Result<Option<Self>, NoMemory>
+        ensures command { IfOk result (λ command. command ≡ command_of (map string_bytes words.now)) }
+        ensures barred { list_any (λ word. is_barred (string_bytes word)) words.now ≡ true → result ≡ Ok None }
     {
-        match words {
-            [name] => Self::plain(name.as_str()),
-            [name, count] => Self::counted(name.as_str(), count.as_bytes()),
-            [name, seed, count] => Self::seeded(name.as_str(), seed.as_bytes(), count.as_bytes()),
+        if has_barred(words) {
+            return Ok(None);
+        }
+        let matched = match_words(alloc, "kp", NAMES.as_slice(), 0, words)?;
+        match matched {
+            Some(matched) => Ok(Self::of_matched(&matched)),
+            None => Ok(None),
+        }
+    }
+
+    // The command of a name and the words after it.
+    fn of_matched(matched: &Matched<'_>) -> Option<Self>
+        ensures { result ≡ command_matched (matched_seen matched.now) }
+    {
+        let name = matched.name?;
+        match matched.rest {
+            [] => Self::plain(name),
+            [count] => Self::counted(name, count.as_bytes()),
+            [seed, count] => Self::seeded(name, seed.as_bytes(), count.as_bytes()),
             _ => None,
         }
     }
@@ -97,6 +136,20 @@ impl Command {
             _ => None,
         }
     }
+}
+
+// One of the arguments is rejected before the match.
+fn has_barred(words: &[String]) -> bool
+    ensures { result ≡ list_any (λ word. is_barred (string_bytes word)) words.now }
+{
+    words.iter().any(|word| is_barred(word.as_str()))
+}
+
+// The argument begins with `-`, or is `help`, so it is in no command.
+fn is_barred(word: &str) -> bool
+    ensures { result ≡ is_barred word.now }
+{
+    begins_with_dash(word.as_bytes()) || word == "help"
 }
 
 // The number that 1 to 20 decimal digits denote, up to 2^64 - 1.

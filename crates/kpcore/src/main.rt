@@ -1,7 +1,7 @@
 //! The program `kpcore`: it passes what the words of its command line ask for, a file or standard input, and the standard streams to the top call.
 #![tactic(auto)]
 
-use kp_base::{StdSink, StdSource, write_all};
+use kp_base::{NoMemory, StdSink, StdSource, write_all};
 use kp_core::{Request, run_core};
 use std::alloc::AllocError;
 use std::env::Env;
@@ -50,7 +50,10 @@ fn words(rt: &(impl Env + AllocGlobal)) -> Result<Vec<String>, AllocError> {
 
 // Does what the words ask for.
 fn run(rt: &HostRuntime, words: &[String]) -> u8 {
-    let request = Request::of(words);
+    let request = match Request::of(rt.alloc(), words) {
+        Ok(request) => request,
+        Err(NoMemory) => return NO_MEMORY,
+    };
     match request {
         Request::Core(_, Some(file)) => on_file(rt, &request, file.as_str()),
         _ => on_source(rt, &request, rt.reader()),

@@ -2,10 +2,10 @@
 //! `explain`, or that of all other words. The help of `explain` is printed here.
 #![tactic(auto)]
 
-use kp_base::{StdSink, StdSource, write_all};
+use kp_base::{NoMemory, StdSink, StdSource, write_all};
 use kp_view::view;
 use kp_view_explain::{HELP, Order, asks_help, explain_source};
-use kp_words::Request;
+use kp_view_words::Request;
 use std::alloc::AllocError;
 use std::env::Env;
 use std::io::{BufWriter, ErrorKind, Read};
@@ -53,10 +53,19 @@ fn run(rt: &HostRuntime, words: &[String]) -> u8 {
     if asks_help(words) {
         return help(rt);
     }
-    if let Some(order) = Order::of(words) {
-        return explain(rt, &order);
+    match Order::of(rt.alloc(), words) {
+        Ok(Some(order)) => explain(rt, &order),
+        Ok(None) => view_words(rt, words),
+        Err(NoMemory) => NO_MEMORY,
     }
-    let request = Request::of(words);
+}
+
+// Does what words other than those of `explain` ask for.
+fn view_words(rt: &HostRuntime, words: &[String]) -> u8 {
+    let request = match Request::of(rt.alloc(), words) {
+        Ok(request) => request,
+        Err(NoMemory) => return NO_MEMORY,
+    };
     match request.file() {
         Some(file) => on_file(rt, &request, file.as_str()),
         None => on_source(rt, &request, rt.reader()),

@@ -1,6 +1,6 @@
 use Rattle.std.{proofs.Common.ap, proofs.Common.None, specs.Prelude.⊤}
 use Rattle.kp_base.specs.Causes.{Rose}
-use Rattle.kp_words.specs.Asked.{asked, file_asked}
+use Rattle.kp_view_words.specs.Asked.{asked, file_asked}
 use Rattle.kp_view.proofs.Outside.{bad_words_end, help_end, version_end}
 use Rattle.kp_view.proofs.carry_out.Goals as goal
 

@@ -1,6 +1,6 @@
 use Rattle.std.specs.Prelude.{⊤}
 use Rattle.kp_base.specs.Causes.{Rose}
-use Rattle.kp_words.specs.Asked.{asked, file_asked}
+use Rattle.kp_view_words.specs.Asked.{asked, file_asked}
 use Rattle.kp_view.{specs.Due.IsDue, proofs.Ends.complained, proofs.Ends.finished, proofs.Ends.stopped}
 use Rattle.kp_view.proofs.ended.Goals as goal
 

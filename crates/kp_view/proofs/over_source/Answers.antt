@@ -1,6 +1,6 @@
 use Rattle.std.proofs.Common.{ap, ◌∙◌, Err, refl, arith}
 use Rattle.kp_base.specs.Causes.{Rose}
-use Rattle.kp_words.specs.Asked.{task_seen}
+use Rattle.kp_view_words.specs.Asked.{task_seen}
 use Rattle.kp_view.proofs.Outside.{over_input, too_long_is_due}
 use Rattle.kp_view.proofs.over_source.Goals as goal
 

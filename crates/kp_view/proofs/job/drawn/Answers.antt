@@ -1,6 +1,6 @@
 use Rattle.std.proofs.Common.{ap}
 use Rattle.kp_machine.specs.Machine.{inputs_from, pipe_of}
-use Rattle.kp_words.specs.{Asked.order_seen, Asked.run_seen, Asked.task_seen, Words.diagram, Words.svg, Words.page, Words.paths, Words.paths_svg, Words.stalls}
+use Rattle.kp_view_words.specs.{Asked.order_seen, Asked.run_seen, Asked.task_seen, Words.diagram, Words.svg, Words.page, Words.paths, Words.paths_svg, Words.stalls}
 use Rattle.kp_view.proofs.Ends.{drawn_by}
 use Rattle.kp_view.proofs.job.drawn.Goals as goal
 

@@ -3,7 +3,7 @@ use Rattle.std.specs.Prelude.{List, ℕ, length, string_bytes, ⊤}
 use Rattle.kp_ast.specs.declared.tree.Job.{Job}
 use Rattle.kp_run.proofs.Machines.{stages_fit}
 use Rattle.kp_diagram_text.specs.Charts.{are_names}
-use Rattle.kp_words.specs.Asked.{task_seen}
+use Rattle.kp_view_words.specs.Asked.{task_seen}
 use Rattle.kp_view.{specs.Due.names_fit, proofs.Ends.by_names, proofs.Ends.names_wrong}
 use Rattle.kp_view.proofs.job.of_job.Goals as goal
 

@@ -1,5 +1,5 @@
 use Rattle.std.{proofs.Common.refl, proofs.lemmas.Result.err_from_is_err_and, specs.Prelude.⊤}
-use Rattle.kp_words.specs.Asked.{task_seen}
+use Rattle.kp_view_words.specs.Asked.{task_seen}
 use Rattle.kp_view.proofs.Ends.{refused_job, accepted_job}
 use Rattle.kp_view.proofs.job.on_job.Goals as goal
 

@@ -9,4 +9,4 @@ pub returns-then-has_version : goal.returns-then-has_version
 returns-then-has_version c = versioned string_bytes c.args.words.now c.if-has_help.ensures c.if-has_version.ensures
 
 pub returns : goal.returns
-returns c = filed string_bytes c.args.words.now (asked c.of_form.result) c.if-has_help.ensures c.if-has_version.ensures c.of_form.ensures
+returns c = filed string_bytes c.args.words.now (asked c.in_ok-request.request) c.if-has_help.ensures c.if-has_version.ensures c.in_ok-request.ensures

@@ -1,0 +1,34 @@
+-- A request of the program, as what it asks for.
+use Rattle.std.specs.Prelude.{ℕ, List, Option, None, map, string_bytes, option_map}
+use Rattle.kp_view_words.specs.Words.{Asked, Order, Run, Task, bad_words, help, version, show, diagram, svg, page, paths, paths_svg, stalls}
+use Rattle.kp_view_words.specs.declared.words.Request.{Request}
+use Rattle.kp_view_words.specs.declared.task.Order as code_order
+use Rattle.kp_view_words.specs.declared.task.Order.TheVariants as orders
+use Rattle.kp_view_words.specs.declared.task.Run as code_run
+use Rattle.kp_view_words.specs.declared.task.Task as code_task
+use Rattle.kp_view_words.specs.declared.words.Request.TheVariants as requests
+
+abbrev pub run_seen : code_run.Run → Run
+run_seen run = record { count = run.count; names = map string_bytes run.names.now }
+
+abbrev pub order_seen : code_order.Order → Order
+order_seen (orders.Diagram run) = diagram (run_seen run)
+order_seen (orders.Svg run) = svg (run_seen run)
+order_seen (orders.Page run) = page (run_seen run)
+order_seen orders.Paths = paths
+order_seen orders.PathsSvg = paths_svg
+order_seen (orders.Stalls cycles) = stalls cycles.count
+
+abbrev pub task_seen : code_task.Task → Task
+task_seen task = record { order = order_seen task.order; file = option_map (λ word. string_bytes word.now) task.file }
+
+abbrev pub asked : Request → Asked
+asked (requests.BadWords topic) = bad_words topic
+asked (requests.Help topic) = help topic
+asked requests.Version = version
+asked (requests.Show task) = show (task_seen task)
+
+-- the file of what is shown
+abbrev pub file_asked : Asked → Option (List ℕ)
+file_asked (show task) = task.file
+file_asked _ = None

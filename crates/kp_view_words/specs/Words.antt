@@ -1,0 +1,163 @@
+-- What the words of a command line ask for.
+use Rattle.std.specs.Prelude.{◌==◌, ◌||◌, ◌&&◌, ◌-◌, not, ℕ, Bool, false, List, [], ◌∷◌, length, take, leb, ltb, nat_le, nat_lt, slice_get, if◌then◌else◌, codes, Option, Some, None, option_and_then, option_map}
+use Rattle.std.specs.{List.list_all, List.list_any, Option.option_map_or, Str.bytes_eq}
+use Rattle.kp_base.specs.Characters.{is_word}
+use Rattle.kp_bits.specs.Literals.{number_of}
+use Rattle.kp_command_line.specs.Words.{Text, has_dash}
+use Rattle.kp_view_words.specs.declared.words.{Topic.Topic, Word.Word}
+use Rattle.kp_view_words.specs.declared.words.Topic.TheVariants as topics
+use Rattle.kp_view_words.specs.declared.words.Word.TheVariants as words
+
+-- A run that is drawn: its number of cycles, and the names of the stages.
+pub record Run : Type 0 where
+  pub count : ℕ
+  pub names : List Text
+
+-- What is to be written about a job: a word, with what it takes.
+pub data Order : Type 0 where
+  diagram : Run → Order
+  svg : Run → Order
+  page : Run → Order
+  paths : Order
+  paths_svg : Order
+  stalls : ℕ → Order
+
+-- What is to be shown of a job, and its file, or none for standard input.
+pub record Task : Type 0 where
+  pub order : Order
+  pub file : Option Text
+
+pub data Asked : Type 0 where
+  bad_words : Topic → Asked
+  help : Topic → Asked
+  version : Asked
+  show : Task → Asked
+
+-- the names of the stages that are given
+abbrev pub names_for : Order → List Text
+names_for (diagram run) = run.names
+names_for (svg run) = run.names
+names_for (page run) = run.names
+names_for paths = []
+names_for paths_svg = []
+names_for (stalls count) = []
+
+-- the word of this name
+abbrev pub word_named : Text → Option Word
+word_named name =
+    if bytes_eq name (codes "diagram") then Some words.Diagram
+    else (if bytes_eq name (codes "svg") then Some words.Svg
+    else (if bytes_eq name (codes "page") then Some words.Page
+    else (if bytes_eq name (codes "paths") then Some words.Paths
+    else (if bytes_eq name (codes "stalls") then Some words.Stalls else None))))
+
+-- the topic of a name: its word, or the program
+abbrev pub topic_named : Text → Topic
+topic_named name = option_map_or (λ word. topics.Of word) (word_named name) topics.Program
+
+abbrev pub is_help_word : Text → Bool
+is_help_word word = bytes_eq word (codes "help")
+
+abbrev pub is_help_flag : Text → Bool
+is_help_flag word = bytes_eq word (codes "--help") || bytes_eq word (codes "-h")
+
+abbrev pub is_version_flag : Text → Bool
+is_version_flag word = bytes_eq word (codes "--version") || bytes_eq word (codes "-V")
+
+-- help is about the first word, or about the second after `help`
+abbrev pub help_place : List Text → ℕ
+help_place all = if option_map_or is_help_word (slice_get all 0) false then 1 else 0
+
+abbrev pub topic_of : List Text → Topic
+topic_of all = option_map_or topic_named (slice_get all (help_place all)) topics.Program
+
+abbrev pub asks_help : List Text → Bool
+asks_help all = option_map_or is_help_word (slice_get all 0) false || list_any is_help_flag all
+
+-- the number that 1 to 20 decimal digits denote, with or without leading zeros, up to the greatest one
+unfoldable pub count_of : ℕ → Text → Option ℕ
+count_of most word =
+    if nat_le (length word) 20
+    then option_and_then (λ number. if nat_le number most then Some number else None) (number_of word)
+    else None
+
+-- the name of a stage: 1 to 8 letters, digits or `_`
+abbrev pub is_name : Text → Bool
+is_name word = ltb 0 (length word) && leb (length word) 8 && list_all is_word word
+
+-- a word with another character
+abbrev pub is_path : Text → Bool
+is_path word = list_any (λ byte. not (is_word byte)) word
+
+-- A single word after N is a file; of several, the last one is a file if it has another character than letters, digits and `_`.
+abbrev pub is_file_after : ℕ → Text → Bool
+is_file_after names last = (names == 0) || is_path last
+
+abbrev pub file_in : List Text → Option Text
+file_in rest =
+    option_and_then (λ last. if is_file_after (length rest - 1) last then Some last else None) (slice_get rest (length rest - 1))
+
+-- the words before the file, or all of them
+abbrev pub names_in : List Text → List Text
+names_in rest = option_map_or (λ file. take (length rest - 1) rest) (file_in rest) rest
+
+-- A RUN, and a file: a number of at most 1,000 cycles, and then names of the stages and a file.
+pub record RunAsked : Type 0 where
+  pub run : Run
+  pub file : Option Text
+
+abbrev pub run_with : ℕ → List Text → Option RunAsked
+run_with count rest =
+    if list_all is_name (names_in rest)
+    then Some (record { run = record { count = count; names = names_in rest }; file = file_in rest })
+    else None
+
+abbrev pub run_in : List Text → Option RunAsked
+run_in [] = None
+run_in (number ∷ rest) = option_and_then (λ count. run_with count rest) (count_of 1000 number)
+
+-- what is to be written, with at most a file after it
+abbrev pub with_file : Order → List Text → Option Task
+with_file order rest = if nat_lt 1 (length rest) then None else Some (record { order = order; file = slice_get rest 0 })
+
+-- the stalls of a job: a number of at most 100,000 cycles, with at most a file after it
+abbrev pub stalls_with : List Text → Option Task
+stalls_with [] = None
+stalls_with (number ∷ files) = option_and_then (λ count. with_file (stalls count) files) (count_of 100000 number)
+
+-- what a word asks for, with these words after it
+abbrev pub task_with : Word → List Text → Option Task
+task_with words.Diagram rest = option_map (λ asked. record { order = diagram asked.run; file = asked.file }) (run_in rest)
+task_with words.Svg rest = option_map (λ asked. record { order = svg asked.run; file = asked.file }) (run_in rest)
+task_with words.Page rest = option_map (λ asked. record { order = page asked.run; file = asked.file }) (run_in rest)
+task_with words.Paths rest = with_file paths rest
+task_with words.Stalls rest = stalls_with rest
+
+-- the task of an accepted list: a word, and at most 14 further words
+abbrev pub task_named : List Text → Option Task
+task_named [] = None
+task_named (name ∷ rest) = if nat_lt 14 (length rest) then None else option_and_then (λ word. task_with word rest) (word_named name)
+
+-- The one flag of a word: `paths --svg`, with at most a file after it.
+abbrev pub asks_picture : Text → Text → Bool
+asks_picture word flag = bytes_eq word (codes "paths") && bytes_eq flag (codes "--svg")
+
+abbrev pub flagged_task : List Text → Option Task
+flagged_task [] = None
+flagged_task (word ∷ []) = None
+flagged_task (word ∷ flag ∷ files) =
+    if asks_picture word flag && not (has_dash files) then with_file paths_svg files else None
+
+abbrev pub task_of : List Text → Option Task
+task_of all = if has_dash all then flagged_task all else task_named all
+
+-- what is asked for
+abbrev pub asked_or : Topic → Option Task → Asked
+asked_or topic None = bad_words topic
+asked_or topic (Some task) = show task
+
+abbrev pub asked_for : List Text → Asked
+asked_for all =
+    if asks_help all then help (topic_of all)
+    else (if list_any is_version_flag all then version
+    else asked_or (topic_of all) (task_of all))

@@ -1,0 +1,13 @@
+//! The words of a command line of `kpview`: what they ask for (`Request`), and the texts of help, usage and version.
+//!
+//! A word is a variant of `Word`, a line in `named` and in `WORDS`, its texts, and a line in `task_with`, which says what the words after it mean.
+//! What it takes is in its variant of `Order`.
+#![tactic(auto)]
+
+mod task;
+mod texts;
+mod words;
+
+pub use task::{Cycles, Order, Run, Task};
+pub use texts::{help_of, usage_of, version};
+pub use words::{Request, Topic, Word};

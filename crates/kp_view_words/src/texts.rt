@@ -1,0 +1,204 @@
+// The texts of help, usage and version. Each ends with a line feed.
+ghost use Rattle.std.specs.Prelude.{◌≡◌};
+ghost use Rattle.kp_view_words.specs.Texts.{help_text, usage_text, version_text};
+
+use crate::words::{Topic, Word};
+
+/// The version of the program, which the file VERSION at the top has too.
+pub const VERSION: &str = "kpview 0.10.0\n";
+
+/// How the program is called.
+pub const USAGE: &str = "usage: kpview diagram N [NAMES] [FILE]
+       kpview svg N [NAMES] [FILE]
+       kpview page N [NAMES] [FILE]
+       kpview paths [--svg] [FILE]
+       kpview stalls N [FILE]
+       kpview explain [--werror] [FILE]
+       kpview explain read|watch|asm|debug [FILE]
+       kpview --help
+";
+
+/// How `diagram` is called.
+pub const USAGE_DIAGRAM: &str = "usage: kpview diagram N [NAMES] [FILE]
+N is 0 to 1000; a name has 1 to 8 letters, digits or `_`
+";
+
+/// How `svg` is called.
+pub const USAGE_SVG: &str = "usage: kpview svg N [NAMES] [FILE]
+N is 0 to 1000; a name has 1 to 8 letters, digits or `_`
+";
+
+/// How `page` is called.
+pub const USAGE_PAGE: &str = "usage: kpview page N [NAMES] [FILE]
+N is 0 to 1000; a name has 1 to 8 letters, digits or `_`
+";
+
+/// How `paths` is called.
+pub const USAGE_PATHS: &str = "usage: kpview paths [--svg] [FILE]
+";
+
+/// How `stalls` is called.
+pub const USAGE_STALLS: &str = "usage: kpview stalls N [FILE]
+N is 0 to 100000
+";
+
+/// The help of the program.
+pub const HELP: &str = "Draws how instructions move through the pipelined machine of a kp job.
+
+usage: kpview WORD .. [FILE]
+
+words:
+  diagram N [NAMES] [FILE]   N cycles of the pipeline, as text
+  svg N [NAMES] [FILE]       the same as a picture
+  page N [NAMES] [FILE]      the same as an HTML page, with the states
+  paths [--svg] [FILE]       where each read takes its value from
+  stalls N [FILE]            why instructions wait or are squashed
+  explain [--werror] [FILE]  why the job is rejected, and warnings
+  explain read|watch|asm|debug [FILE]
+                             why another input of kp is rejected
+
+The job is read from FILE, or from standard input.
+
+options:
+  -h, --help      print this help, or that of a word: kpview diagram --help
+  -V, --version   print the version
+
+status: 0 done, 1 wrong words, 2 the job violates a rule, 3 reading failed,
+4 writing failed, 5 out of memory
+";
+
+/// The help of `diagram`.
+pub const HELP_DIAGRAM: &str =
+    "Prints N cycles of the pipelined machine of a job as text: a line for each
+instruction that is fetched, a column for each cycle, and the account of the
+cycles below them.
+
+usage: kpview diagram N [NAMES] [FILE]
+
+  N       the number of cycles, 0 to 1000
+  NAMES   a name for each stage, of 1 to 8 letters, digits or `_`, as in
+          IF ID EX ME WB; without names the stages are numbered
+  FILE    the job; without it, standard input is read. A single word after N
+          is a file. Of several, the last one is a file if it has a character
+          other than letters, digits and `_`, as in ./job
+
+A cell names the stage that holds the instruction in the cycle, with a mark:
+  *   waits for a value
+  -   waits for the stage ahead
+  !   held from outside
+  x   squashed
+";
+
+/// The help of `svg`.
+pub const HELP_SVG: &str =
+    "Draws N cycles of the pipelined machine of a job as a picture, in SVG 1.1: a row
+for each instruction that is fetched, a column for each cycle, and the account
+of the cycles below them.
+
+usage: kpview svg N [NAMES] [FILE]
+
+  N       the number of cycles, 0 to 1000
+  NAMES   a name for each stage, of 1 to 8 letters, digits or `_`, as in
+          IF ID EX ME WB; without names the stages are numbered
+  FILE    the job; without it, standard input is read. A single word after N
+          is a file. Of several, the last one is a file if it has a character
+          other than letters, digits and `_`, as in ./job
+
+A cell has the colour of the stage that holds the instruction in the cycle, and
+its name. The legend of the picture says how a cell shows that the instruction
+waits, is held from outside or is squashed. A column is grey if a guess was
+found wrong in its cycle.
+";
+
+/// The help of `page`.
+pub const HELP_PAGE: &str =
+    "Writes an HTML page about N cycles of the pipelined machine of a job: its source,
+the pipeline diagram, and for each cycle the registers, the words of files that
+changed, and why instructions wait or are squashed. A slider and the arrow keys
+choose the cycle.
+
+usage: kpview page N [NAMES] [FILE]
+
+  N       the number of cycles, 0 to 1000
+  NAMES   a name for each stage, of 1 to 8 letters, digits or `_`, as in
+          IF ID EX ME WB; without names the stages are numbered
+  FILE    the job; without it, standard input is read. A single word after N
+          is a file. Of several, the last one is a file if it has a character
+          other than letters, digits and `_`, as in ./job
+
+The page is one file, which needs no other file and no network.
+";
+
+/// The help of `paths`.
+pub const HELP_PATHS: &str =
+    "Prints a table of the forwarding paths of the pipelined machine of a job: a row
+for each read, with its line and its stage, and a column for each stage.
+
+usage: kpview paths [--svg] [FILE]
+
+  --svg   draw a picture, in SVG 1.1: the stages as columns, the reads as rows,
+          and for each cell but `.` an arrow to the stage of the read
+  FILE    the job; without it, standard input is read
+
+A cell says what an older instruction in that stage has for the read:
+  bypass  the value, once the stage isn't stalled
+  maybe   the value if a set took place; else the read waits, or goes on with
+          its guess
+  wait    nothing: no value is set yet, or it isn't known whether the
+          instruction writes what is read; the read waits
+  guess   the same, but the read goes on with its guess
+  .       the read takes no value from that stage
+";
+
+/// The help of `stalls`.
+pub const HELP_STALLS: &str =
+    "Prints why instructions wait in N cycles of the pipelined machine of a job: a
+line for each instruction that waits in a cycle, the oldest first, and one for
+each guess that is found wrong. Below them are the sums.
+
+usage: kpview stalls N [FILE]
+
+  N       the number of cycles, 0 to 100000
+  FILE    the job; without it, standard input is read
+
+An instruction waits for a value or for the stage ahead, is held from outside, or
+waits and is squashed in a later cycle. A wait for a value is printed with what
+is read, the line of the read, and the nearest older instruction that writes it
+or may write it; in a job with guesses, only of an instruction that retires in
+these N cycles.
+";
+
+/// The help on a topic.
+pub fn help_of(topic: Topic) -> &'static str
+    ensures { result.now ≡ help_text topic }
+{
+    match topic {
+        Topic::Program => HELP,
+        Topic::Of(Word::Diagram) => HELP_DIAGRAM,
+        Topic::Of(Word::Svg) => HELP_SVG,
+        Topic::Of(Word::Page) => HELP_PAGE,
+        Topic::Of(Word::Paths) => HELP_PATHS,
+        Topic::Of(Word::Stalls) => HELP_STALLS,
+    }
+}
+
+/// How the program is called, or one of its words.
+pub fn usage_of(topic: Topic) -> &'static str
+    ensures { result.now ≡ usage_text topic }
+{
+    match topic {
+        Topic::Program => USAGE,
+        Topic::Of(Word::Diagram) => USAGE_DIAGRAM,
+        Topic::Of(Word::Svg) => USAGE_SVG,
+        Topic::Of(Word::Page) => USAGE_PAGE,
+        Topic::Of(Word::Paths) => USAGE_PATHS,
+        Topic::Of(Word::Stalls) => USAGE_STALLS,
+    }
+}
+
+/// The line of `--version`.
+pub fn version() -> &'static str
+    ensures { result.now ≡ version_text }
+{
+    VERSION
+}
