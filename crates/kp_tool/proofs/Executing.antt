@@ -12,7 +12,7 @@ use Rattle.kp_words.specs.declared.commands.JobCommand.TheVariants.{Sim, Vcd, Pi
 use Rattle.kp_described.specs.Sections.{IsWith, HasSections}
 use Rattle.kp_isa.specs.Runs.{start_state, Retires, IsProcessor}
 use Rattle.kp_isa.proofs.Memory.{starts_fit, reset_fits}
-use Rattle.kp_tool.specs.{Due.DueFor, Headline.IsMoving, Headline.IsVerilogWith, Headline.IsRunWith, Headline.IsDumpedWith, Headline.IsDebuggedWith, Headline.IsNetlistWith}
+use Rattle.kp_tool.specs.{Due.DueFor, Executing.ExecutesAs, Headline.IsMoving, Headline.IsVerilogWith, Headline.IsRunWith, Headline.IsDumpedWith, Headline.IsDebuggedWith, Headline.IsNetlistWith}
 use Rattle.kp_tool.proofs.Headline.{judged_unbroken, head_unbroken, HoldsOfPipe, HoldsAlike, legal_pipe, moves_pipe, legal_alike, moves_alike, sim_with, vcd_with, debug_with, pipe_with, watch_is_legal}
 
 -- a run that is legal and moves
@@ -127,3 +127,16 @@ module _ (head : List ℕ) (base : Job) (Ready : (ℕ → ℕ → ℕ) → Type 
         printed = r.printed;
         holds = shows_start r.job _ _ (head_is r.job r.rest r.judged) (head_unbroken input r.job r.rest r.judged) r.holds;
       }
+
+-- all of them
+pub executes_as : (head : List ℕ) (base : Job) (Ready : (ℕ → ℕ → ℕ) → Type 0) (Follows : (ℕ → ℕ → ℕ) → Trace → Type 0) → IsProcessor head base Ready Follows
+    → ExecutesAs (λ job s ins trace. (Ready s → Follows s trace) × Retires base.stages.value ins trace)
+    (λ job ins trace. (Ready (start_state job) → Follows (start_state job) trace) × Retires base.stages.value ins trace) (λ job ins trace. Ready (start_state job) → Follows (start_state job) trace)
+    head
+executes_as head base Ready Follows p = record {
+  pipe = λ input text is. pipe_is head base Ready Follows p input text is;
+  sim = λ n input text is. sim_is head base Ready Follows p input text is n;
+  vcd = λ n input text is. vcd_is head base Ready Follows p input text is n;
+  debug = λ input text is. debug_is head base Ready Follows p input text is;
+  watch = λ n input text is. watch_is head base Ready Follows p input text is n;
+}
