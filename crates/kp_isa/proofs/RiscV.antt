@@ -12,7 +12,7 @@ use Rattle.kp_described.proofs.Sections.{described}
 use Rattle.kp_isa_rv.specs.{Text.rv32i_text, Rv32i.rv32i, Rv32ibText.rv32ib_text, Rv32ib.rv32ib, Rv32ipText.rv32ip_text, Rv32ip.rv32ip}
 use Rattle.kp_isa_rv.specs.Isa.{Executes, Runs, IsState, Cpu, word_at, bits, cpu_of}
 use Rattle.kp_isa_rv.proofs.Running.{runs, runs_ib, runs_ip, step}
-use Rattle.kp_isa.specs.Runs.{start_state, Fits, Leaves, IsProcessor}
+use Rattle.kp_isa.specs.Runs.{start_state, Fits, Leaves}
 use Rattle.kp_isa.specs.RiscV.{rv32i_head, rv32ib_head, rv32ip_head, IsReady, Follows, IsRiscV, IsHeadOfRiscV}
 use Rattle.kp_isa.proofs.Memory.{unless_set, same_machine, written_value, moving_retires}
 
