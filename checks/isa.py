@@ -12,7 +12,7 @@ import sys
 from description import Reader
 
 ROOT = os.path.join(os.path.dirname(os.path.abspath(__file__)), "..")
-PROCESSORS = {"kp_isa_rv": ("Rv32i", "riscv/rv32i.kp"), "kp_isa_dlx": ("Dlxs", "dlxs.kp"), "kp_isa_dlx5": ("Dlx5", "dlx5.kp")}
+PROCESSORS = {"kp_isa_rv": ("Rv32i", "riscv/rv32i.kp"), "kp_isa_rvm": ("Rv32im", "riscv/rv32im.kp"), "kp_isa_dlx": ("Dlxs", "dlxs.kp"), "kp_isa_dlx5": ("Dlx5", "dlx5.kp")}
 LAYOUT = re.compile(r"\s+")
 
 
