@@ -7,13 +7,18 @@
 ghost use Rattle.std.specs.Prelude.{ℕ, List};
 ghost use Rattle.kp_isa_dlx.specs.Text.{dlxs_head};
 ghost use Rattle.kp_isa_dlx5.specs.Text.{dlx5_head};
-ghost use Rattle.kp_isa.specs.RiscV.{IsHeadOfRiscV, IsRv32iFrom, IsRv32i, ShowsRv32i};
+ghost use Rattle.kp_isa.specs.RiscV.{IsHeadOfRiscV, IsRv32iFrom, IsRv32i, ShowsRv32i, rv32im_head, IsRv32imFrom, IsRv32im, ShowsRv32im};
 ghost use Rattle.kp_isa.specs.{Dlx.IsDlxFrom, Dlx.IsDlx, Dlx.ShowsDlx, Dlx5.IsDlx5From, Dlx5.IsDlx5, Dlx5.ShowsDlx5};
 ghost use Rattle.kp_tool.specs.Executing.{ExecutesAs};
 
 /// What is written and shown of examples/riscv/rv32i.kp, rv32ib.kp and rv32ip.kp executes RV32I.
 pub fn rv32i_executes_risc_v()
     ensures { (head : List ℕ) → IsHeadOfRiscV head → ExecutesAs IsRv32iFrom IsRv32i ShowsRv32i head }
+{}
+
+/// What is written and shown of examples/riscv/rv32im.kp executes RV32IM.
+pub fn rv32im_executes_risc_v()
+    ensures { ExecutesAs IsRv32imFrom IsRv32im ShowsRv32im rv32im_head }
 {}
 
 /// What is written and shown of examples/dlxs.kp executes the instruction set of the sample processor without delay slots.

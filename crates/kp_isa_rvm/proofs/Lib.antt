@@ -1,0 +1,9 @@
+pub mod Divider
+pub mod Products
+pub mod Signs
+pub mod Computes
+pub mod Same
+pub mod Rows
+pub mod Table
+pub mod Running
+pub mod Corners

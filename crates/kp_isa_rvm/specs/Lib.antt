@@ -1,0 +1,3 @@
+pub mod Text
+pub mod Rv32im
+pub mod Isa
