@@ -20,6 +20,7 @@ MACHINES = {
     "rv32i": ("kp_isa_rv", "Text", "Rv32i", "riscv/rv32i.kp"),
     "rv32ib": ("kp_isa_rv", "Rv32ibText", "Rv32ib", "riscv/rv32ib.kp"),
     "rv32ip": ("kp_isa_rv", "Rv32ipText", "Rv32ip", "riscv/rv32ip.kp"),
+    "rv32im": ("kp_isa_rvm", "Text", "Rv32im", "riscv/rv32im.kp"),
     "dlxs": ("kp_isa_dlx", "Text", "Dlxs", "dlxs.kp"),
     "dlx5": ("kp_isa_dlx5", "Text", "Dlx5", "dlx5.kp"),
     "six": ("kp_isa_six", "Text", "Six", "cookbook/six.kp"),

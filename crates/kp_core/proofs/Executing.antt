@@ -35,7 +35,9 @@ module _ (head : List ℕ) (base : Job) (Ready : (ℕ → ℕ → ℕ) → Type 
         let fits : Fits job v = along net job shows names (λ w x. Fits job w) (starts_fit job none) (λ x i m r. reset_fits job none net x shows.of_job m) s v begins in
         let alike = shown_along net job shows names anew s v ins begins quiet in
         let accepted = accepted_machine job none in
-        (p.runs job v _ _ has fits (legal_alike job v _ _ accepted alike), p.retires job _ _ has (moves_alike job v _ _ accepted alike).0)
+        let given : List Inputs = inputs_seen job ins in
+        let trace : Trace = trace_from job net s ins in
+        (p.runs job v given trace has fits (legal_alike job v given trace accepted alike), p.retires job given trace has (moves_alike job v given trace accepted alike).0)
 
     by_lines : (file : List ℕ) (lines : Result (List Port) PortRefusal) → ports_of job input rest ≡ lines → DueOfLines Module file job lines 0 text → IsCoreWith RunsFrom input text
     by_lines file (Ok ports) e due = record {

@@ -7,13 +7,18 @@ ghost use Rattle.std.specs.Prelude.{ℕ, List, Option};
 ghost use Rattle.kp_described.specs.Sections.{IsWith};
 ghost use Rattle.kp_isa_dlx.specs.Text.{dlxs_head};
 ghost use Rattle.kp_isa_dlx5.specs.Text.{dlx5_head};
-ghost use Rattle.kp_isa.specs.{RiscV.rv32i_head, RiscV.IsRv32iFrom, Dlx.IsDlxFrom, Dlx5.IsDlx5From};
+ghost use Rattle.kp_isa.specs.{RiscV.IsHeadOfRiscV, RiscV.IsRv32iFrom, RiscV.rv32im_head, RiscV.IsRv32imFrom, Dlx.IsDlxFrom, Dlx5.IsDlx5From};
 ghost use Rattle.kp_core.specs.{Cores.IsCoreWith, Due.DueFor, Words.write};
 ghost use Rattle.kp_core.specs.declared.request.Form.TheVariants.{Module};
 
-/// The module of examples/riscv/rv32i.kp executes RV32I.
+/// The modules of examples/riscv/rv32i.kp, rv32ib.kp and rv32ip.kp execute RV32I.
 pub fn cores_of_rv32i_execute_risc_v()
-    ensures { (file : Option (List ℕ)) (input text : List ℕ) → IsWith rv32i_head input → DueFor (write Module file) input 0 text → IsCoreWith IsRv32iFrom input text }
+    ensures { (head : List ℕ) → IsHeadOfRiscV head → (file : Option (List ℕ)) (input text : List ℕ) → IsWith head input → DueFor (write Module file) input 0 text → IsCoreWith IsRv32iFrom input text }
+{}
+
+/// The module of examples/riscv/rv32im.kp executes RV32IM.
+pub fn cores_of_rv32im_execute_risc_v()
+    ensures { (file : Option (List ℕ)) (input text : List ℕ) → IsWith rv32im_head input → DueFor (write Module file) input 0 text → IsCoreWith IsRv32imFrom input text }
 {}
 
 /// The module of examples/dlxs.kp executes the instruction set of the sample processor without delay slots.

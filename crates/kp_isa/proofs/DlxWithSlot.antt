@@ -1,5 +1,5 @@
 -- A legal run of the sample processor with a delay slot is one by the table.
-use Rattle.std.proofs.Common.{◌≡◌, ◌∙◌, ℕ, ◌<◌, ◌^◌, List, [], Option, None, refl, ap, sym, subst, arith}
+use Rattle.std.proofs.Common.{◌≡◌, ◌∙◌, ℕ, List, [], Option, None, refl, ap, sym, subst, arith}
 use Rattle.std.specs.Prelude.{codes, unwrap_or}
 use Rattle.kp_ast.specs.declared.tree.{Image.Image, Stalls.Stalls, Inputs.Inputs as Entries, Job.Job}
 use Rattle.kp_pipeline.specs.{Machine.Machine, Pipeline.Inputs, Rows.Trace, Rows.passed, Rows.taken, Sequential.seq}

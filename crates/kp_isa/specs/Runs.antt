@@ -26,7 +26,7 @@ Leaves name image = All (λ (e : Image). is_same_name e.name.name name ≡ false
 abbrev pub Retires : ℕ → List Inputs → Trace → Type 0
 Retires n ins trace =
     (T U : ℕ) → T ≤ U → U ≤ length trace.rows
-        → stall_free_cycles n ins U - stall_free_cycles n ins T ≤ n * (passed trace.rows (n - 1) U - passed trace.rows (n - 1) T) + (n - 1)
+    → stall_free_cycles n ins U - stall_free_cycles n ins T ≤ n * (passed trace.rows (n - 1) U - passed trace.rows (n - 1) T) + (n - 1)
 
 -- A PROCESSOR: each text that begins with the head describes the job, with some sections; each legal run of it, from values that are ready, follows the
 -- instruction set; and a run that moves retires instructions.

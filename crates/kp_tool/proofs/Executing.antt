@@ -2,17 +2,17 @@
 use Rattle.std.proofs.Common.{◌≡◌, ℕ, List, None, Some, Ok}
 use Rattle.kp_ast.specs.declared.tree.Job.{Job}
 use Rattle.kp_parse_grammar.specs.declared.token.Lexed.{Lexed}
-use Rattle.kp_pipeline.specs.{Claims.Moves, Pipeline.Inputs, Rows.Trace}
-use Rattle.kp_machine.specs.Machine.{machine_of}
-use Rattle.kp_sched.specs.{Legal.IsLegalFrom, Legal.value_from, Runs.IsLegal, Runs.due_value}
+use Rattle.kp_pipeline.specs.{Pipeline.Inputs, Rows.Trace}
+use Rattle.kp_net.specs.Netlist.{state_after}
+use Rattle.kp_sched.specs.{Naming.value_shown, Traces.trace_of, Anew.trace_from, Anew.left_by_reset, Legal.IsLegalFrom, Legal.value_from, Runs.IsLegal, Runs.due_value}
 use Rattle.kp_frontend.specs.Judging.{Judges, JudgesHead, IsSentenceOf, broken_in, Judges.within, JudgesText.accepted as no_rule_broken, JudgesHeadText.head_accepted}
 use Rattle.kp_frontend.specs.Judging.JudgesHead.{head_within}
 use Rattle.kp_words.specs.declared.commands.Command.TheVariants.{OnJob, Watch, Debug}
 use Rattle.kp_words.specs.declared.commands.JobCommand.TheVariants.{Sim, Vcd, Pipe}
 use Rattle.kp_described.specs.Sections.{IsWith, HasSections}
-use Rattle.kp_isa.specs.Runs.{start_state, Retires, IsProcessor}
+use Rattle.kp_isa.specs.Runs.{start_state, Fits, Retires, IsProcessor}
 use Rattle.kp_isa.proofs.Memory.{starts_fit, reset_fits}
-use Rattle.kp_tool.specs.{Due.DueFor, Headline.IsMoving, Headline.IsVerilogWith, Headline.IsRunWith, Headline.IsDumpedWith, Headline.IsDebuggedWith, Headline.IsNetlistWith}
+use Rattle.kp_tool.specs.{Due.DueFor, Executing.ExecutesAs, Headline.IsMoving, Headline.IsVerilogWith, Headline.IsRunWith, Headline.IsDumpedWith, Headline.IsDebuggedWith, Headline.IsNetlistWith}
 use Rattle.kp_tool.proofs.Headline.{judged_unbroken, head_unbroken, HoldsOfPipe, HoldsAlike, legal_pipe, moves_pipe, legal_alike, moves_alike, sim_with, vcd_with, debug_with, pipe_with, watch_is_legal}
 
 -- a run that is legal and moves
@@ -56,6 +56,9 @@ module _ (head : List ℕ) (base : Job) (Ready : (ℕ → ℕ → ℕ) → Type 
   shows_start : (job : Job) (ins : List Inputs) (trace : Trace) → HasSections base job → broken_in job ≡ None → IsLegal job ins trace → Ready (start_state job) → Follows (start_state job) trace
   shows_start job ins trace has none legal ready = p.runs job (start_state job) ins trace has (starts_fit job none) (from_start job ins trace legal) ready
 
+  runs_from : (job : Job) (s : ℕ → ℕ → ℕ) (ins : List Inputs) (trace : Trace) → HasSections base job → Fits job s → BothFrom job s ins trace → RunsFrom job s ins trace
+  runs_from job s ins trace has fits b = (p.runs job s ins trace has fits b.0, p.retires job ins trace has b.1.0)
+
   runs_start : (job : Job) (ins : List Inputs) (trace : Trace) → HasSections base job → broken_in job ≡ None → Both job ins trace → Runs job ins trace
   runs_start job ins trace has none b = (shows_start job ins trace has none b.0, p.retires job ins trace has b.1.0)
 
@@ -71,9 +74,10 @@ module _ (head : List ℕ) (base : Job) (Ready : (ℕ → ℕ → ℕ) → Type 
         denotes = v.denotes;
         of_job = v.of_job;
         outputs = v.outputs;
-        holds = λ ins quiet. let b = v.holds ins quiet in (p.runs v.job _ _ _ has (starts_fit v.job none) b.0, p.retires v.job _ _ has b.1.0);
-        anew = λ st i ins there raised quiet. let b = v.anew st i ins there raised quiet in
-            (p.runs v.job _ _ _ has (reset_fits v.job none v.net st v.of_job there) b.0, p.retires v.job _ _ has b.1.0);
+        holds = λ ins quiet. runs_from v.job (start_state v.job) _ (trace_of v.job v.net ins) has (starts_fit v.job none) (v.holds ins quiet);
+        anew = λ st i ins there raised quiet.
+            runs_from v.job (left_by_reset v.job (value_shown v.job v.net st)) _ (trace_from v.job v.net (state_after v.net i st) ins) has
+            (reset_fits v.job none v.net st v.of_job there) (v.anew st i ins there raised quiet);
         memory = v.memory;
       }
 
@@ -127,3 +131,16 @@ module _ (head : List ℕ) (base : Job) (Ready : (ℕ → ℕ → ℕ) → Type 
         printed = r.printed;
         holds = shows_start r.job _ _ (head_is r.job r.rest r.judged) (head_unbroken input r.job r.rest r.judged) r.holds;
       }
+
+-- all of them
+pub executes_as : (head : List ℕ) (base : Job) (Ready : (ℕ → ℕ → ℕ) → Type 0) (Follows : (ℕ → ℕ → ℕ) → Trace → Type 0) → IsProcessor head base Ready Follows
+    → ExecutesAs (λ job s ins trace. (Ready s → Follows s trace) × Retires base.stages.value ins trace)
+    (λ job ins trace. (Ready (start_state job) → Follows (start_state job) trace) × Retires base.stages.value ins trace) (λ job ins trace. Ready (start_state job) → Follows (start_state job) trace)
+    head
+executes_as head base Ready Follows p = record {
+  pipe = λ input text is. pipe_is head base Ready Follows p input text is;
+  sim = λ n input text is. sim_is head base Ready Follows p input text is n;
+  vcd = λ n input text is. vcd_is head base Ready Follows p input text is n;
+  debug = λ input text is. debug_is head base Ready Follows p input text is;
+  watch = λ n input text is. watch_is head base Ready Follows p input text is n;
+}
