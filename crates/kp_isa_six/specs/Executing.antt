@@ -23,3 +23,7 @@ IsSixFrom job s ins trace = (IsReady s → Follows s trace) × Retires 4 ins tra
 
 abbrev pub IsSix : Job → List Inputs → Trace → Type 0
 IsSix job ins trace = IsSixFrom job (start_state job) ins trace
+
+-- the same from the start on, without the claim that instructions retire
+abbrev pub ShowsSix : Job → List Inputs → Trace → Type 0
+ShowsSix job ins trace = IsReady (start_state job) → Follows (start_state job) trace

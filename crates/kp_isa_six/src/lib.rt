@@ -5,16 +5,13 @@
 //! to the Verilog.
 #![tactic(auto, using(crate::proofs::Rows::step, crate::proofs::Rows::runs, crate::proofs::Executing::processor))]
 
-ghost use Rattle.std.specs.Prelude.{◌≡◌, ℕ, List, Option, None, Some};
+ghost use Rattle.std.specs.Prelude.{◌≡◌, ℕ, Option, List, None};
 ghost use Rattle.kp_ast.specs.declared.tree.Image.{Image};
 ghost use Rattle.kp_pipeline.specs.Sequential.{exec, seq};
 ghost use Rattle.kp_machine.specs.Machine.{machine_of};
-ghost use Rattle.kp_words.specs.declared.commands.Command.TheVariants.{OnJob};
-ghost use Rattle.kp_words.specs.declared.commands.JobCommand.TheVariants.{Pipe, Sim};
-ghost use Rattle.kp_described.specs.Sections.{IsWith};
 ghost use Rattle.kp_isa.specs.Runs.{IsProcessor};
-ghost use Rattle.kp_tool.specs.{Due.DueFor, Headline.IsVerilogWith, Headline.IsRunWith};
-ghost use Rattle.kp_isa_six.specs.{Six.six, Isa.Executes, Isa.Runs, Isa.Cpu, Isa.fields, Isa.cpu_of, Text.six_head, Executing.IsReady, Executing.Follows, Executing.IsSixFrom, Executing.IsSix};
+ghost use Rattle.kp_tool.specs.Executing.{ExecutesAs};
+ghost use Rattle.kp_isa_six.specs.{Six.six, Isa.Executes, Isa.Runs, Isa.Cpu, Isa.fields, Isa.cpu_of, Text.six_head, Executing.IsReady, Executing.Follows, Executing.IsSixFrom, Executing.IsSix, Executing.ShowsSix};
 
 /// One instruction of the sequential machine is what the table says of the word at the program counter.
 pub fn an_instruction_is_by_the_table()
@@ -33,8 +30,7 @@ pub fn six_is_a_processor()
     ensures { IsProcessor six_head (six None) IsReady Follows }
 {}
 
-/// What `pipe` and `sim` write of such a text executes the table.
+/// What is written and shown of such a text executes the table: by `pipe`, `sim`, `vcd`, `debug` and `watch`.
 pub fn six_executes_its_table()
-    ensures pipe { (input text : List ℕ) → IsWith six_head input → DueFor (Some (OnJob Pipe)) input 0 text → IsVerilogWith IsSixFrom input text }
-    ensures sim { (n : ℕ) (input text : List ℕ) → IsWith six_head input → DueFor (Some (OnJob (Sim n))) input 0 text → IsRunWith IsSix n input text }
+    ensures { ExecutesAs IsSixFrom IsSix ShowsSix six_head }
 {}
