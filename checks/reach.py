@@ -10,7 +10,7 @@ import re
 import sys
 
 TOP = os.path.dirname(os.path.dirname(os.path.abspath(__file__)))
-HEADLINE = [f"kp_tool.specs.Headline.{it}" for it in ("IsVerilogWith", "IsRunWith", "IsMoving", "HasNoNeedlessStall", "HasNoNeedlessStallFrom")] + ["kp_sched.specs.Runs.IsLegal", "kp_sched.specs.Legal.IsLegalFrom"]
+HEADLINE = [f"kp_tool.specs.Headline.{it}" for it in ("IsVerilogWith", "IsRunWith", "IsMoving", "HasNoNeedlessStall", "HasNoNeedlessStallFrom")] + ["kp_sched.specs.Runs.IsLegal", "kp_implements.specs.Legal.IsLegalFrom"]
 GROUP = re.compile(r"\buse (Rattle\.[^\s{]+?)\.\{([^}]*)\}")
 USE = re.compile(r"^use Rattle\.([^\s{]+?)(?:\.\{([^}]*)\})?(?: as (\S+))?$", re.M)
 FIELD = re.compile(r"^ +(?:pub )?\S+ :(?= )")

@@ -7,10 +7,5 @@ pub mod Check
 pub mod Causes
 pub mod Bytes
 pub mod Memory
-pub mod Grammar
-pub mod Tables
-pub mod GrammarMachine
-pub mod Ranks
-pub mod SampleGrammar
 pub mod formers
 pub mod inner

@@ -1,9 +1,7 @@
-//! The base of all other crates: positions in a text, its lines and their tokens, rejections, lists, reading and writing bytes, and the theory of predictive
-//! grammars (`grammar`).
+//! The base of all other crates: positions in a text, its lines and their tokens, rejections, lists, reading and writing bytes.
 #![tactic(auto)]
 
 mod characters;
-pub mod grammar;
 pub mod laws;
 mod list;
 mod memory;

@@ -6,8 +6,9 @@ use Rattle.kp_stage.specs.Start.{start_of}
 use Rattle.kp_width.{specs.Widths.widths_of, proofs.Unbroken.Unbroken}
 use Rattle.kp_machine.specs.Machine.{machine_of, state_of, start_hints, pipe_of}
 use Rattle.kp_net.specs.Netlist.{Net, Input, State, start_of as net_start, state_after}
-use Rattle.kp_sched.specs.{Runs.ShowsAlike, Naming.value_shown, Shows.Shows, Traces.trace_of, Traces.inputs_seen, Traces.AreQuiet}
-use Rattle.kp_sched.specs.Anew.{trace_from, left_by_reset, HasMemory, BeginsAnew}
+use Rattle.kp_sched.specs.Runs.{ShowsAlike}
+use Rattle.kp_implements.specs.{Naming.value_shown, Shows.Shows, Traces.trace_of, Traces.inputs_seen, Traces.AreQuiet}
+use Rattle.kp_implements.specs.Anew.{trace_from, left_by_reset, HasMemory, BeginsAnew}
 use Rattle.kp_core.{specs.Beginning.Begins, proofs.Loading.after_loading}
 
 module _ (net : Net) (job : Job) (shows : Shows net job) (names : Unbroken (widths_of job)) where

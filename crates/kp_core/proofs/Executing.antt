@@ -5,7 +5,7 @@ use Rattle.kp_stage.proofs.Unbroken.{first_none}
 use Rattle.kp_width.{specs.Widths.widths_of, proofs.Unbroken.Unbroken}
 use Rattle.kp_pipeline.specs.{Pipeline.Inputs, Rows.Trace}
 use Rattle.kp_net.specs.Netlist.{Net, Input, State}
-use Rattle.kp_sched.specs.{Shows.Shows, Anew.trace_from, Anew.BeginsAnew, Traces.inputs_seen, Traces.AreQuiet}
+use Rattle.kp_implements.specs.{Shows.Shows, Anew.trace_from, Anew.BeginsAnew, Traces.inputs_seen, Traces.AreQuiet}
 use Rattle.kp_frontend.specs.Judging.{JudgesHead, broken_in}
 use Rattle.kp_described.specs.Sections.{IsWith}
 use Rattle.kp_isa.{specs.Runs.Fits, specs.Runs.Retires, specs.Runs.IsProcessor, proofs.Memory.starts_fit, proofs.Memory.reset_fits}

@@ -10,8 +10,9 @@ use Rattle.kp_net.specs.Names.{same}
 use Rattle.kp_net.specs.Netlist.{Net, Input, State, start_regs, cells_of, regs_after, files_after, state_after}
 use Rattle.kp_net.specs.Parts.{NetOk, no_file}
 use Rattle.kp_synth_tables.proofs.Apart.{targets_apart}
-use Rattle.kp_sched.specs.{Naming.file_name, Naming.file_names, Naming.file_of, Naming.place_among, Naming.value_shown, Shows.Shows}
-use Rattle.kp_sched.{specs.Anew.HasMemory, specs.Anew.left_by_reset, proofs.Anew.left_alike}
+use Rattle.kp_implements.specs.{Naming.file_name, Naming.file_names, Naming.file_of, Naming.place_among, Naming.value_shown, Shows.Shows}
+use Rattle.kp_implements.specs.Anew.{HasMemory, left_by_reset}
+use Rattle.kp_implements.proofs.Anew.{left_alike}
 use Rattle.kp_core.specs.Loading.{Load, IsLoad, Cycle, LoadsIn, put_in, after_cycle, after_cycles, with_load, with_loads, all_loaded}
 use Rattle.kp_core.proofs.Memory.{at_set, same_memory, memory_after}
 

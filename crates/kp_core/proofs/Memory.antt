@@ -6,7 +6,7 @@ use Rattle.std.specs.{Prelude.set, Prelude.Option, Prelude.Some, Prelude.None, P
 use Rattle.kp_net.specs.{declared.netlist.NetFile.NetFile, declared.netlist.WritePort.WritePort, Nodes.Cells, Nodes.at, Nodes.on}
 use Rattle.kp_net.specs.Netlist.{Net, Input, State, start_of as net_start, start_regs, cells_of, port_after, regs_after, files_after, resets, state_after}
 use Rattle.kp_net.{specs.Parts.NetOk, specs.Parts.FileOk, specs.Parts.WriteOk, specs.Parts.no_file, proofs.Values.at_fits}
-use Rattle.kp_sched.specs.Anew.{HasMemory}
+use Rattle.kp_implements.specs.Anew.{HasMemory}
 
 -- an entry of a list of which another may have been replaced
 pub at_set : {X : Type 0} (xs : List X) (i j : ℕ) (y d : X) (P : X → Type 0) → i < length xs → (j ≡ i → P y) → P (get_or xs j d) → P (get_or (set xs i y) j d)

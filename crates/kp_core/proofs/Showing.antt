@@ -11,9 +11,10 @@ use Rattle.kp_machine.specs.{Machine.machine_of, Machine.start_hints, Words.HasW
 use Rattle.kp_net.specs.{declared.netlist.NetReg.NetReg, Nodes.at}
 use Rattle.kp_net.specs.Netlist.{Net, Input, State, cells_of, state_after, regs_after, files_after, start_regs, states_from, rows_from, row_of}
 use Rattle.kp_net.specs.Parts.{no_reg}
-use Rattle.kp_sched.specs.{Rows.rows_seen, Rows.bit_of, Naming.value_of, Naming.value_shown, Shows.Shows, Legal.value_from, Legal.IsLegalFrom}
-use Rattle.kp_sched.specs.{Anew.trace_from, Anew.BeginsAnew, Traces.input_seen, Traces.inputs_seen, Traces.no_state, Traces.AreQuiet}
+use Rattle.kp_sched.specs.Rows.{rows_seen, bit_of}
 use Rattle.kp_sched.proofs.Counting.{seen_length}
+use Rattle.kp_implements.specs.{Naming.value_of, Naming.value_shown, Shows.Shows, Legal.value_from, Legal.IsLegalFrom, Anew.trace_from, Anew.BeginsAnew}
+use Rattle.kp_implements.specs.Traces.{input_seen, inputs_seen, no_state, AreQuiet}
 use Rattle.kp_synth_close.specs.Shows.{HoldsFrom}
 use Rattle.kp_synth_registers.specs.Holding.{word_bit}
 use Rattle.kp_synth_tables.specs.{Spans.put_after, Keys.target_at, Keys.pipe_at, Keys.is_alive, Keys.place_of, declared.key.Key.TheVariants.Pipe}

@@ -5,7 +5,7 @@ use Rattle.kp_stage.specs.Start.{start_of}
 use Rattle.kp_pipeline.specs.Rows.{taken}
 use Rattle.kp_machine.specs.Machine.{machine_of, state_of}
 use Rattle.kp_net.specs.Netlist.{Net, Input, State, start_of as net_start}
-use Rattle.kp_sched.specs.{Naming.value_shown, Anew.trace_from, Anew.HasMemory, Anew.left_by_reset, Traces.inputs_seen}
+use Rattle.kp_implements.specs.{Naming.value_shown, Anew.trace_from, Anew.HasMemory, Anew.left_by_reset, Traces.inputs_seen}
 use Rattle.kp_core.specs.Loading.{Cycle, LoadsIn, after_cycles, all_loaded}
 
 -- power-up: the start values of the job, with its image

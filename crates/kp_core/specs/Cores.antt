@@ -3,7 +3,7 @@ use Rattle.std.specs.Prelude.{◌≡◌, ℕ, List, Ok}
 use Rattle.kp_ast.specs.declared.tree.Job.{Job}
 use Rattle.kp_pipeline.specs.{Pipeline.Inputs, Rows.Trace}
 use Rattle.kp_net.specs.Netlist.{Input, State}
-use Rattle.kp_sched.specs.{Traces.inputs_seen, Traces.AreQuiet, Anew.trace_from}
+use Rattle.kp_implements.specs.{Traces.inputs_seen, Traces.AreQuiet, Anew.trace_from}
 use Rattle.kp_frontend.specs.Judging.{JudgesHead}
 use Rattle.kp_core_ports.specs.{declared.port.Port.Port, Ports.ports_of}
 use Rattle.kp_core.specs.{Beginning.Begins, Due.IsCoreOf}

@@ -8,7 +8,7 @@ use Rattle.kp_frontend.specs.Judging.{JudgesHead, JudgesHeadText}
 use Rattle.kp_stage.specs.Counts.{summary_of}
 use Rattle.kp_net.specs.{Netlist.Net, Names.IsNamed, Widths.Distinct}
 use Rattle.kp_vlog.specs.{Canon.canon, Denote.Denotes}
-use Rattle.kp_sched.specs.{Shows.Shows, Shows.IsInOrder, Anew.BeginsAnew}
+use Rattle.kp_implements.specs.{Shows.Shows, Shows.IsInOrder, Anew.BeginsAnew}
 use Rattle.kp_synth_close.specs.Bound.{node_bound}
 use Rattle.kp_synth.specs.Carrying.{Carries}
 use Rattle.kp_view_texts.specs.Heads.{rule_head}

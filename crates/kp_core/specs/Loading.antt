@@ -6,7 +6,7 @@ use Rattle.std.specs.Prelude.{◌≡◌, ℕ, ◌<◌, ◌^◌, true, false, ◌
 use Rattle.kp_ast.specs.declared.tree.Job.{Job}
 use Rattle.kp_machine.specs.{Slots.targets_of, Slots.is_register, Words.target}
 use Rattle.kp_net.specs.Netlist.{Net, Input, State, state_after}
-use Rattle.kp_sched.specs.Naming.{file_of}
+use Rattle.kp_implements.specs.Naming.{file_of}
 
 -- a word that is put into a file, which is the target of this number
 pub record Load : Type 0 where

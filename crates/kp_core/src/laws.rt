@@ -6,7 +6,7 @@ ghost use Rattle.std.specs.Prelude.{◌≡◌, ℕ, suc, ◌+◌, ◌-◌, ◌<�
 ghost use Rattle.kp_pipeline.specs.Rows.{passed};
 ghost use Rattle.kp_machine.specs.Machine.{machine_of};
 ghost use Rattle.kp_net.specs.Netlist.{Net, Input, State, state_after};
-ghost use Rattle.kp_sched.specs.{Shows.Shows, Legal.value_from, Traces.inputs_seen, Traces.AreQuiet, Anew.trace_from, Anew.BeginsAnew};
+ghost use Rattle.kp_implements.specs.{Shows.Shows, Legal.value_from, Traces.inputs_seen, Traces.AreQuiet, Anew.trace_from, Anew.BeginsAnew};
 ghost use Rattle.kp_synth_tables.specs.Keys.{place_of, target_at};
 ghost use Rattle.kp_synth_tables.specs.declared.key.Key.TheVariants.{Pipe};
 ghost use Rattle.kp_synth.specs.Carrying.{Carries};

@@ -11,7 +11,7 @@ ghost use Rattle.kp_stage.specs.Counts.{summary_of};
 ghost use Rattle.kp_machine.specs.Machine.{machine_of, start_hints};
 ghost use Rattle.kp_net.specs.Netlist.{Net, Input, State, start_of};
 ghost use Rattle.kp_net.specs.Parts.{NetOk};
-ghost use Rattle.kp_sched.specs.{Shows.Shows, Legal.IsLegalFrom, Traces.inputs_seen, Traces.AreQuiet, Anew.trace_from, Anew.HasMemory, Anew.BeginsAnew};
+ghost use Rattle.kp_implements.specs.{Shows.Shows, Legal.IsLegalFrom, Traces.inputs_seen, Traces.AreQuiet, Anew.trace_from, Anew.HasMemory, Anew.BeginsAnew};
 ghost use Rattle.kp_ast.specs.declared.tree.Job.{Job};
 ghost use Rattle.kp_core.specs.{Beginning.Begins, Beginning.taken_in, Loading.IsLoad, Loading.Cycle, Loading.after_cycle};
 

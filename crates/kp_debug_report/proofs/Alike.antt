@@ -10,7 +10,8 @@ use Rattle.kp_debug_report.specs.Inspecting.{all_cycles, whole_run, has_value, f
 use Rattle.kp_debug_report.specs.{Sessions.Debugged, declared.command.Command.Command, inner.Standing.IsInspection, inner.Standing.run_of}
 use Rattle.kp_debug_report.proofs.{Searching.alike, Standing.reached_within, Standing.many}
 use Rattle.kp_run.specs.Cycles.{inputs_to, own_trace}
-use Rattle.kp_sched.specs.{Runs.ShowsAlike, Shows.Shows, Traces.inputs_seen, Traces.AreQuiet}
+use Rattle.kp_sched.specs.Runs.{ShowsAlike}
+use Rattle.kp_implements.specs.{Shows.Shows, Traces.inputs_seen, Traces.AreQuiet}
 use Rattle.kp_debug_report.specs.declared.command.Command.TheVariants as commands
 use Rattle.kp_tool_report.{specs.States.no_counts, proofs.Alike.lines_alike}
 

@@ -12,7 +12,7 @@ use Rattle.kp_net.specs.Netlist.{Net, Input}
 use Rattle.kp_cycle.specs.Steps.{SamplesFit, given}
 use Rattle.kp_debug_report.specs.{Sessions.inputs_of, Sessions.SamplesFitCycles, Inspecting.all_cycles, inner.Lists.words_to, inner.Lists.rows_to}
 use Rattle.kp_run.{proofs.Given.rows_fed, proofs.Samples.fits_ports, specs.Cycles.inputs_to}
-use Rattle.kp_sched.specs.Naming.{sample_ports}
+use Rattle.kp_implements.specs.Naming.{sample_ports}
 
 pub inputs_many : (job : Job) (n : ℕ) → length (inputs_to job n) ≡ n
 inputs_many job zero = refl

@@ -6,7 +6,8 @@ use Rattle.kp_ast.specs.declared.tree.{Decl.Decl, Job.Job, Named.Named, Num.Num}
 use Rattle.kp_ast.specs.declared.tree.Decl.TheVariants as decls
 use Rattle.kp_machine.{proofs.Widths.Fine, specs.Slots.Slot, specs.Slots.slot, specs.Slots.is_register, specs.Words.HasWord, specs.Words.target}
 use Rattle.kp_net.specs.{Netlist.Net, Netlist.State, Parts.no_reg, Parts.no_file}
-use Rattle.kp_sched.specs.{Naming.place_among, Naming.register_names, Naming.file_names, Naming.register_of, Naming.file_of, Naming.value_shown, Shows.IsOfJob}
+use Rattle.kp_implements.specs.Naming.{place_among, register_names, file_names, register_of, file_of, value_shown}
+use Rattle.kp_implements.specs.Shows.{IsOfJob}
 use Rattle.kp_tool_report.specs.inner.Targets.{IsTarget}
 use Rattle.kp_debug_report.specs.inner.Standing.{IsRegisterOf, IsFileOf, HasAddresses}
 

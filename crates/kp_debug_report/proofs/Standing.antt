@@ -12,7 +12,9 @@ use Rattle.kp_debug_report.specs.Inspecting.{all_cycles, has_value, first_from, 
 use Rattle.kp_debug_report.specs.inner.Standing.{IsUnderWay, IsSearched, IsInspection, run_of, state_seen}
 use Rattle.kp_debug_report.proofs.{Gathering.inputs_many, Searching.within, Searching.found, Searching.goes_on}
 use Rattle.kp_run.{specs.Cycles.inputs_to, proofs.Prefixes.rows_many}
-use Rattle.kp_sched.{specs.Rows.row_seen, specs.Naming.value_shown, specs.Shows.Shows, specs.Traces.trace_of, proofs.Counting.seen_length}
+use Rattle.kp_sched.specs.Rows.{row_seen}
+use Rattle.kp_sched.proofs.Counting.{seen_length}
+use Rattle.kp_implements.specs.{Naming.value_shown, Shows.Shows, Traces.trace_of}
 use Rattle.kp_debug_report.specs.declared.command.Command.TheVariants as commands
 use Rattle.kp_tool_report.proofs.Lines.{left_is}
 

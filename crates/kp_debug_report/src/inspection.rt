@@ -3,7 +3,7 @@ ghost use Rattle.std.specs.Prelude.{◌≡◌, IfOk, OnOk};
 ghost use Rattle.kp_base.specs.Bytes.{Writes};
 ghost use Rattle.kp_base.specs.Causes.{HasCause};
 ghost use Rattle.kp_run.specs.Cycles.{inputs_to};
-ghost use Rattle.kp_sched.specs.Shows.{Shows};
+ghost use Rattle.kp_implements.specs.Shows.{Shows};
 ghost use Rattle.kp_debug_report.specs.Inspecting.{all_cycles, whole_run, printed, ends_in, AreOfJob};
 
 use crate::Command;

@@ -2,7 +2,7 @@
 ghost use Rattle.std.specs.Prelude.{◌≡◌, ◌<◌, [], ◌∷◌, ◌++◌, codes, length, get_or};
 ghost use Rattle.kp_machine.specs.Slots.{targets_of};
 ghost use Rattle.kp_machine.specs.Words.{no_slot};
-ghost use Rattle.kp_sched.specs.Naming.{place_among, register_name, register_names, file_names};
+ghost use Rattle.kp_implements.specs.Naming.{place_among, register_name, register_names, file_names};
 ghost use Rattle.kp_tool_report.specs.States.{targets_in};
 
 use kp_ast::{Decl, Name};
@@ -39,12 +39,12 @@ fn register_for(net: &Netlist, decl: &Decl) -> u32
 pub(crate) fn register_named(net: &Netlist, name: &Name) -> u32
     ensures { result ≡ place_among (register_names net.now) (codes "r_" ++ name.now) }
 {
-    kp_sched::register_named(net.parts().regs.as_slice(), name)
+    kp_implements::register_named(net.parts().regs.as_slice(), name)
 }
 
 /// The number of the file `f_X` for the name X, or the number of files if none has this name.
 pub(crate) fn file_named(net: &Netlist, name: &Name) -> u32
     ensures { result ≡ place_among (file_names net.now) (codes "f_" ++ name.now) }
 {
-    kp_sched::file_named(net.parts().files.as_slice(), name)
+    kp_implements::file_named(net.parts().files.as_slice(), name)
 }

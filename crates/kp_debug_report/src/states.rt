@@ -5,7 +5,7 @@ ghost use Rattle.kp_base.specs.Bytes.{Writes};
 ghost use Rattle.kp_base.specs.Causes.{HasCause};
 ghost use Rattle.kp_net.specs.Netlist.{Net};
 ghost use Rattle.kp_machine.specs.Words.{target};
-ghost use Rattle.kp_sched.specs.Shows.{IsOfJob};
+ghost use Rattle.kp_implements.specs.Shows.{IsOfJob};
 ghost use Rattle.kp_tool_report.specs.States.{no_counts, lines_of_words, lines_of, state_lines};
 ghost use Rattle.kp_tool_report.specs.inner.Targets.{StandsAt, HasWords, IsSmall};
 ghost use Rattle.kp_debug_report.specs.inner.Standing.{IsFileOf, HasAddresses, state_seen};

@@ -2,7 +2,7 @@
 ghost use Rattle.std.specs.Prelude.{◌≡◌};
 ghost use Rattle.kp_bits.specs.Word.{word};
 ghost use Rattle.kp_machine.specs.Words.{HasWord, target};
-ghost use Rattle.kp_sched.specs.Shows.{IsOfJob};
+ghost use Rattle.kp_implements.specs.Shows.{IsOfJob};
 ghost use Rattle.kp_debug_report.specs.inner.Standing.{IsRegisterOf, IsFileOf, state_seen};
 
 use crate::session::Session;

@@ -1,11 +1,12 @@
 -- What is computed of a derivation is how it begins.
 use Rattle.std.proofs.Common.{◌≡◌, ◌∙◌, ℕ, zero, suc, List, [], ◌∷◌, ◌++◌, map, Bool, true, false, eqb, cond, Option, Some, None, Ok, refl, ap, sym, subst}
 use Rattle.std.proofs.lemmas.List.{map-append}
-use Rattle.kp_base.specs.{Grammar.Terminal, Grammar.Nonterminal, Grammar.Action, Grammar.IsSentence, Tables.pick}
-use Rattle.kp_base.specs.GrammarMachine.{Outcome, Accepts, Leads, goes, take, make}
-use Rattle.kp_base.proofs.Derivations.{is_accepted, no_limit}
+use Rattle.kp_grammar.specs.{Grammar.Terminal, Grammar.Nonterminal, Grammar.Action, Grammar.IsSentence, Tables.pick}
+use Rattle.kp_grammar.specs.Machine.{Outcome, Accepts, Leads, goes, take, make}
+use Rattle.kp_grammar.proofs.Derivations.{is_accepted, no_limit}
 use Rattle.kp_ast.specs.declared.tree.Job.{Job}
-use Rattle.kp_parse_grammar.specs.{Text.HasOutcome, Tokens.Lexeme, Tokens.lexemes, Tokens.kind_class, Tokens.lexeme_of, declared.token.Token.Token, declared.token.Lexed.Lexed}
+use Rattle.kp_lex.specs.{Text.HasOutcome, declared.token.Token.Token, declared.token.Lexed.Lexed}
+use Rattle.kp_parse_grammar.specs.Tokens.{Lexeme, lexemes, kind_class, lexeme_of}
 use Rattle.kp_parse_grammar.specs.Language.{Sym, State, Step, Way, JOB, at, job, rules, language, read_token, build_step}
 use Rattle.kp_parse_grammar.specs.inner.Follow.{tables}
 use Rattle.kp_parse_grammar.proofs.Predictive.{is_predictive}

@@ -1,11 +1,11 @@
 -- What the sections build leaves what was built before them as it is.
 use Rattle.std.proofs.Common.{◌≡◌, ◌∙◌, ℕ, List, [], ◌∷◌, ◌++◌, Bool, true, false, cond, Option, Some, None, Ok, refl, ap, sym, subst}
-use Rattle.kp_base.specs.{Grammar.Terminal, Grammar.Nonterminal, Grammar.Action, Grammar.IsSentence, Tables.pick}
-use Rattle.kp_base.specs.GrammarMachine.{Outcome, Accepts, Leads, look, accept, goes, take, make}
+use Rattle.kp_grammar.specs.{Grammar.Terminal, Grammar.Nonterminal, Grammar.Action, Grammar.IsSentence, Tables.pick}
+use Rattle.kp_grammar.specs.Machine.{Outcome, Accepts, Leads, look, accept, goes, take, make}
 use Rattle.kp_ast.specs.declared.tree.{Num.Num, Lit.Lit, Image.Image, Stalls.Stalls, Inputs.Inputs, Job.Job}
-use Rattle.kp_parse_grammar.specs.{Text.HasOutcome, Tokens.Lexeme, Tokens.lexemes, declared.token.Lexed.Lexed}
+use Rattle.kp_lex.specs.{Text.HasOutcome, declared.token.Lexed.Lexed}
 use Rattle.kp_parse_grammar.specs.Language.{Sym, State, Value, perhaps_number, literals, image, images, stall, stalls, perhaps_stalls, input, inputs, perhaps_inputs, job, at, JOB, WORDS, WORD, NUMBERED, LITS, STALLS, SPANS, SPAN, STEP, INPUTS, ENTRIES, ENTRY, rules, language, values_read, values_built}
-use Rattle.kp_parse_grammar.specs.inner.Follow.{tables}
+use Rattle.kp_parse_grammar.specs.{Tokens.Lexeme, Tokens.lexemes, inner.Follow.tables}
 use Rattle.kp_described.specs.Computed.{Reading, front_reading}
 use Rattle.kp_described.specs.Sections.{IsWith, HasSections, parts_of, at_image, at_stalls, at_end, IsHead}
 use Rattle.kp_described.proofs.Reading.{Led, goes_on}

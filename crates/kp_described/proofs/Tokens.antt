@@ -4,10 +4,11 @@ use Rattle.std.proofs.Math.Seq.{drop-append_seam}
 use Rattle.std.proofs.lemmas.List.{take-append-drop, length-take-le}
 use Rattle.kp_base.specs.{Place.place_after, declared.refusal.Refusal.Refusal}
 use Rattle.kp_base.proofs.Places.{line_after_next, column_after_next}
-use Rattle.kp_parse_grammar.specs.{Text.front_of, Text.is_end, Text.Lexes, Text.finish, Text.skip, Text.token, Text.last, Text.broken, Text.token_at, Tokens.lexeme_of}
-use Rattle.kp_parse_grammar.specs.declared.{front.Front.Front, token.TokenKind.TokenKind, token.Token.Token, token.Lexed.Lexed}
-use Rattle.kp_parse_grammar.specs.declared.front.Front.TheVariants as fronts
-use Rattle.kp_parse_grammar.proofs.Fits.{gap_fits, token_fits}
+use Rattle.kp_lex.specs.Text.{front_of, is_end, Lexes, finish, skip, token, last, broken, token_at}
+use Rattle.kp_lex.specs.declared.{front.Front.Front, token.TokenKind.TokenKind, token.Token.Token, token.Lexed.Lexed}
+use Rattle.kp_parse_grammar.specs.Tokens.{lexeme_of}
+use Rattle.kp_lex.specs.declared.front.Front.TheVariants as fronts
+use Rattle.kp_lex.proofs.Fits.{gap_fits, token_fits}
 use Rattle.kp_described.specs.Computed.{next_place, moved, Found, found, lexeme, is_section, after_front, tokens_from}
 
 -- positions

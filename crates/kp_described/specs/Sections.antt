@@ -1,10 +1,10 @@
 -- A description with any sections: its text up to the first section, and then what may follow.
 use Rattle.std.specs.Prelude.{ℕ, ◌≡◌, ◌∷◌, [], List, ◌++◌, Option, Some, None, codes}
-use Rattle.kp_base.specs.Grammar.{Nonterminal, Action}
+use Rattle.kp_grammar.specs.Grammar.{Nonterminal, Action}
 use Rattle.kp_ast.specs.declared.tree.{Image.Image, Stalls.Stalls, Inputs.Inputs, Job.Job}
 use Rattle.kp_parse_grammar.specs.Language.{Value, at, named, number, decls, blocks, perhaps_images, perhaps_stalls, perhaps_inputs, word, mark, no_images, image_section, no_stalls, stall_section, make_job, WORDS, SPANS, STALLS, INPUTS}
-use Rattle.kp_parse_grammar.specs.declared.token.Keyword.TheVariants as keywords
-use Rattle.kp_parse_grammar.specs.declared.token.Mark.TheVariants as marks
+use Rattle.kp_lex.specs.declared.token.Keyword.TheVariants as keywords
+use Rattle.kp_lex.specs.declared.token.Mark.TheVariants as marks
 use Rattle.kp_described.specs.Computed.{Reading, front_reading}
 
 -- the texts that begin with this head, and go on with a section or with `end`

@@ -1,7 +1,7 @@
 -- The parts of a picture are the picture.
 use Rattle.std.proofs.Common.{◌≡◌, ◌∙◌, ℕ, ◌-◌, List, ◌++◌, length, refl, ap, ap₂, sym}
 use Rattle.kp_sched.proofs.Counting.{seen_length}
-use Rattle.kp_pipeline.specs.Diagram.{account, diagram}
+use Rattle.kp_diagram.specs.Diagram.{account, diagram}
 use Rattle.kp_diagram_text.specs.{declared.chart.Chart.Chart, Charts.ext_of, Charts.names_of, Charts.rows_of, Text.longest}
 use Rattle.kp_diagram_svg.specs.{Sizes.half_of, Symbols.head, Rows.cells_part, Foot.foot, Picture.svg_text}
 

@@ -1,6 +1,6 @@
 -- THE FOOT of a picture: the legend, and the account at the right of it.
 use Rattle.std.specs.Prelude.{ℕ, ◌+◌, ◌*◌, ◌==◌, List, [], ◌∷◌, ◌++◌, codes, if◌then◌else◌}
-use Rattle.kp_pipeline.specs.Diagram.{Account}
+use Rattle.kp_diagram.specs.Diagram.{Account}
 use Rattle.kp_diagram_text.specs.Text.{rate}
 use Rattle.kp_diagram_svg.specs.{Filling.filled, Sizes.account_left, Sizes.legend_line}
 

@@ -1,7 +1,7 @@
 -- THE CELLS of a picture: a column for each cycle, and a row for each fetch.
 use Rattle.std.specs.Prelude.{ℕ, ◌+◌, Bool, cond, List, [], ◌∷◌, ◌++◌, flat_map, codes}
 use Rattle.kp_pipeline.specs.Rows as pipeline
-use Rattle.kp_pipeline.specs.Diagram.{Cell, Fetch, Mark, Moves, WaitsForValue, WaitsForStage, Held, Squashed, is_squashed}
+use Rattle.kp_diagram.specs.Diagram.{Cell, Fetch, Mark, Moves, WaitsForValue, WaitsForStage, Held, Squashed, is_squashed}
 use Rattle.kp_diagram_text.specs.Text.{stage_name}
 use Rattle.kp_diagram_svg.specs.{Filling.filled, Sizes.line_of, Sizes.middle_of}
 

@@ -2,7 +2,7 @@
 ghost use Rattle.std.specs.Prelude.{◌≡◌, ◌<◌, ◌≤◌, ◌++◌, length, drop, codes, Some};
 ghost use Rattle.kp_diagram_text.specs.Writing.{Wrote};
 ghost use Rattle.kp_sched.specs.Rows.{rows_seen};
-ghost use Rattle.kp_pipeline.specs.Diagram.{cells_from};
+ghost use Rattle.kp_diagram.specs.Diagram.{cells_from};
 ghost use Rattle.kp_diagram_text.specs.Charts.{IsDrawable, ext_of, names_of};
 ghost use Rattle.kp_diagram_text.specs.Marks.{shown};
 ghost use Rattle.kp_diagram_text.specs.Text.{stage_name};

@@ -2,7 +2,7 @@
 ghost use Rattle.std.specs.Prelude.{◌≡◌, ◌≤◌, length};
 ghost use Rattle.kp_diagram_text.specs.Writing.{Wrote};
 ghost use Rattle.kp_sched.specs.Rows.{row_seen};
-ghost use Rattle.kp_pipeline.specs.Diagram.{is_squashed};
+ghost use Rattle.kp_diagram.specs.Diagram.{is_squashed};
 ghost use Rattle.kp_diagram_text.specs.Charts.{rows_of};
 ghost use Rattle.kp_diagram_svg.specs.Sizes.{middle_of};
 ghost use Rattle.kp_diagram_svg.specs.Rows.{column_text, columns_text};

@@ -3,7 +3,7 @@ ghost use Rattle.std.specs.Prelude.{◌-◌, ◌≤◌, ◌++◌, length};
 ghost use Rattle.kp_base.specs.Bytes.{Writes};
 ghost use Rattle.kp_base.specs.Causes.{HasCause};
 ghost use Rattle.kp_diagram_text.specs.Writing.{Wrote};
-ghost use Rattle.kp_pipeline.specs.Diagram.{account, diagram};
+ghost use Rattle.kp_diagram.specs.Diagram.{account, diagram};
 ghost use Rattle.kp_diagram_text.specs.Charts.{IsDrawable, ext_of, names_of, rows_of};
 ghost use Rattle.kp_diagram_svg.specs.Symbols.{head};
 ghost use Rattle.kp_diagram_svg.specs.Rows.{cells_part};

@@ -1,8 +1,10 @@
 use Rattle.std.proofs.Common.{◌≡◌, ◌∙◌, ℕ, zero, suc, ◌+◌, ◌<◌, ◌≤◌, Bool, cond, List, [], ◌∷◌, length, get_or, drop, Option, Some, None, refl, sym, ap, ap₂, arith}
 use Rattle.std.proofs.lemmas.List.{drop_more}
 use Rattle.kp_base.specs.declared.row.Row as masks
-use Rattle.kp_pipeline.specs.Diagram.{Account, Loss, Filling, DataHazard, WrongGuess, Outside, account_from, and_cycle, is_squashed, loss_of_wait, losses_after, lost_to, spent_from}
-use Rattle.kp_pipeline.{specs.Rows.Row, specs.Rows.bit, specs.DiagramClaims.cycles_of, proofs.Adding.one-more as counted-more}
+use Rattle.kp_pipeline.specs.Rows.{Row, bit}
+use Rattle.kp_diagram.specs.Diagram.{Account, Loss, Filling, DataHazard, WrongGuess, Outside, account_from, and_cycle, is_squashed, loss_of_wait, losses_after, lost_to, spent_from}
+use Rattle.kp_diagram.specs.Claims.{cycles_of}
+use Rattle.kp_diagram.proofs.Adding.{one-more as counted-more}
 use Rattle.kp_sched.specs.Rows.{row_seen, rows_seen}
 
 -- AN ACCOUNT that is kept from the front. The entries of cycles are added to one.

@@ -3,8 +3,9 @@ use Rattle.std.proofs.Common.{◌≡◌, ◌∙◌, ℕ, suc, ◌+◌, ◌<◌, 
 use Rattle.std.proofs.lemmas.List.{drop_all, drop_more, length-take-le, take_more}
 use Rattle.kp_base.specs.declared.row.Row as masks
 use Rattle.kp_pipeline.specs.Rows.{Row, count_after, counts}
-use Rattle.kp_pipeline.specs.Diagram.{Cell, Fetch, Mark, cells_from, fetches_from, fetches_next, mark, next_place}
-use Rattle.kp_pipeline.proofs.{Counts.counts-more, Cells.cells-none}
+use Rattle.kp_pipeline.proofs.Counts.{counts-more}
+use Rattle.kp_diagram.specs.Diagram.{Cell, Fetch, Mark, cells_from, fetches_from, fetches_next, mark, next_place}
+use Rattle.kp_diagram.proofs.Cells.{cells-none}
 use Rattle.kp_sched.{specs.Rows.row_seen, specs.Rows.rows_seen, proofs.Counting.seen_length, proofs.Counting.seen_more}
 
 -- A cell, and a fetch, by what they have.

@@ -2,7 +2,7 @@ use Rattle.std.proofs.Common.{◌≡◌, ℕ, suc, ◌+◌, ◌<◌, ◌≤◌, 
 use Rattle.std.proofs.lemmas.{Bool.cond-true, Bool.cond-false, Bool.cases_eq, Grind.get_or-set_at, List.get_or-set_other}
 use Rattle.kp_base.specs.declared.row.Row.{Row}
 use Rattle.kp_sched.specs.Rows.{bit_of, row_seen}
-use Rattle.kp_pipeline.specs.Diagram.{Loss, WrongGuess, loss_of_wait, losses_after, lost_to}
+use Rattle.kp_diagram.specs.Diagram.{Loss, WrongGuess, loss_of_wait, losses_after, lost_to}
 use Rattle.kp_diagram_text.specs.declared.account.Loss as code
 use Rattle.kp_diagram_text.specs.declared.account.Loss.TheVariants as losses
 use Rattle.kp_diagram_text.{specs.Losses.loss_shown, specs.Losses.losses_shown, proofs.Marks.full_seen, proofs.Marks.squashed_seen, proofs.Marks.ue_seen}

@@ -2,8 +2,9 @@ use Rattle.std.proofs.Common.{◌≡◌, ℕ, suc, ◌+◌, ◌<◌, ◌≤◌, 
 use Rattle.std.proofs.lemmas.Bool.{cases_lt, lt-leb, lt-ltb, le-ltb, cond-true, cond-false}
 use Rattle.kp_base.specs.declared.row.Row.{Row}
 use Rattle.kp_pipeline.specs.Rows.{bit}
-use Rattle.kp_pipeline.specs.Diagram.{Moves, WaitsForValue, WaitsForStage, Held, Squashed, fetches_next, is_squashed, is_waiting, mark, next_place}
-use Rattle.kp_pipeline.proofs.{Lists.bit-at, Steps.bit-past}
+use Rattle.kp_pipeline.proofs.Lists.{bit-at}
+use Rattle.kp_diagram.specs.Diagram.{Moves, WaitsForValue, WaitsForStage, Held, Squashed, fetches_next, is_squashed, is_waiting, mark, next_place}
+use Rattle.kp_diagram.proofs.Steps.{bit-past}
 use Rattle.kp_sched.specs.Rows.{bit_of, row_seen}
 
 -- WHAT THE CODE TESTS of a row of masks, as the diagram's definitions ask it of the row of bits.

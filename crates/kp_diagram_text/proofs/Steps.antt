@@ -3,7 +3,7 @@ use Rattle.std.proofs.Common.{◌≡◌, ◌∙◌, ℕ, suc, ◌+◌, ◌-◌, 
 use Rattle.std.proofs.lemmas.List.{replicate-append-replicate}
 use Rattle.kp_base.specs.declared.row.Row as masks
 use Rattle.kp_pipeline.specs.Rows.{counts}
-use Rattle.kp_pipeline.specs.Diagram.{Fetch, Mark, account, cells_from, diagram, fetches_from, fetches_next, mark, next_place}
+use Rattle.kp_diagram.specs.Diagram.{Fetch, Mark, account, cells_from, diagram, fetches_from, fetches_next, mark, next_place}
 use Rattle.kp_sched.{specs.Rows.row_seen, specs.Rows.rows_seen, proofs.Counting.seen_length}
 use Rattle.kp_diagram_text.specs.Text.{account_text, cells_text, column, cycle_numbers, diagram_text, head, in_column, legend, line_at, lines_text, sign, spaces, stage_name}
 use Rattle.kp_diagram_text.proofs.Fetches.{cells_step, fetch_of, fetches_end, fetches_step, last_cells, no_cells, split}

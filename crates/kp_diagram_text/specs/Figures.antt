@@ -1,6 +1,7 @@
 -- A FIGURE of a run: what its diagram shows, as text or as a picture.
 use Rattle.std.specs.Prelude.{ℕ, ◌-◌, Bool, List, length}
-use Rattle.kp_pipeline.specs.{Rows.Row, Diagram.Account, Diagram.Fetch, Diagram.account, Diagram.diagram}
+use Rattle.kp_pipeline.specs.Rows.{Row}
+use Rattle.kp_diagram.specs.Diagram.{Account, Fetch, account, diagram}
 
 -- The name of the machine, the names of its stages (a stage past their end has its number as its name), how many stages it has, how many
 -- cycles are shown, the fetches in the order in which they enter stage 0, and the account.

@@ -1,6 +1,6 @@
 -- The losses and the account of the code as those of the diagram.
 use Rattle.std.specs.Prelude.{ℕ, List, get_or}
-use Rattle.kp_pipeline.specs.Diagram as diagram
+use Rattle.kp_diagram.specs.Diagram as diagram
 use Rattle.kp_diagram_text.specs.declared.account.{Account.Account, Loss.Loss}
 use Rattle.kp_diagram_text.specs.declared.account.Loss.TheVariants as losses
 

@@ -1,5 +1,5 @@
 -- The marks of the code as those of the diagram.
-use Rattle.kp_pipeline.specs.Diagram as diagram
+use Rattle.kp_diagram.specs.Diagram as diagram
 use Rattle.kp_diagram_text.specs.declared.cells.Mark.{Mark}
 use Rattle.kp_diagram_text.specs.declared.cells.Mark.TheVariants as marks
 

@@ -1,6 +1,6 @@
 -- THE TEXT of a diagram: a line for each fetch, a column for each cycle, and the account below.
 use Rattle.std.specs.Prelude.{ℕ, zero, suc, ◌+◌, ◌-◌, ◌*◌, ◌/◌, ◌%◌, ◌==◌, max, ltb, cond, List, [], ◌∷◌, ◌++◌, length, get_or, flat_map, replicate, codes, decimal, if◌then◌else◌}
-use Rattle.kp_pipeline.specs.Diagram.{Account, Cell, Fetch, Mark, Moves, WaitsForValue, WaitsForStage, Held, Squashed}
+use Rattle.kp_diagram.specs.Diagram.{Account, Cell, Fetch, Mark, Moves, WaitsForValue, WaitsForStage, Held, Squashed}
 use Rattle.kp_diagram_text.specs.Figures.{Figure}
 
 abbrev pub spaces : ℕ → List ℕ

@@ -1,7 +1,7 @@
 // What the cycles of a run were spent for.
 ghost use Rattle.std.specs.Prelude.{◌≡◌, ℕ, ◌+◌, ◌-◌, ◌<◌, ◌≤◌, option_map, length};
 ghost use Rattle.kp_sched.specs.Rows.{bit_of, row_seen};
-ghost use Rattle.kp_pipeline.specs.Diagram.{account as account_for, and_cycle, loss_of_wait as wait_lost_to, losses_after as next_losses, lost_to as cycle_lost_to};
+ghost use Rattle.kp_diagram.specs.Diagram.{account as account_for, and_cycle, loss_of_wait as wait_lost_to, losses_after as next_losses, lost_to as cycle_lost_to};
 ghost use Rattle.kp_diagram_text.specs.Charts.{IsDrawable, ext_of, rows_of};
 ghost use Rattle.kp_diagram_text.specs.Losses.{account_shown, loss_shown, losses_shown};
 

@@ -1,7 +1,7 @@
 // One cycle of a stage, by its row and its stall word.
 ghost use Rattle.std.specs.Prelude.{◌≡◌, ◌+◌, ◌<◌, ◌≤◌, cond, ltb, IfSome, None, Some};
 ghost use Rattle.kp_sched.specs.Rows.{bit_of, row_seen};
-ghost use Rattle.kp_pipeline.specs.Diagram.{fetches_next as does_fetch, is_waiting as waiting, mark, next_place as place_after};
+ghost use Rattle.kp_diagram.specs.Diagram.{fetches_next as does_fetch, is_waiting as waiting, mark, next_place as place_after};
 ghost use Rattle.kp_diagram_text.specs.Marks.{shown};
 
 use kp_base::Row;

@@ -1,6 +1,6 @@
 //! The pipeline diagram of a run as text, from its rows and stall words. The writers allocate nothing.
 //!
-//! `specs/Figures.antt` says what a diagram shows of a run, over the diagram and the account of kp_pipeline, `specs/Text.antt` defines its text,
+//! `specs/Figures.antt` says what a diagram shows of a run, over the diagram and the account of kp_diagram, `specs/Text.antt` defines its text,
 //! and `specs/Charts.antt` the figure of a chart. Other forms of the diagram are drawn from a chart too, with the marks, the places and the
 //! account of this crate. Which instruction is in which stage is stored nowhere: an instruction is followed through the rows from the cycle in
 //! which it enters stage 0, so each cell is visited once.

@@ -1,7 +1,7 @@
 // The lines of a diagram.
 ghost use Rattle.std.specs.Prelude.{◌≡◌, ◌+◌, ◌<◌, ◌≤◌, ◌++◌, cond, length, [], drop, Some};
 ghost use Rattle.kp_sched.specs.Rows.{rows_seen};
-ghost use Rattle.kp_pipeline.specs.Diagram.{cells_from, diagram};
+ghost use Rattle.kp_diagram.specs.Diagram.{cells_from, diagram};
 ghost use Rattle.kp_diagram_text.specs.Charts.{IsDrawable, ext_of, names_of, rows_of};
 ghost use Rattle.kp_diagram_text.specs.Marks.{shown};
 ghost use Rattle.kp_diagram_text.specs.Writing.{Wrote};

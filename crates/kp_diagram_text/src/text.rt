@@ -2,7 +2,7 @@
 ghost use Rattle.std.specs.Prelude.{◌++◌, ◌-◌, ◌≤◌, length};
 ghost use Rattle.kp_base.specs.Bytes.{Writes};
 ghost use Rattle.kp_base.specs.Causes.{HasCause};
-ghost use Rattle.kp_pipeline.specs.Diagram.{account, diagram};
+ghost use Rattle.kp_diagram.specs.Diagram.{account, diagram};
 ghost use Rattle.kp_diagram_text.specs.Charts.{IsDrawable, ext_of, figure_of, names_of, rows_of};
 ghost use Rattle.kp_diagram_text.specs.Writing.{Wrote};
 ghost use Rattle.kp_diagram_text.specs.Text.{account_text, cycle_numbers, diagram_text, head, legend as legend_text, lines_text, title};

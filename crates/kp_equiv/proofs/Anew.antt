@@ -8,10 +8,11 @@ use Rattle.kp_machine.specs.{Machine.machine_of, Machine.start_hints, Slots.targ
 use Rattle.kp_net.specs.declared.netlist.NetFile.{NetFile}
 use Rattle.kp_net.specs.Netlist.{Net, Input, State, state_after, states_from, rows_from, last_from, last_of}
 use Rattle.kp_net.specs.{Names.Differ, Parts.NetOk, Parts.no_file}
-use Rattle.kp_sched.specs.{Rows.rows_seen, Runs.ShowsAlike, Naming.module_name, Naming.place_among, Naming.register_of, Naming.file_of, Naming.value_shown}
-use Rattle.kp_sched.specs.{Traces.inputs_seen, Traces.AreQuiet, Anew.trace_from, Anew.left_by_reset, Anew.HasMemory, Anew.BeginsAnew}
-use Rattle.kp_sched.proofs.Anew.{left_alike}
-use Rattle.kp_sched.specs.Traces as traces
+use Rattle.kp_sched.specs.{Rows.rows_seen, Runs.ShowsAlike}
+use Rattle.kp_implements.specs.Naming.{module_name, place_among, register_of, file_of, value_shown}
+use Rattle.kp_implements.specs.{Traces.inputs_seen, Traces.AreQuiet, Anew.trace_from, Anew.left_by_reset, Anew.HasMemory, Anew.BeginsAnew}
+use Rattle.kp_implements.proofs.Anew.{left_alike}
+use Rattle.kp_implements.specs.Traces as traces
 use Rattle.kp_equiv.specs.{Alike.file_name, Named.file_names, Agreement.AllAgree, Verdicts.IsComparable, Runs.no_state, Showing.renamed, Showing.ShowsButName}
 use Rattle.kp_equiv.specs.inner.Meaning.{SameFiles, SameStates}
 use Rattle.kp_equiv.proofs.Places.{memories, one_index, file_names_are, file_count}

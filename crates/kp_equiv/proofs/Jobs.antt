@@ -3,7 +3,7 @@ use Rattle.std.proofs.Common.{◌≡◌, ◌∙◌, ℕ, ◌<◌, [], length, ge
 use Rattle.kp_ast.specs.declared.tree.Job.{Job}
 use Rattle.kp_machine.specs.{Slots.Slot, Words.target}
 use Rattle.kp_net.specs.{Names.Differ, Names.IsNamed, Netlist.Net, Parts.no_file}
-use Rattle.kp_sched.specs.{Naming.file_name as target_file_name, Naming.file_of, Shows.IsOfJob}
+use Rattle.kp_implements.specs.{Naming.file_name as target_file_name, Naming.file_of, Shows.IsOfJob}
 use Rattle.kp_equiv.{specs.Named.file_names, specs.Named.HasNames, specs.Verdicts.HasFiles, specs.Verdicts.IsComparable, proofs.NamedAlike.one_number}
 use Rattle.kp_equiv.proofs.{Places.file_names_are, Places.file_count, Shown.placed_at}
 

@@ -11,9 +11,9 @@ use Rattle.kp_net.specs.{declared.node.NodeId.NodeId, Names.same}
 use Rattle.kp_net.specs.Netlist.{Net, Input, State, start_of, state_after, row_of, states_from, rows_from, run}
 use Rattle.kp_net.specs.{Parts.NetOk, Parts.no_reg, Parts.no_file, Widths.wide}
 use Rattle.kp_sched.specs.Rows.{rows_seen}
-use Rattle.kp_sched.specs.Naming.{module_name, register_name, file_name as target_file_name, place_among, register_of, file_of, value_of, value_shown}
-use Rattle.kp_sched.specs.{Shows.IsOfJob, Traces.trace_of}
-use Rattle.kp_sched.specs.Traces as traces
+use Rattle.kp_implements.specs.Naming.{module_name, register_name, file_name as target_file_name, place_among, register_of, file_of, value_of, value_shown}
+use Rattle.kp_implements.specs.{Shows.IsOfJob, Traces.trace_of}
+use Rattle.kp_implements.specs.Traces as traces
 use Rattle.kp_equiv.specs.{Alike.Alike, Alike.AlikeWithin, Alike.reg_name, Alike.file_name, Named.reg_names, Named.file_names, Agreement.AllAgree}
 use Rattle.kp_equiv.specs.{Verdicts.IsComparable, Runs.RunAlike, Showing.renamed, Showing.ShowsButName}
 use Rattle.kp_equiv.proofs.Places.{Things, registers, memories, name_is, one_index, reg_names_are, file_names_are}

@@ -2,7 +2,7 @@
 use Rattle.std.specs.Prelude.{ℕ, List}
 use Rattle.kp_ast.specs.declared.tree.Job.{Job}
 use Rattle.kp_net.specs.Netlist.{Net}
-use Rattle.kp_sched.specs.{Naming.module_name, Shows.Shows}
+use Rattle.kp_implements.specs.{Naming.module_name, Shows.Shows}
 
 -- the same netlist under another module's name
 abbrev pub renamed : Net → List ℕ → Net

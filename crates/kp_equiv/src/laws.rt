@@ -4,7 +4,7 @@ ghost use Rattle.kp_ast.specs.declared.tree.Job.{Job};
 ghost use Rattle.kp_net.specs.Names.{IsNamed};
 ghost use Rattle.kp_net.specs.Netlist.{Net};
 ghost use Rattle.kp_net.specs.Parts.{NetOk};
-ghost use Rattle.kp_sched.specs.{Shows.IsOfJob, Naming.module_name, Anew.BeginsAnew};
+ghost use Rattle.kp_implements.specs.{Shows.IsOfJob, Naming.module_name, Anew.BeginsAnew};
 ghost use Rattle.kp_equiv.specs.{declared.verdict.Verdict.Verdict, Agreement.AllAgree, Verdicts.IsComparable, Verdicts.IsVerdict, Runs.RunAlike};
 ghost use Rattle.kp_equiv.specs.declared.verdict.Verdict.TheVariants.{Same};
 ghost use Rattle.kp_equiv.specs.Showing.{renamed, ShowsButName};

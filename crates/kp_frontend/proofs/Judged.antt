@@ -4,7 +4,8 @@ use Rattle.std.specs.Prelude.{IfOk}
 use Rattle.kp_base.specs.{First.Answers, Refusal.e_rule, declared.place.Place.Place, declared.refusal.Refusal.Refusal, declared.refusal.Refused.Refused}
 use Rattle.kp_base.specs.declared.refusal.Refused.TheVariants.{Rule, NoMemory}
 use Rattle.kp_ast.specs.declared.tree.Job.{Job}
-use Rattle.kp_parse_grammar.{specs.Text.HasOutcome, specs.Text.AnswersOutcome, specs.Text.tail_of, specs.declared.token.Lexed.Lexed, proofs.Stands.tokens_stand}
+use Rattle.kp_lex.specs.{Text.HasOutcome, Text.AnswersOutcome, Text.tail_of, declared.token.Lexed.Lexed}
+use Rattle.kp_lex.proofs.Stands.{tokens_stand}
 use Rattle.kp_parse.specs.Sentence as parsing
 use Rattle.kp_parse.specs.declared.job.Parsed.{Parsed}
 use Rattle.kp_width.proofs.Functions.{functions_within}

@@ -3,8 +3,8 @@ use Rattle.std.proofs.Common.{◌≡◌, ℕ, List, length, Result, Ok, Err, Som
 use Rattle.std.{proofs.lemmas.Bool.cases_lt, specs.declared.option.Option.Option}
 use Rattle.kp_base.specs.{Refusal.e_rule, declared.place.Place.Place, declared.refusal.Refusal.Refusal}
 use Rattle.kp_ast.specs.declared.tree.Job.{Job}
-use Rattle.kp_parse_grammar.specs.{Text.HasOutcome, Text.tail_of, declared.token.Lexed.Lexed}
-use Rattle.kp_parse_grammar.proofs.Outcome.{one_outcome, some_outcome}
+use Rattle.kp_lex.specs.{Text.HasOutcome, Text.tail_of, declared.token.Lexed.Lexed}
+use Rattle.kp_lex.proofs.Outcome.{one_outcome, some_outcome}
 use Rattle.kp_parse.{specs.Sentence.IsTree, specs.Sentence.Breaks, proofs.Unique.one_tree, proofs.Unique.one_rule, proofs.Unique.no_rule}
 use Rattle.kp_parse.proofs.Verdict.{has_verdict}
 use Rattle.kp_frontend.specs.Judging.{IsSentenceOf, JudgesText, Judges, JudgesHeadText, JudgesHead, broken_in, most_bytes}

@@ -6,7 +6,7 @@
 use Rattle.std.specs.Prelude.{◌≡◌, ◌<◌, ◌≤◌, ℕ, List, [], ◌∷◌, length, Some, None, Result, Ok, Err}
 use Rattle.kp_base.specs.{First.first, Check.Answer, Refusal.e_rule, declared.place.Place.Place, declared.refusal.Refusal.Refusal}
 use Rattle.kp_ast.specs.declared.tree.Job.{Job}
-use Rattle.kp_parse_grammar.specs.{Text.HasOutcome, Text.tail_of, declared.token.Lexed.Lexed}
+use Rattle.kp_lex.specs.{Text.HasOutcome, Text.tail_of, declared.token.Lexed.Lexed}
 use Rattle.kp_parse.specs.Sentence.{IsTree, Breaks}
 use Rattle.kp_width.specs.Widths.{widths_of}
 use Rattle.kp_stage.specs.Stages.{broken_of}

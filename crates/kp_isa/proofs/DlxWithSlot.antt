@@ -5,7 +5,8 @@ use Rattle.kp_ast.specs.declared.tree.{Image.Image, Stalls.Stalls, Inputs.Inputs
 use Rattle.kp_pipeline.specs.{Machine.Machine, Pipeline.Inputs, Rows.Trace, Rows.passed, Rows.taken, Sequential.seq}
 use Rattle.kp_stage.specs.Start.{start_of, image_of}
 use Rattle.kp_machine.specs.{Machine.state_of, Machine.machine_of, Machine.result_for}
-use Rattle.kp_sched.specs.{Legal.IsLegalFrom, Legal.value_from, Runs.passes}
+use Rattle.kp_sched.specs.Runs.{passes}
+use Rattle.kp_implements.specs.Legal.{IsLegalFrom, value_from}
 use Rattle.kp_described.specs.Sections.{IsHead, HasSections, with_sections}
 use Rattle.kp_described.proofs.Sections.{described}
 use Rattle.kp_isa_dlx5.specs.{Text.dlx5_head, Dlx5.dlx5}

@@ -6,7 +6,7 @@ use Rattle.kp_ast.specs.declared.tree.{Image.Image, Stalls.Stalls, Inputs.Inputs
 use Rattle.kp_pipeline.specs.{Machine.Machine, Pipeline.Inputs, Rows.Trace, Rows.passed, Rows.taken, Sequential.seq}
 use Rattle.kp_stage.specs.Start.{start_of, image_of, laid_over}
 use Rattle.kp_machine.specs.{Machine.state_of, Machine.machine_of, Machine.result_for, Slots.is_register, Words.HasWord, Words.target}
-use Rattle.kp_sched.specs.{Legal.IsLegalFrom, Legal.value_from, Anew.left_by_reset}
+use Rattle.kp_implements.specs.{Legal.IsLegalFrom, Legal.value_from, Anew.left_by_reset}
 use Rattle.kp_described.specs.Sections.{IsHead, HasSections, with_sections}
 use Rattle.kp_described.proofs.Sections.{described}
 use Rattle.kp_isa_rv.specs.{Text.rv32i_text, Rv32i.rv32i, Rv32ibText.rv32ib_text, Rv32ib.rv32ib, Rv32ipText.rv32ip_text, Rv32ip.rv32ip}

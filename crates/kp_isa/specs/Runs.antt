@@ -1,11 +1,11 @@
 -- What is said of each processor.
 use Rattle.std.specs.Prelude.{◌≡◌, ℕ, ◌+◌, ◌-◌, ◌*◌, ◌^◌, ◌<◌, ◌≤◌, List, All, false, length}
 use Rattle.kp_ast.specs.{Expressions.is_same_name, declared.tree.Image.Image, declared.tree.Job.Job}
-use Rattle.kp_parse_grammar.specs.declared.token.Lexed.{Lexed}
+use Rattle.kp_lex.specs.declared.token.Lexed.{Lexed}
 use Rattle.kp_stage.specs.Start.{start_of}
 use Rattle.kp_pipeline.specs.{Claims.Moves, Claims.stall_free_cycles, Pipeline.Inputs, Rows.Trace, Rows.passed}
 use Rattle.kp_machine.specs.{Machine.machine_of, Machine.state_of, Slots.targets_of, Words.target}
-use Rattle.kp_sched.specs.Legal.{IsLegalFrom}
+use Rattle.kp_implements.specs.Legal.{IsLegalFrom}
 use Rattle.kp_frontend.specs.Judging.{IsSentenceOf}
 use Rattle.kp_described.specs.Sections.{IsWith, HasSections}
 

@@ -3,7 +3,8 @@ use Rattle.std.proofs.Common.{◌≡◌, ◌∙◌, ℕ, ◌<◌, ◌^◌, List,
 use Rattle.kp_ast.specs.declared.tree.{Image.Image, Stalls.Stalls, Inputs.Inputs as Entries, Job.Job}
 use Rattle.kp_pipeline.specs.{Machine.Machine, Pipeline.Inputs, Rows.Trace, Rows.passed, Rows.taken, Sequential.seq}
 use Rattle.kp_machine.specs.Machine.{machine_of, result_for}
-use Rattle.kp_sched.specs.{Legal.IsLegalFrom, Legal.value_from, Runs.passes}
+use Rattle.kp_sched.specs.Runs.{passes}
+use Rattle.kp_implements.specs.Legal.{IsLegalFrom, value_from}
 use Rattle.kp_described.{specs.Sections.IsHead, specs.Sections.HasSections, specs.Sections.with_sections, proofs.Sections.described}
 use Rattle.kp_isa.{specs.Runs.IsProcessor, proofs.Memory.same_machine, proofs.Memory.moving_retires}
 use Rattle.kp_isa_six.specs.{Text.six_head, Six.six, Isa.Runs, Isa.Cpu, Isa.cpu_of, Executing.IsReady, Executing.Follows}

@@ -5,8 +5,8 @@ use Rattle.kp_pipeline.specs.Pipeline.{Inputs}
 use Rattle.kp_machine.specs.{Machine.inputs_from, Machine.pipe_of, Words.HasWord}
 use Rattle.kp_net.specs.Netlist.{Net, State, run}
 use Rattle.kp_run.{specs.Cycles.inputs_to, proofs.Prefixes.rows_many, proofs.Prefixes.state_is}
-use Rattle.kp_sched.{proofs.Counting.seen_length, specs.Naming.value_shown, specs.Shows.Shows}
-use Rattle.kp_sched.specs.Traces.{trace_of, inputs_seen, AreQuiet}
+use Rattle.kp_sched.proofs.Counting.{seen_length}
+use Rattle.kp_implements.specs.{Naming.value_shown, Shows.Shows, Traces.trace_of, Traces.inputs_seen, Traces.AreQuiet}
 use Rattle.kp_page.{specs.States.recorded, specs.States.states_text, specs.inner.Seen.states_of, proofs.Alike.recorded_alike}
 
 module _ (job : Job) (net : Net) (n : ℕ) (shows : Shows net job)

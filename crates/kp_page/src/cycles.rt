@@ -4,7 +4,7 @@ ghost use Rattle.kp_base.specs.Bytes.{Writes};
 ghost use Rattle.kp_base.specs.Causes.{HasCause};
 ghost use Rattle.kp_debug_report.specs.Inspecting.{at_line};
 ghost use Rattle.kp_run.specs.Cycles.{inputs_to};
-ghost use Rattle.kp_sched.specs.Shows.{IsOfJob, Shows};
+ghost use Rattle.kp_implements.specs.Shows.{IsOfJob, Shows};
 ghost use Rattle.kp_page.specs.States.{change_lines, recorded, recorded_from, recorded_in};
 ghost use Rattle.kp_page.specs.Runs.{after_cycles};
 ghost use Rattle.kp_page.specs.inner.Seen.{seen, seen_before, states_of};

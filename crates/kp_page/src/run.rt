@@ -2,7 +2,7 @@
 ghost use Rattle.std.specs.Prelude.{◌≡◌, length};
 ghost use Rattle.kp_base.specs.Bytes.{Writes};
 ghost use Rattle.kp_base.specs.Causes.{HasCause};
-ghost use Rattle.kp_sched.specs.Shows.{Shows};
+ghost use Rattle.kp_implements.specs.Shows.{Shows};
 ghost use Rattle.kp_page.specs.States.{states_text};
 ghost use Rattle.kp_page.specs.Runs.{after_cycles};
 

@@ -5,7 +5,7 @@ ghost use Rattle.kp_base.specs.Bytes.{Writes};
 ghost use Rattle.kp_base.specs.Causes.{HasCause};
 ghost use Rattle.kp_debug_report.specs.inner.Standing.{HasAddresses, IsFileOf};
 ghost use Rattle.kp_machine.specs.Words.{target};
-ghost use Rattle.kp_sched.specs.Shows.{IsOfJob};
+ghost use Rattle.kp_implements.specs.Shows.{IsOfJob};
 ghost use Rattle.kp_tool_report.specs.inner.Targets.{HasWords, IsSmall, StandsAt};
 ghost use Rattle.kp_page.specs.States.{change_lines, changes_of, changes_of_words};
 ghost use Rattle.kp_page.specs.inner.Seen.{seen, seen_before};

@@ -5,7 +5,7 @@ ghost use Rattle.kp_base.specs.Causes.{HasCause};
 ghost use Rattle.kp_bits.specs.Word.{word};
 ghost use Rattle.kp_debug_report.specs.inner.Standing.{IsFileOf, IsRegisterOf};
 ghost use Rattle.kp_machine.specs.Words.{HasWord, target};
-ghost use Rattle.kp_sched.specs.{Naming.file_names, Naming.place_among, Naming.register_names, Shows.IsOfJob};
+ghost use Rattle.kp_implements.specs.{Naming.file_names, Naming.place_among, Naming.register_names, Shows.IsOfJob};
 ghost use Rattle.kp_tool_report.specs.Texts.{word_line as line_of_word};
 ghost use Rattle.kp_page.specs.States.{change_line};
 ghost use Rattle.kp_page.specs.inner.Seen.{seen, seen_before};
@@ -22,14 +22,14 @@ use kp_net::Netlist;
 pub(crate) fn register_named(net: &Netlist, name: &Name) -> u32
     ensures { result ≡ place_among (register_names net.now) (codes "r_" ++ name.now) }
 {
-    kp_sched::register_named(net.parts().regs.as_slice(), name)
+    kp_implements::register_named(net.parts().regs.as_slice(), name)
 }
 
 /// The number of the file `f_X` for the name X, or the number of files if none has this name.
 pub(crate) fn file_named(net: &Netlist, name: &Name) -> u32
     ensures { result ≡ place_among (file_names net.now) (codes "f_" ++ name.now) }
 {
-    kp_sched::file_named(net.parts().files.as_slice(), name)
+    kp_implements::file_named(net.parts().files.as_slice(), name)
 }
 
 /// The value of the register of a target, which is register `number` of the netlist.

@@ -1,7 +1,7 @@
 -- A reader whose last step is another reader, and one of a part that may be absent.
 use Rattle.std.proofs.Common.{ℕ, ◌≡◌, ◌+◌, ◌≤◌, List, [], ◌∷◌, ◌++◌, length, drop, sym, subst, arith, Result, Ok, Err, MatchResult, Option, Some, None, MatchOption}
 use Rattle.std.proofs.lemmas.Result.{MatchResult-weaker}
-use Rattle.kp_base.specs.{Grammar.Nonterminal, Grammar.Action, GrammarMachine.Outcome, GrammarMachine.make}
+use Rattle.kp_grammar.specs.{Grammar.Nonterminal, Grammar.Action, Machine.Outcome, Machine.make}
 use Rattle.kp_parse_grammar.specs.{declared.fault.Fault.Fault, Tokens.Lexeme}
 use Rattle.kp_parse_grammar.specs.Language.{Sym, State, Step, Value, at, build_step}
 use Rattle.kp_parse_grammar.specs.{Reading.Goes, Reading.Turns, Reading.Ends, inner.Stretch.TurnsAll, inner.Stretch.EndsAll}

@@ -1,14 +1,15 @@
 -- The alternatives of the names of the language, and the tokens that select them; and what the answers on readers cite beside them.
 pub use Rattle.std.proofs.{Common.arith, Common.refl, Common.sym, Common.◌∙◌, lemmas.List.length_push}
-pub use Rattle.kp_base.specs.GrammarMachine.{make}
+pub use Rattle.kp_grammar.specs.Machine.{make}
 pub use Rattle.kp_parse_grammar.proofs.Steps.{by_dropped, by_placed, one, exits}
 pub use Rattle.kp_parse_grammar.proofs.Picks.{decls_1, decls_else, stmts_1, stmts_else}
 pub use Rattle.kp_parse.proofs.Parts.{tailed, optional, alone}
 use Rattle.std.proofs.Common.{ℕ, ◌≡◌, ◌==◌, [], ◌∷◌, List, drop, true, false, ap}
 use Rattle.std.proofs.lemmas.Bool.{eqb-true}
-use Rattle.kp_base.specs.{declared.place.Place.Place, Grammar.Nonterminal, Grammar.Action, GrammarMachine.Outcome, GrammarMachine.look, GrammarMachine.goes}
-use Rattle.kp_parse_grammar.specs.declared.token.Keyword.TheVariants as keywords
-use Rattle.kp_parse_grammar.specs.declared.token.Mark.TheVariants as marks
+use Rattle.kp_base.specs.declared.place.Place.{Place}
+use Rattle.kp_grammar.specs.{Grammar.Nonterminal, Grammar.Action, Machine.Outcome, Machine.look, Machine.goes}
+use Rattle.kp_lex.specs.declared.token.Keyword.TheVariants as keywords
+use Rattle.kp_lex.specs.declared.token.Mark.TheVariants as marks
 use Rattle.kp_parse_grammar.specs.Language.{Sym, State, Step, language, word, mark, placed, NAME, NUM, LIT, ADDRESS, BINDING, DECL, ENABLE, ENTRIES, ENTRY, HEDGE, IMAGE, INDEX, INPUTS, JOB, LITS, NUMBERED, PAR, PARS, SPAN, SPANS, STAGE, STAGES, STALLS, STEP, STMT, WHEN, WHOLE, WORD, WORDS, DECLS, STMTS, image_section, input_section, make_aim, make_block, make_file, make_fn, make_hint, make_image, make_input, make_job, make_let, make_param, make_pipe, make_put, make_read, make_reg, make_result, make_sample, make_set, make_stall, no_blocks, no_decls, no_expr, no_hedge, no_image_section, no_images, no_input_section, no_inputs, no_literals, no_name, no_number, no_params, no_stall_section, no_stalls, no_stmts, one_block, one_image, one_input, one_literal, one_param, one_stall, some_expr, some_guess, some_name, some_number, some_when, stall_section}
 use Rattle.kp_parse_grammar.specs.{Tokens.Lexeme, Tokens.IDENTIFIER, Tokens.NUMBER, Tokens.keyword_class, Tokens.mark_class, Reading.Goes, Reading.Finds}
 use Rattle.kp_parse_grammar.proofs.Picks.{goes_at, goes_past, goes_by, other}

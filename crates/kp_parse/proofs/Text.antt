@@ -1,13 +1,15 @@
 -- What the outcome of the machine says of a text.
 use Rattle.std.proofs.Common.{ℕ, ◌≡◌, List, [], ◌∷◌, length, drop, true, Ok, All, refl, ap}
 use Rattle.std.proofs.lemmas.List.Elements.{All-weaker}
-use Rattle.kp_base.specs.{declared.place.Place.Place, Grammar.IsLimit, GrammarMachine.Accepts, GrammarMachine.Stops, GrammarMachine.Exceeds}
-use Rattle.kp_base.proofs.Derivations.{sentence, one_state, wrong_at, within_stop, over_at, over_ends}
+use Rattle.kp_base.specs.declared.place.Place.{Place}
+use Rattle.kp_grammar.specs.{Grammar.IsLimit, Machine.Accepts, Machine.Stops, Machine.Exceeds}
+use Rattle.kp_grammar.proofs.Derivations.{sentence, one_state, wrong_at, within_stop, over_at, over_ends}
 use Rattle.kp_ast.specs.{Name.IsName, declared.tree.Job.Job}
-use Rattle.kp_parse_grammar.specs.{declared.token.Token.Token, declared.token.Lexed.Lexed, Text.HasOutcome, Text.StandsIn, Text.IsIdentifier}
+use Rattle.kp_lex.specs.{declared.token.Token.Token, declared.token.Lexed.Lexed, Text.HasOutcome, Text.StandsIn, Text.IsIdentifier}
+use Rattle.kp_lex.proofs.{Stands.tokens_stand, Names.name_is_identifier}
 use Rattle.kp_parse_grammar.specs.Tokens.{Lexeme, IsSpelled, lexemes}
 use Rattle.kp_parse_grammar.specs.Language.{State, Way, JOB, job, language, at, is_over}
-use Rattle.kp_parse_grammar.{specs.inner.Follow.tables, specs.Reading.JobGoes, proofs.Stands.tokens_stand, proofs.Names.name_is_identifier}
+use Rattle.kp_parse_grammar.specs.{inner.Follow.tables, Reading.JobGoes}
 use Rattle.kp_parse_grammar.proofs.Predictive.{is_predictive}
 use Rattle.kp_parse.specs.Sentence.{IsTree, IsWrong, IsTooDeep, place_from}
 

@@ -2,10 +2,11 @@
 use Rattle.std.proofs.Common.{ℕ, ◌≡◌, ◌≤◌, ◌-◌, List, [], ◌∷◌, length, drop, inl, inr, sym, ap, ◌∙◌, arith}
 use Rattle.std.proofs.lemmas.{Bool.cases_lt, List.length-drop, List.length-map, List.drop_all}
 use Rattle.kp_base.specs.{Refusal.e_rule, declared.place.Place.Place, declared.refusal.Refusal.Refusal}
-use Rattle.kp_base.proofs.Derivations.{one_state, one_wrong, one_over, not_over, over_ends}
+use Rattle.kp_grammar.proofs.Derivations.{one_state, one_wrong, one_over, not_over, over_ends}
 use Rattle.kp_ast.specs.declared.tree.Job.{Job}
-use Rattle.kp_parse_grammar.specs.{declared.token.Token.Token, Tokens.lexeme_of, Tokens.lexemes}
-use Rattle.kp_parse_grammar.specs.{Language.JOB, Language.job, Language.language, Language.at, Language.is_over, inner.Follow.tables}
+use Rattle.kp_lex.specs.declared.token.Token.{Token}
+use Rattle.kp_parse_grammar.specs.{Tokens.lexeme_of, Tokens.lexemes, Language.JOB, Language.job, Language.language, Language.at, Language.is_over}
+use Rattle.kp_parse_grammar.specs.inner.Follow.{tables}
 use Rattle.kp_parse_grammar.proofs.Predictive.{is_predictive}
 use Rattle.kp_parse.specs.Sentence.{IsTree, IsWrong, IsTooDeep, Breaks, place_from}
 use Rattle.kp_parse.proofs.Text.{limit, same_job}

@@ -1,13 +1,15 @@
 -- A text has a verdict: a tree, or a violated rule.
 use Rattle.std.proofs.Common.{ℕ, ◌≡◌, ◌≤◌, ◌-◌, ◌⊎◌, inl, inr, List, [], length, drop, refl, sym, subst, arith}
 use Rattle.std.proofs.lemmas.List.{length-drop}
-use Rattle.kp_base.specs.GrammarMachine.{Outcome, Accepts, Stops, Exceeds, Leads, accept, more, goes, take, make, wrong, lost, exceed}
-use Rattle.kp_base.{specs.declared.refusal.Refusal.Refusal, proofs.TableTests.decides, proofs.Ends.ends}
+use Rattle.kp_base.specs.declared.refusal.Refusal.{Refusal}
+use Rattle.kp_grammar.specs.Machine.{Outcome, Accepts, Stops, Exceeds, Leads, accept, more, goes, take, make, wrong, lost, exceed}
+use Rattle.kp_grammar.proofs.{TableTests.decides, Ends.ends}
 use Rattle.kp_ast.specs.declared.tree.Job.{Job}
-use Rattle.kp_parse_grammar.specs.{declared.token.Token.Token, Tokens.Lexeme, Tokens.lexemes}
+use Rattle.kp_lex.specs.declared.token.Token.{Token}
+use Rattle.kp_parse_grammar.specs.Tokens.{Lexeme, lexemes}
 use Rattle.kp_parse_grammar.specs.Language.{JOB, Sym, State, language, rules, at, is_over}
-use Rattle.kp_parse_grammar.{specs.inner.Follow.tables, specs.Reading.JobGoes, proofs.Predictive.is_predictive, proofs.Ranked.rank, proofs.Ranked.is_ranked}
-use Rattle.kp_parse_grammar.proofs.Shapes.{reads_job}
+use Rattle.kp_parse_grammar.specs.{inner.Follow.tables, Reading.JobGoes}
+use Rattle.kp_parse_grammar.proofs.{Predictive.is_predictive, Ranked.rank, Ranked.is_ranked, Shapes.reads_job}
 use Rattle.kp_parse.{specs.Sentence.IsTree, specs.Sentence.Breaks, proofs.Text.is_tree, proofs.Text.is_wrong, proofs.Text.is_too_deep}
 
 -- the number of tokens that are left where reading ends

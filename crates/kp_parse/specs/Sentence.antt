@@ -1,10 +1,11 @@
 -- The result of parsing: the tree of a sentence, or the first wrong token.
 use Rattle.std.specs.Prelude.{ℕ, ◌≡◌, List, [], ◌∷◌, length, drop, Result, Ok, Err, ⊤}
 use Rattle.kp_base.specs.{Place.place_after, Refusal.e_rule, declared.place.Place.Place, declared.refusal.Refusal.Refusal, declared.refusal.Refused.Refused}
-use Rattle.kp_base.specs.Grammar.{IsSentence, IsWrongAt, IsWithin, IsOverAt}
+use Rattle.kp_grammar.specs.Grammar.{IsSentence, IsWrongAt, IsWithin, IsOverAt}
 use Rattle.kp_base.specs.declared.refusal.Refused.TheVariants as refused
 use Rattle.kp_ast.specs.declared.tree.Job.{Job}
-use Rattle.kp_parse_grammar.specs.{declared.token.Token.Token, Tokens.lexemes, Language.JOB, Language.language, Language.job, Language.at, Language.is_over}
+use Rattle.kp_lex.specs.declared.token.Token.{Token}
+use Rattle.kp_parse_grammar.specs.{Tokens.lexemes, Language.JOB, Language.language, Language.job, Language.at, Language.is_over}
 use Rattle.kp_parse.specs.declared.job.Parsed.{Parsed}
 
 -- The tokens are a sentence of the language, and this job is its tree; no nesting count exceeds the limit.

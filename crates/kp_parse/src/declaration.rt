@@ -1,7 +1,7 @@
 // Declarations.
 ghost use Rattle.std.specs.Prelude.{◌≡◌, ◌==◌, [], ◌∷◌, length, MatchResult, true, false};
-ghost use Rattle.kp_base.specs.{Grammar.Nonterminal, Tables.among};
-ghost use Rattle.kp_parse_grammar.specs.declared.token.Keyword.TheVariants as keywords;
+ghost use Rattle.kp_grammar.specs.{Grammar.Nonterminal, Tables.among};
+ghost use Rattle.kp_lex.specs.declared.token.Keyword.TheVariants as keywords;
 ghost use Rattle.kp_parse_grammar.specs.Tokens.{keyword_class};
 ghost use Rattle.kp_parse_grammar.specs.inner.Follow.{decl_words};
 ghost use Rattle.kp_parse_grammar.specs.Language.{decls, decl as decl_value, param as param_value, params as params_value, perhaps_named, number as number_value, literal as literal_value, expr as expr_value, DECLS, DECL, INDEX, ENABLE, PAR, PARS};
@@ -12,7 +12,8 @@ ghost use Rattle.kp_parse.specs.inner.Stretches.{signature_symbols, definition_s
 use crate::pair::{expression_before, name_before, number_before, present};
 use kp_ast::{Decl, Expr, FuncDecl, Lit, Named, Num, Param, ResultDecl};
 use kp_base::List;
-use kp_parse_grammar::{Fault, Keyword, Mark, TokenKind, Tokens};
+use kp_lex::{Keyword, Mark, TokenKind};
+use kp_parse_grammar::{Fault, Tokens};
 use std::alloc::Global;
 
 /// All declarations from this token on, and the number of the next token. Each consumes at least one token.

@@ -1,12 +1,12 @@
 // Complete jobs.
 ghost use Rattle.std.specs.Prelude.{◌≡◌, ◌≤◌, ◌+◌, ◌-◌, ◌^◌, [], ◌∷◌, Ok, length, drop, MatchResult, IfOk};
-ghost use Rattle.kp_base.specs.{Grammar.Nonterminal, GrammarMachine.Accepts};
-ghost use Rattle.kp_parse_grammar.specs.{Text.HasOutcome, Reading.JobGoes, Reading.FaultIs, Reading.Turns, Reading.Ends};
+ghost use Rattle.kp_grammar.specs.{Grammar.Nonterminal, Machine.Accepts};
+ghost use Rattle.kp_lex.specs.Text.{HasOutcome};
+ghost use Rattle.kp_parse_grammar.specs.Reading.{JobGoes, FaultIs, Turns, Ends};
+ghost use Rattle.kp_parse_grammar.specs.Language.{job as job_value, named as named_value, decls as decls_value, blocks as blocks_value, perhaps_images, perhaps_stalls, perhaps_inputs, at as state_at, JOB};
+ghost use Rattle.kp_parse_grammar.specs.inner.Stretch.{TurnsAll, EndsAll};
 ghost use Rattle.kp_base.specs.declared.refusal.Refused.TheVariants as refused;
 ghost use Rattle.kp_ast.specs.declared.tree.Job.{Job as JobTree};
-ghost use Rattle.kp_parse_grammar.specs.Language.{job as job_value, named as named_value, decls as decls_value, blocks as blocks_value, perhaps_images, perhaps_stalls, perhaps_inputs, at as state_at, JOB};
-ghost use Rattle.kp_parse_grammar.specs.Reading.{JobGoes, FaultIs, Turns, Ends};
-ghost use Rattle.kp_parse_grammar.specs.inner.Stretch.{TurnsAll, EndsAll};
 ghost use Rattle.kp_parse.specs.inner.Stretches.{title_symbols, part_symbols, section_symbols};
 ghost use Rattle.kp_parse.specs.Sentence.{IsTree, AnswersTree, place_from};
 
@@ -16,7 +16,8 @@ use crate::sections::{image_section, input_section, stall_section};
 use crate::stage::{stage, stages};
 use kp_ast::{Block, Decl, Image, Inputs, Job, Named, Stalls};
 use kp_base::{List, Place, Refusal, Refused, place_of};
-use kp_parse_grammar::{Fault, Keyword, Lexed, Mark, Token, Tokens};
+use kp_lex::{Keyword, Lexed, Mark, Token};
+use kp_parse_grammar::{Fault, Tokens};
 use std::alloc::Global;
 
 /// A job, and the offset after its `end`.

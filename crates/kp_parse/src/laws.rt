@@ -2,7 +2,7 @@
 ghost use Rattle.std.specs.Prelude.{◌≡◌, ◌⊎◌, ℕ, List};
 ghost use Rattle.kp_base.specs.declared.refusal.Refusal.{Refusal};
 ghost use Rattle.kp_ast.specs.declared.tree.Job.{Job};
-ghost use Rattle.kp_parse_grammar.specs.declared.token.Token.{Token};
+ghost use Rattle.kp_lex.specs.declared.token.Token.{Token};
 ghost use Rattle.kp_parse.specs.Sentence.{IsTree, Breaks};
 
 /// A text has at most one tree.

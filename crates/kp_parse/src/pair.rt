@@ -5,7 +5,8 @@ ghost use Rattle.kp_parse_grammar.specs.inner.Stretch.{TurnsAll, EndsAll};
 ghost use Rattle.kp_parse.specs.inner.Stretches.{named_symbols, numbered_symbols, whole_symbols};
 
 use kp_ast::{Expr, Named, Num};
-use kp_parse_grammar::{Fault, Mark, Tokens, whole_expression};
+use kp_lex::Mark;
+use kp_parse_grammar::{Fault, Tokens, whole_expression};
 use std::alloc::Global;
 
 /// A part, and the one read after it. If the latter fails, the part is dropped here, in one place for all readers.

@@ -1,6 +1,6 @@
 // The sections after the stages.
 ghost use Rattle.std.specs.Prelude.{[], ◌∷◌, MatchResult};
-ghost use Rattle.kp_base.specs.Grammar.{Nonterminal};
+ghost use Rattle.kp_grammar.specs.Grammar.{Nonterminal};
 ghost use Rattle.kp_parse_grammar.specs.Language.{perhaps_images, images as images_value, image as image_value, perhaps_stalls, stalls as stalls_value, stall as stall_value, perhaps_inputs, inputs as inputs_value, input as input_value, number as number_value, perhaps_number, literals as literals_value, IMAGE, WORDS, WORD, NUMBERED, LITS, STALLS, SPANS, SPAN, STEP, INPUTS, ENTRIES, ENTRY};
 ghost use Rattle.kp_parse_grammar.specs.Reading.{Turns, Ends};
 ghost use Rattle.kp_parse_grammar.specs.inner.Stretch.{TurnsAll, EndsAll};
@@ -9,7 +9,8 @@ ghost use Rattle.kp_parse.specs.inner.Stretches.{value_symbols, cycle_symbols};
 use crate::pair::{name_before, number_before, present};
 use kp_ast::{Image, Inputs, Lit, Num, Stalls};
 use kp_base::List;
-use kp_parse_grammar::{Fault, Keyword, Mark, Tokens};
+use kp_lex::{Keyword, Mark};
+use kp_parse_grammar::{Fault, Tokens};
 use std::alloc::Global;
 
 /// The image section, if it is present, and the number of the next token.

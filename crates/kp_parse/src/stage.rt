@@ -1,7 +1,7 @@
 // Stages and their statements.
 ghost use Rattle.std.specs.Prelude.{◌≡◌, ◌==◌, [], ◌∷◌, MatchResult, true, false, ◌-◌, length};
-ghost use Rattle.kp_base.specs.{Grammar.Nonterminal, Tables.among};
-ghost use Rattle.kp_parse_grammar.specs.declared.token.Keyword.TheVariants as keywords;
+ghost use Rattle.kp_grammar.specs.{Grammar.Nonterminal, Tables.among};
+ghost use Rattle.kp_lex.specs.declared.token.Keyword.TheVariants as keywords;
 ghost use Rattle.kp_parse_grammar.specs.Tokens.{keyword_class};
 ghost use Rattle.kp_parse_grammar.specs.inner.Follow.{stmt_words};
 ghost use Rattle.kp_parse_grammar.specs.inner.Stretch.{TurnsAll, EndsAll};
@@ -12,7 +12,8 @@ ghost use Rattle.kp_parse_grammar.specs.Reading.{class_at, Turns, Ends};
 use crate::pair::{expression_before, name_before, number_before, present, with};
 use kp_ast::{Block, Expr, Named, ReadStmt, Stmt, StmtKind};
 use kp_base::List;
-use kp_parse_grammar::{Fault, Keyword, Mark, TokenKind, Tokens, whole_expression};
+use kp_lex::{Keyword, Mark, TokenKind};
+use kp_parse_grammar::{Fault, Tokens, whole_expression};
 use std::alloc::Global;
 
 // The terms of a read: its condition or its guess.

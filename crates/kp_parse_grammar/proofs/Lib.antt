@@ -1,10 +1,3 @@
-pub mod Fits
-pub mod Along
-pub mod Outcome
-pub mod Stands
-pub mod Names
-pub mod Counted
-pub mod Lengths
 pub mod Taking
 pub mod Predictive
 pub mod Picks

@@ -1,17 +1,18 @@
 -- Operators of a level.
 use Rattle.std.proofs.Common.{ℕ, ◌≡◌, ◌==◌, ◌<◌, ◌+◌, List, [], ◌∷◌, ◌++◌, drop, Bool, true, false, ◌||◌, cond, Option, Some, None, refl, sym, ap, ◌∙◌, subst, arith, Result, Ok, Err, MatchResult}
-use Rattle.kp_base.specs.{declared.place.Place.Place, Grammar.Nonterminal, Grammar.Action, Tables.pick}
-use Rattle.kp_base.specs.GrammarMachine.{Outcome, goes, make}
+use Rattle.kp_base.specs.declared.place.Place.{Place}
+use Rattle.kp_grammar.specs.{Grammar.Nonterminal, Grammar.Action, Tables.pick, Machine.Outcome, Machine.goes, Machine.make}
 use Rattle.kp_bits.specs.declared.operator.BinOp.{BinOp}
+use Rattle.kp_lex.specs.declared.token.Mark.{Mark}
 use Rattle.kp_parse_grammar.specs.Language.{Sym, State, Value, at, rules, counted, make_binary, expr, CHAIN, OPERAND, MORE, UNARY, POST}
-use Rattle.kp_parse_grammar.specs.{declared.token.Mark.Mark, declared.level.Level.Level, declared.fault.Fault.Fault, Tokens.Lexeme, Tokens.mark_class}
+use Rattle.kp_parse_grammar.specs.{declared.level.Level.Level, declared.fault.Fault.Fault, Tokens.Lexeme, Tokens.mark_class}
 use Rattle.kp_parse_grammar.specs.inner.{Operators.operators_of, Operators.operator_at, Operators.HasOperator, Follow.tables}
 use Rattle.kp_parse_grammar.specs.Reading.{Goes, class_at, Reads, Fails, ReadsYet}
 use Rattle.kp_parse_grammar.proofs.{Steps.passed, Steps.by_counted, Steps.one, Picks.other}
 use Rattle.kp_parse_grammar.specs.declared.level.Level.TheVariants as levels
 use Rattle.kp_ast.specs.declared.tree.Expr.{Expr}
 use Rattle.kp_ast.specs.declared.tree.ExprKind.TheViews as expressions
-use Rattle.kp_parse_grammar.specs.declared.token.Mark.TheVariants as marks
+use Rattle.kp_lex.specs.declared.token.Mark.TheVariants as marks
 
 -- the symbols after the right operand
 abbrev pub behind : Level → List Sym

@@ -1,14 +1,15 @@
 -- What the machine does at a name, as the next token says.
 use Rattle.std.proofs.Common.{ℕ, ◌≡◌, ◌==◌, List, [], ◌∷◌, ◌++◌, drop, Bool, true, false, cond, ◌||◌, Option, Some, refl, sym, ap, ◌∙◌, subst}
 use Rattle.std.proofs.lemmas.Bool.{eqb-true}
-use Rattle.kp_base.specs.{Grammar.Nonterminal, Grammar.Action, Tables.pick, Tables.among, GrammarMachine.Outcome, GrammarMachine.look, GrammarMachine.goes}
 use Rattle.kp_base.specs.declared.place.Place.{Place}
+use Rattle.kp_grammar.specs.{Grammar.Nonterminal, Grammar.Action, Tables.pick, Tables.among, Machine.Outcome, Machine.look, Machine.goes}
+use Rattle.kp_lex.specs.declared.token.Keyword.{Keyword}
 use Rattle.kp_parse_grammar.specs.Language.{Sym, State, Step, rules, language, mark, placed, counted, opening, opening_at, closing, separating, NAME, NUM, LIT, DECL, DECLS, STMT, STMTS, WHOLE, EXPR, CHAIN, CHOICE, UNARY, POST, SLICES, LOW, PRIM, EXTENDED, CALL, EXPRS, PARTS, one_decl, one_stmt, enter, leave, make_choice, make_not, make_slice, same_bit, make_literal, make_concat, make_call, make_name, no_exprs, one_expr}
-use Rattle.kp_parse_grammar.specs.{declared.token.Keyword.Keyword, Tokens.Lexeme, Tokens.LITERAL, Tokens.IDENTIFIER, Tokens.keyword_class, Tokens.mark_class}
+use Rattle.kp_parse_grammar.specs.Tokens.{Lexeme, LITERAL, IDENTIFIER, keyword_class, mark_class}
 use Rattle.kp_parse_grammar.specs.inner.{Follow.tables, Follow.decl_words, Follow.stmt_words, Extension.ExtendsAt, Extension.extending}
 use Rattle.kp_parse_grammar.specs.Reading.{Goes, Finds}
-use Rattle.kp_parse_grammar.specs.declared.token.Keyword.TheVariants as keywords
-use Rattle.kp_parse_grammar.specs.declared.token.Mark.TheVariants as marks
+use Rattle.kp_lex.specs.declared.token.Keyword.TheVariants as keywords
+use Rattle.kp_lex.specs.declared.token.Mark.TheVariants as marks
 use Rattle.kp_parse_grammar.specs.declared.level.Level.TheVariants as levels
 
 abbrev N : ℕ → Sym

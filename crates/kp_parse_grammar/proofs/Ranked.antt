@@ -1,6 +1,6 @@
 -- Before a token is read, each name of the language leads to names of lower rank alone.
 use Rattle.std.proofs.Common.{ℕ, ◌≡◌, ◌==◌, List, [], ◌∷◌, true, cond, refl}
-use Rattle.kp_base.specs.Ranks.{ranks_fit}
+use Rattle.kp_grammar.specs.Ranks.{ranks_fit}
 use Rattle.kp_parse_grammar.specs.declared.level.Level.TheVariants as levels
 use Rattle.kp_parse_grammar.specs.Language.{rules, DECLS, STAGES, STMTS, WHOLE, WORDS, SPANS, ENTRIES, EXPR, EXPRS, UNARY, POST, CHAIN}
 use Rattle.kp_parse_grammar.specs.inner.Follow.{tables}

@@ -2,10 +2,9 @@
 use Rattle.std.proofs.Common.{ℕ, zero, suc, ◌≡◌, ◌==◌, List, [], ◌∷◌, ◌++◌, map, length, Bool, true, false, cond, Option, refl, sym, ap, subst, ◌∙◌, arith}
 use Rattle.std.proofs.lemmas.Bool.{eqb-true}
 use Rattle.kp_base.specs.declared.place.Place.{Place}
-use Rattle.kp_base.specs.Grammar.{Terminal, Nonterminal, Action, Rules, alternatives, Has, here, there}
-use Rattle.kp_base.specs.Tables.{among}
-use Rattle.kp_base.specs.GrammarMachine.{Outcome, Accepts, Leads, accept, goes, take, make}
-use Rattle.kp_base.proofs.TableTests.{picks_rule}
+use Rattle.kp_grammar.specs.Grammar.{Terminal, Nonterminal, Action, Rules, alternatives, Has, here, there}
+use Rattle.kp_grammar.specs.{Tables.among, Machine.Outcome, Machine.Accepts, Machine.Leads, Machine.accept, Machine.goes, Machine.take, Machine.make}
+use Rattle.kp_grammar.proofs.TableTests.{picks_rule}
 use Rattle.kp_ast.specs.declared.tree.{Named.Named, Num.Num, Lit.Lit, Expr.Expr, Stmt.Stmt, Block.Block, Param.Param, Decl.Decl, Image.Image, Stalls.Stalls}
 use Rattle.kp_ast.specs.declared.tree.{Inputs.Inputs, Job.Job}
 use Rattle.kp_parse_grammar.specs.Language.{Value, Way, Step, State, Sym, language, rules, counts_read, values_read, counts_built, values_built, at, is_over}

@@ -1,14 +1,16 @@
 -- Steps of the machine, in the form in which the readers take them.
 use Rattle.std.proofs.Common.{ℕ, ◌≡◌, ◌<◌, ◌≤◌, ◌+◌, nat_lt, List, [], ◌∷◌, length, drop, Bool, false, refl, sym, ap, subst, arith, Result, IsErrAnd, MatchResult}
 use Rattle.std.proofs.lemmas.{Bool.le-ltb, Result.err_from_is_err_and}
-use Rattle.kp_base.specs.{declared.place.Place.Place, Grammar.Terminal, Grammar.Action}
-use Rattle.kp_base.specs.GrammarMachine.{Outcome, Accepts, Stops, Exceeds, accept, more, make}
-use Rattle.kp_base.proofs.Ways.{took, exceeded}
+use Rattle.kp_base.specs.declared.place.Place.{Place}
+use Rattle.kp_grammar.specs.Grammar.{Terminal, Action}
+use Rattle.kp_grammar.specs.Machine.{Outcome, Accepts, Stops, Exceeds, accept, more, make}
+use Rattle.kp_grammar.proofs.Ways.{took, exceeded}
 use Rattle.kp_ast.specs.declared.tree.{Expr.Expr, Num.Num}
+use Rattle.kp_lex.specs.declared.token.Keyword.{Keyword}
 use Rattle.kp_parse_grammar.specs.Language.{Sym, State, Value, Way, place, expr, number, dropped, as_place, counts_one, opens, opens_at, closes, separates, language, at, is_over}
-use Rattle.kp_parse_grammar.specs.{declared.token.Keyword.Keyword, declared.fault.Fault.Fault, Tokens.Lexeme, inner.Follow.tables, inner.Stretch.Counts}
+use Rattle.kp_parse_grammar.specs.{declared.fault.Fault.Fault, Tokens.Lexeme, inner.Follow.tables, inner.Stretch.Counts}
 use Rattle.kp_parse_grammar.specs.{inner.Extension.extension_of, inner.Extension.extending, Reading.Goes, Reading.Finds, Reading.FaultIs, Reading.Faults}
-use Rattle.kp_parse_grammar.specs.declared.token.Keyword.TheVariants as keywords
+use Rattle.kp_lex.specs.declared.token.Keyword.TheVariants as keywords
 use Rattle.kp_parse_grammar.specs.declared.fault.Fault.TheVariants as faults
 
 fits : (c : ℕ) → c < 64 → nat_lt 64 (c + 1) ≡ false

@@ -1,14 +1,15 @@
 -- The token at an index.
 use Rattle.std.proofs.Common.{ℕ, ◌≡◌, ◌==◌, ◌<◌, ◌≤◌, ◌+◌, ◌-◌, List, [], ◌∷◌, length, drop, take, map, true, false, refl, sym, ap, ◌∙◌, eq-eqb, arith}
 use Rattle.std.{proofs.lemmas.List.drop_more, proofs.lemmas.List.drop-map, proofs.lemmas.Bool.eqb-true, specs.Prelude.slice_index_or}
-use Rattle.kp_base.{specs.Grammar.Terminal, specs.GrammarMachine.Stops, specs.GrammarMachine.look, specs.GrammarMachine.wrong, proofs.Ways.took}
-use Rattle.kp_parse_grammar.specs.declared.token.{Token.Token, TokenKind.TokenKind}
+use Rattle.kp_grammar.specs.{Grammar.Terminal, Machine.Stops, Machine.look, Machine.wrong}
+use Rattle.kp_grammar.proofs.Ways.{took}
+use Rattle.kp_lex.specs.declared.token.{Token.Token, TokenKind.TokenKind}
 use Rattle.kp_parse_grammar.specs.{Tokens.Lexeme, Tokens.lexeme_of, Tokens.lexemes, Tokens.kind_class, Tokens.IDENTIFIER, Tokens.named_of, inner.Follow.tables}
 use Rattle.kp_parse_grammar.specs.Language.{Sym, State, Way, NAME, NUM, LIT, named, number, literal, language, is_over}
 use Rattle.kp_parse_grammar.specs.Reading.{Goes, class_at, Finds, Turns}
-use Rattle.kp_parse_grammar.specs.declared.token.Keyword.TheVariants as keywords
-use Rattle.kp_parse_grammar.specs.declared.token.Mark.TheVariants as marks
-use Rattle.kp_parse_grammar.specs.declared.token.TokenKind.TheVariants as kinds
+use Rattle.kp_lex.specs.declared.token.Keyword.TheVariants as keywords
+use Rattle.kp_lex.specs.declared.token.Mark.TheVariants as marks
+use Rattle.kp_lex.specs.declared.token.TokenKind.TheVariants as kinds
 use Rattle.kp_bits.specs.declared.literal.Literal.{Literal}
 
 -- the bytes of a token from its start to its end

@@ -1,6 +1,7 @@
 -- The grammar of machine descriptions, with what it builds.
 use Rattle.std.specs.Prelude.{ℕ, ◌+◌, ◌||◌, nat_lt, List, [], ◌∷◌, ◌++◌, Bool, false, Option, Some, None}
-use Rattle.kp_base.specs.{declared.place.Place.Place, Grammar.Symbol, Grammar.Terminal, Grammar.Nonterminal, Grammar.Action, Grammar.Rules, Grammar.Grammar}
+use Rattle.kp_base.specs.declared.place.Place.{Place}
+use Rattle.kp_grammar.specs.Grammar.{Symbol, Terminal, Nonterminal, Action, Rules, Grammar}
 use Rattle.kp_bits.specs.declared.operator.BinOp.{BinOp}
 use Rattle.kp_bits.specs.declared.operator.BinOp.TheVariants as ops
 use Rattle.kp_ast.specs.declared.tree.{Named.Named, Num.Num, Lit.Lit, Expr.Expr, Stmt.Stmt, Block.Block, Param.Param, Decl.Decl, Image.Image, Stalls.Stalls}
@@ -9,10 +10,11 @@ use Rattle.kp_ast.specs.declared.tree.ExprKind.TheVariants as leaves
 use Rattle.kp_ast.specs.declared.tree.ExprKind.TheViews as expressions
 use Rattle.kp_ast.specs.declared.tree.StmtKind.TheVariants as statements
 use Rattle.kp_ast.specs.declared.tree.Decl.TheVariants as declarations
-use Rattle.kp_parse_grammar.specs.declared.{token.Keyword.Keyword, token.Mark.Mark, level.Level.Level}
+use Rattle.kp_lex.specs.declared.token.{Keyword.Keyword, Mark.Mark}
+use Rattle.kp_parse_grammar.specs.declared.level.Level.{Level}
 use Rattle.kp_parse_grammar.specs.Tokens.{Lexeme, IDENTIFIER, NUMBER, LITERAL, keyword_class, mark_class, kind_class, named_of, number_of, literal_of}
-use Rattle.kp_parse_grammar.specs.declared.token.Keyword.TheVariants as keywords
-use Rattle.kp_parse_grammar.specs.declared.token.Mark.TheVariants as marks
+use Rattle.kp_lex.specs.declared.token.Keyword.TheVariants as keywords
+use Rattle.kp_lex.specs.declared.token.Mark.TheVariants as marks
 use Rattle.kp_parse_grammar.specs.declared.level.Level.TheVariants as levels
 
 -- what has been read and built

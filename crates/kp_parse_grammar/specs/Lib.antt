@@ -1,5 +1,3 @@
-pub mod Words
-pub mod Text
 pub mod Tokens
 pub mod Language
 pub mod Reading

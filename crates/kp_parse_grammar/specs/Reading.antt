@@ -1,9 +1,11 @@
 -- The contracts of the functions that read: the steps of the machine. Tokens are numbered from 0. The clauses of `parse` don't use these definitions.
 use Rattle.std.specs.Prelude.{ℕ, ◌+◌, ◌≤◌, ◌≡◌, List, [], ◌∷◌, ◌++◌, length, drop, Option, None, Some}
-use Rattle.kp_base.specs.{declared.place.Place.Place, Grammar.Terminal, Grammar.Nonterminal, Tables.END_OF_TEXT}
-use Rattle.kp_base.specs.GrammarMachine.{Outcome, Stops, Exceeds, Leads, look}
+use Rattle.kp_base.specs.declared.place.Place.{Place}
+use Rattle.kp_grammar.specs.{Grammar.Terminal, Grammar.Nonterminal, Tables.END_OF_TEXT}
+use Rattle.kp_grammar.specs.Machine.{Outcome, Stops, Exceeds, Leads, look}
 use Rattle.kp_ast.specs.declared.tree.Expr.{Expr}
-use Rattle.kp_parse_grammar.specs.{declared.token.TokenKind.TokenKind, declared.fault.Fault.Fault, Tokens.Lexeme, Tokens.kind_class}
+use Rattle.kp_lex.specs.declared.token.TokenKind.{TokenKind}
+use Rattle.kp_parse_grammar.specs.{declared.fault.Fault.Fault, Tokens.Lexeme, Tokens.kind_class}
 use Rattle.kp_parse_grammar.specs.Language.{Sym, State, Value, Way, closes, at, is_over, exprs, language, EXPRS, PARTS, JOB}
 use Rattle.kp_parse_grammar.specs.inner.Follow.{tables}
 use Rattle.kp_parse_grammar.specs.declared.fault.Fault.TheVariants as faults

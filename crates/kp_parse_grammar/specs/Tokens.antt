@@ -3,10 +3,10 @@ use Rattle.std.specs.Prelude.{ℕ, ◌+◌, ◌≤◌, ◌≡◌, List, map, tak
 use Rattle.kp_base.specs.declared.place.Place.{Place}
 use Rattle.kp_ast.specs.{Name.IsName, declared.tree.Named.Named, declared.tree.Num.Num, declared.tree.Lit.Lit}
 use Rattle.kp_bits.specs.declared.literal.Literal.{Literal}
-use Rattle.kp_parse_grammar.specs.declared.token.{Keyword.Keyword, Mark.Mark, TokenKind.TokenKind, Token.Token}
-use Rattle.kp_parse_grammar.specs.declared.token.Keyword.TheVariants as keywords
-use Rattle.kp_parse_grammar.specs.declared.token.Mark.TheVariants as marks
-use Rattle.kp_parse_grammar.specs.declared.token.TokenKind.TheVariants as kinds
+use Rattle.kp_lex.specs.declared.token.{Keyword.Keyword, Mark.Mark, TokenKind.TokenKind, Token.Token}
+use Rattle.kp_lex.specs.declared.token.Keyword.TheVariants as keywords
+use Rattle.kp_lex.specs.declared.token.Mark.TheVariants as marks
+use Rattle.kp_lex.specs.declared.token.TokenKind.TheVariants as kinds
 
 -- a token with its bytes
 pub record Lexeme : Type 0 where

@@ -1,9 +1,9 @@
 // Expressions. The reader of a part takes the nesting count and the number of the part's first token; it returns the
 // part, the count after it, and the number of the next token.
 ghost use Rattle.std.specs.Prelude.{◌≡◌, ◌==◌, ◌≤◌, ◌<◌, ◌+◌, [], ◌∷◌, MatchOption, MatchResult, IfOk, None, true};
-ghost use Rattle.kp_base.specs.Grammar.{Nonterminal};
+ghost use Rattle.kp_grammar.specs.Grammar.{Nonterminal};
 ghost use Rattle.kp_ast.specs.declared.tree.ExprKind.TheViews as expressions;
-ghost use Rattle.kp_parse_grammar.specs.declared.token.Mark.TheVariants as marks;
+ghost use Rattle.kp_lex.specs.declared.token.Mark.TheVariants as marks;
 ghost use Rattle.kp_parse_grammar.specs.declared.fault.Fault.TheVariants as faults;
 ghost use Rattle.kp_parse_grammar.specs.Tokens.{mark_class, IDENTIFIER, LITERAL};
 ghost use Rattle.kp_parse_grammar.specs.inner.Operators.{operators_of, operator_at, HasOperator};
@@ -15,10 +15,10 @@ ghost use Rattle.kp_parse_grammar.specs.Reading.{class_at, Finds, Reads, Fails, 
 use crate::fault::Fault;
 use crate::level::Level;
 use crate::tokens::Tokens;
-use crate::{Keyword, Mark, TokenKind};
 use kp_ast::{Boxed, Expr, ExprKind, Num};
 use kp_base::{List, NoMemory, Place};
 use kp_bits::BinOp;
+use kp_lex::{Keyword, Mark, TokenKind};
 use std::alloc::Global;
 
 // The greatest nesting count of an expression.

@@ -2,8 +2,8 @@
 ghost use Rattle.std.specs.Prelude.{◌≡◌};
 ghost use Rattle.kp_parse_grammar.specs.inner.Operators.{operators_of};
 
-use crate::Mark;
 use kp_bits::BinOp;
+use kp_lex::Mark;
 
 /// The operators of equal precedence, from the lowest level to the highest.
 #[derive(Clone, Copy)]

@@ -1,16 +1,16 @@
 // The tokens of a text, as the parser reads them.
 ghost use Rattle.std.specs.Prelude.{◌≡◌, ◌==◌, ◌+◌, ℕ, [], ◌∷◌, drop, true, false, MatchOption, MatchResult, IfSome, All};
 ghost use Rattle.kp_ast.specs.Name.{IsName};
-ghost use Rattle.kp_parse_grammar.specs.declared.token.TokenKind.TheVariants as kinds;
+ghost use Rattle.kp_lex.specs.declared.token.TokenKind.TheVariants as kinds;
 ghost use Rattle.kp_parse_grammar.specs.Tokens.{kind_class, keyword_class, mark_class, IDENTIFIER, NUMBER, IsSpelled, lexemes};
 ghost use Rattle.kp_parse_grammar.specs.Language.{NAME, NUM, LIT, named, number as number_value, literal as literal_value};
 ghost use Rattle.kp_parse_grammar.specs.Reading.{class_at, class_of, Finds, Misses, Follows, Turns, Ends};
-ghost use Rattle.kp_base.specs.Tables.{END_OF_TEXT};
+ghost use Rattle.kp_grammar.specs.Tables.{END_OF_TEXT};
 
 use crate::fault::Fault;
-use crate::{Keyword, Mark, Token, TokenKind};
 use kp_ast::{Lit, Name, Named, Num};
 use kp_base::Place;
+use kp_lex::{Keyword, Mark, Token, TokenKind};
 use std::alloc::Global;
 use std::marker::Model;
 

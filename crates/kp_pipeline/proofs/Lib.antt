@@ -26,9 +26,4 @@ pub mod Runs
 pub mod Sampled
 pub mod SpeculativeRuns
 pub mod Proved
-pub mod Adding
-pub mod Steps
-pub mod Cells
-pub mod Retired
-pub mod Causes
 pub mod Many

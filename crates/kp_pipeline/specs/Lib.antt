@@ -12,5 +12,3 @@ pub mod Ends
 pub mod SpeculativeTimeline
 pub mod RightPath
 pub mod SpeculativeExamples
-pub mod Diagram
-pub mod DiagramClaims

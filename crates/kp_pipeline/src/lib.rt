@@ -6,12 +6,8 @@
 //! (`Nearest`), the timeline of machines without guesses and samples (`Timeline`) and that of any machine (`SpeculativeTimeline`), the
 //! right path with what a stage waits for (`RightPath`), and small machines with worked runs (`Examples`, `SpeculativeExamples`). The laws
 //! are the contracts of functions that do nothing. `docs/PROOFS.md` explains how they are proved.
-//!
-//! And the pipeline diagram of a run (`diagram`): `Diagram` defines its lines and the account below it from rows and stall words alone, and `DiagramClaims`
-//! what the laws say of them.
 #![tactic(auto)]
 
-pub mod diagram;
 pub mod examples;
 pub mod laws;
 pub mod no_needless_stall;

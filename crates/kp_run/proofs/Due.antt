@@ -9,8 +9,9 @@ use Rattle.kp_pipeline.specs.{Accepted.Accepted, Pipeline.Inputs}
 use Rattle.kp_pipeline.specs.Rows as law
 use Rattle.kp_machine.specs.{Machine.machine_of, Machine.inputs_from, Machine.pipe_of, Words.HasWord, Words.target}
 use Rattle.kp_net.specs.Netlist.{Net, State, last_of}
-use Rattle.kp_sched.specs.{Monitors.Kept, Rows.rows_seen, Runs.passes, Naming.value_shown, Shows.Shows, Traces.trace_of}
+use Rattle.kp_sched.specs.{Monitors.Kept, Rows.rows_seen, Runs.passes}
 use Rattle.kp_sched.proofs.Counting.{seen_length}
+use Rattle.kp_implements.specs.{Naming.value_shown, Shows.Shows, Traces.trace_of}
 use Rattle.kp_run.specs.{Boards.due_behind, Cycles.inputs_to, Cycles.HasRows, Homes.AreHomes, inner.Boards.HasCounts, inner.Finals.AreFinals}
 use Rattle.kp_run.proofs.{Inputs.seen_to, Inputs.quiet_to, Legal.as_many, Legal.traced, Machines.home_passes, Prefixes.state_is}
 

@@ -12,8 +12,9 @@ use Rattle.kp_frontend.{specs.Sections.stall_of, specs.Sections.stalls_checked, 
 use Rattle.kp_pipeline.specs.Pipeline.{Inputs}
 use Rattle.kp_machine.specs.Machine.{inputs_at, inputs_from, values_in}
 use Rattle.kp_net.specs.Netlist.{Input}
-use Rattle.kp_sched.specs.{Rows.bit_of, Traces.sample, Traces.input_seen, Traces.inputs_seen, Traces.AreQuiet}
+use Rattle.kp_sched.specs.Rows.{bit_of}
 use Rattle.kp_sched.proofs.Bits.{word_fits, bit_below}
+use Rattle.kp_implements.specs.Traces.{sample, input_seen, inputs_seen, AreQuiet}
 use Rattle.kp_run.specs.Cycles.{input_at, inputs_to}
 use Rattle.kp_run.proofs.Samples.{width_at, word_at, value_at, value_past}
 

@@ -9,8 +9,9 @@ use Rattle.kp_pipeline.specs.Rows as law
 use Rattle.kp_stage.specs.Start.{start_of}
 use Rattle.kp_machine.specs.{Machine.machine_of, Machine.state_of, Machine.start_hints, Machine.inputs_from, Machine.pipe_of, Words.HasWord}
 use Rattle.kp_net.specs.Netlist.{Net}
-use Rattle.kp_sched.specs.{Monitors.Kept, Rows.rows_seen, Runs.due_value, Runs.IsLegal, Runs.ShowsAlike, Shows.Shows, Traces.trace_of}
+use Rattle.kp_sched.specs.{Monitors.Kept, Rows.rows_seen, Runs.due_value, Runs.IsLegal, Runs.ShowsAlike}
 use Rattle.kp_sched.proofs.Counting.{seen_length}
+use Rattle.kp_implements.specs.{Shows.Shows, Traces.trace_of}
 use Rattle.kp_run.{specs.Boards.due_behind, specs.Cycles.inputs_to, specs.Cycles.HasRows, proofs.Inputs.seen_to, proofs.Inputs.quiet_to}
 
 pub inputs_many : (job : Job) (cycle n : ℕ) → length (inputs_from job cycle n) ≡ n

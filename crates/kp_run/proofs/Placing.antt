@@ -11,7 +11,7 @@ use Rattle.kp_ast.specs.declared.tree.Decl.TheVariants as decls
 use Rattle.kp_machine.{proofs.Widths.Fine, proofs.Widths.job_fine, specs.Slots.Slot, specs.Slots.slot, specs.Slots.targets_of, specs.Slots.is_register}
 use Rattle.kp_machine.specs.Words.{HasWord, no_slot, target}
 use Rattle.kp_net.specs.{Netlist.Net, Netlist.State, Parts.NetOk, Parts.no_reg, Parts.no_file}
-use Rattle.kp_sched.specs.{Naming.register_of, Naming.file_of, Naming.value_shown, Shows.IsOfJob}
+use Rattle.kp_implements.specs.{Naming.register_of, Naming.file_of, Naming.value_shown, Shows.IsOfJob}
 use Rattle.kp_run.specs.declared.places.Place.{Place, TheVariants.Register, TheVariants.File}
 use Rattle.kp_run.specs.Places.{place_in, places_in, IsPlace, word_at}
 

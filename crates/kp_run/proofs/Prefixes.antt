@@ -7,7 +7,8 @@ use Rattle.kp_ast.specs.declared.tree.Job.{Job}
 use Rattle.kp_pipeline.specs.Rows.{bit, bits, one_if, passed}
 use Rattle.kp_net.specs.Netlist.{Net, Input, State, start_of, state_after, states_from, rows_from, last_of, run}
 use Rattle.kp_net.proofs.Runs.{states_more, last_more}
-use Rattle.kp_sched.specs.{Rows.bit_of, Rows.rows_seen, Traces.no_state, Traces.state_at}
+use Rattle.kp_sched.specs.Rows.{bit_of, rows_seen}
+use Rattle.kp_implements.specs.Traces.{no_state, state_at}
 use Rattle.kp_run.specs.Cycles.{input_at, inputs_to}
 
 -- ---- the states and the rows of a netlist

@@ -9,7 +9,7 @@ use Rattle.kp_stage.specs.Start.{AreSamples}
 use Rattle.kp_machine.specs.{Machine.values_in, Slots.samples_of, Slots.sample_stages, Words.no_slot}
 use Rattle.kp_net.specs.{Netlist.Net, Parts.no_port, declared.netlist.Port.Port}
 use Rattle.kp_cycle.specs.Steps.{SamplesFit}
-use Rattle.kp_sched.specs.Naming.{sample_port, sample_ports}
+use Rattle.kp_implements.specs.Naming.{sample_port, sample_ports}
 
 pub many : (ds : List Decl) (row : List Word) → AreSamples ds row → length row ≡ length (sample_stages ds)
 many [] [] fits = refl

@@ -6,7 +6,8 @@ use Rattle.kp_stage.specs.Start.{stall_word, input}
 use Rattle.kp_pipeline.specs.Rows.{Trace}
 use Rattle.kp_cycle.specs.Steps.{Running}
 use Rattle.kp_net.specs.Netlist.{Net, Input, run, last_of}
-use Rattle.kp_sched.specs.{Monitors.Kept, Monitors.HasSeen, Traces.trace_of}
+use Rattle.kp_sched.specs.Monitors.{Kept, HasSeen}
+use Rattle.kp_implements.specs.Traces.{trace_of}
 
 -- The inputs of a netlist in a cycle, as the sections of a job specify them: the stall word and the values of the samples. The reset isn't raised.
 abbrev pub input_at : Job → ℕ → Input

@@ -5,7 +5,7 @@ use Rattle.kp_ast.specs.declared.tree.Job.{Job}
 use Rattle.kp_cycle.specs.Steps.{Running, reg_shown, word_shown}
 use Rattle.kp_machine.specs.Slots.{Slot, targets_of, is_register}
 use Rattle.kp_net.specs.{Netlist.Net, Parts.no_file}
-use Rattle.kp_sched.specs.Naming.{register_of, file_of}
+use Rattle.kp_implements.specs.Naming.{register_of, file_of}
 use Rattle.kp_run.specs.declared.places.Place.{Place, TheVariants.Register, TheVariants.File}
 
 -- The register with the name of a target, or the file with the number of its words.

@@ -6,7 +6,8 @@ ghost use Rattle.kp_pipeline.specs.Rows.{bit, bits};
 ghost use Rattle.kp_frontend.specs.Feeds.{row_in};
 ghost use Rattle.kp_machine.specs.Slots.{sample_stages};
 ghost use Rattle.kp_net.specs.Netlist.{run};
-ghost use Rattle.kp_sched.specs.{Rows.bit_of, Rows.rows_seen, Naming.sample_ports, Shows.HasOutputs};
+ghost use Rattle.kp_sched.specs.Rows.{bit_of, rows_seen};
+ghost use Rattle.kp_implements.specs.{Naming.sample_ports, Shows.HasOutputs};
 ghost use Rattle.kp_run.specs.Columns.{AreColumns, words_taken, word_taken};
 ghost use Rattle.kp_run.specs.Cycles.{inputs_to};
 

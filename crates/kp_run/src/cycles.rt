@@ -4,7 +4,8 @@ ghost use Rattle.kp_stage.specs.Start.{stall_word, input};
 ghost use Rattle.kp_frontend.specs.{Spans.word_in, Feeds.row_in};
 ghost use Rattle.kp_net.specs.Netlist.{Net, row_of, state_after, last_of};
 ghost use Rattle.kp_cycle.specs.Steps.{SamplesFit, given};
-ghost use Rattle.kp_sched.specs.{Naming.sample_ports, Shows.HasOutputs, Monitors.HasSeen};
+ghost use Rattle.kp_sched.specs.Monitors.{HasSeen};
+ghost use Rattle.kp_implements.specs.{Naming.sample_ports, Shows.HasOutputs};
 ghost use Rattle.kp_run.specs.Cycles.{HasRows, after_cycles, input_at, inputs_to};
 
 use kp_base::{NoMemory, Row};

@@ -3,7 +3,7 @@ ghost use Rattle.std.specs.Prelude.{◌≡◌, ◌<◌, ◌^◌, [], length, get
 ghost use Rattle.kp_bits.specs.Word.{word};
 ghost use Rattle.kp_machine.specs.Slots.{targets_of};
 ghost use Rattle.kp_machine.specs.Words.{HasWord, target};
-ghost use Rattle.kp_sched.specs.{Naming.value_shown, Shows.IsOfJob};
+ghost use Rattle.kp_implements.specs.{Naming.value_shown, Shows.IsOfJob};
 ghost use Rattle.kp_run.specs.Places.{place_in, places_in, words_at};
 ghost use Rattle.kp_run.specs.inner.Finals.{AreWords, AreFinals};
 

@@ -1,14 +1,14 @@
 // The registers and files of a netlist that store the targets of its job.
 ghost use Rattle.std.specs.Prelude.{◌≡◌, ◌<◌, ◌≤◌, ◌^◌, IfOk};
-ghost use Rattle.kp_sched.specs.Shows.{IsOfJob};
+ghost use Rattle.kp_implements.specs.Shows.{IsOfJob};
 ghost use Rattle.kp_run.specs.Places.{IsPlace, places_in, word_at, words_at};
 
 use kp_ast::Decl;
 use kp_base::NoMemory;
 use kp_bits::Bits;
 use kp_cycle::Sim;
+use kp_implements::{file_named, register_named};
 use kp_net::Netlist;
-use kp_sched::{file_named, register_named};
 use kp_stage::Design;
 use std::alloc::Global;
 

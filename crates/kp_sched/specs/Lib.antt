@@ -3,10 +3,4 @@ pub mod Monitors
 pub mod Lines
 pub mod Runs
 pub mod Examples
-pub mod Naming
-pub mod Traces
-pub mod Shows
-pub mod Legal
-pub mod Anew
-pub mod Cuts
 pub mod inner

@@ -3,12 +3,17 @@ use Rattle.std.proofs.Common.{◌≡◌, ◌∙◌, ℕ, ◌+◌, ◌<◌, List,
 use Rattle.std.proofs.Math.Path.{fun_ext}
 use Rattle.kp_base.specs.declared.row.Row as masks
 use Rattle.kp_ast.specs.declared.tree.Job.{Job}
-use Rattle.kp_pipeline.specs.{Accepted.Accepted, Rows.Row, Rows.taken, DiagramClaims.stalls_of}
+use Rattle.kp_pipeline.specs.{Accepted.Accepted, Rows.Row, Rows.taken}
+use Rattle.kp_diagram.specs.Claims.{stalls_of}
 use Rattle.kp_stage.specs.Start.{start_of}
 use Rattle.kp_machine.specs.Machine.{inputs_from, machine_of, start_hints, state_of}
-use Rattle.kp_sched.{specs.Rows.bit_of, specs.Rows.rows_seen, specs.Traces.inputs_seen, proofs.Counting.seen_length}
+use Rattle.kp_sched.specs.Rows.{bit_of, rows_seen}
+use Rattle.kp_sched.proofs.Counting.{seen_length}
+use Rattle.kp_implements.specs.Traces.{inputs_seen}
 use Rattle.kp_run.specs.Cycles.{inputs_to}
-use Rattle.kp_stalls_run.{specs.Figures.IsRunOf, specs.Runs.run_lines, specs.Runs.settled, specs.inner.Running.StaysClose, proofs.Words.words-seen}
+use Rattle.kp_diagram_run.specs.Figures.{IsRunOf}
+use Rattle.kp_diagram_run.proofs.Words.{words-seen}
+use Rattle.kp_stalls_run.specs.{Runs.run_lines, Runs.settled, inner.Running.StaysClose}
 use Rattle.kp_stalls_run.proofs.{Closeness.stays_close, Steps.lines_same}
 use Rattle.kp_timing.specs.Sites.{sited}
 use Rattle.kp_stalls.specs.{Occupants.report, Cycles.lines_from}

@@ -10,7 +10,3 @@ pub mod Naming
 pub mod Agreeing
 pub mod Sizes
 pub mod GuessSteps
-pub mod Alike
-pub mod Words
-pub mod Figures
-pub mod Shown

@@ -7,7 +7,8 @@ use Rattle.std.specs.List.{All, list_any}
 use Rattle.kp_bits.specs.Word.{Word}
 use Rattle.kp_ast.specs.declared.tree.Job.{Job}
 use Rattle.kp_pipeline.specs.{Machine.Machine, Pipeline.Inputs, Pipeline.PipelineState, Pipeline.cycle, Pipeline.pipeline_start}
-use Rattle.kp_pipeline.specs.{RightPath.Moment, RightPath.first_moment, RightPath.next_moment, Rows.state_after, Trimming.trimmed, DiagramClaims.stalls_of}
+use Rattle.kp_pipeline.specs.{RightPath.Moment, RightPath.first_moment, RightPath.next_moment, Rows.state_after, Trimming.trimmed}
+use Rattle.kp_diagram.specs.Claims.{stalls_of}
 use Rattle.kp_stage.specs.Start.{start_of}
 use Rattle.kp_machine.specs.Machine.{inputs_at, inputs_from, machine_of, start_hints, state_of}
 use Rattle.kp_machine.proofs.Cases.{by_test}
@@ -16,7 +17,7 @@ use Rattle.kp_cycle.specs.Steps.{Running, saved_in}
 use Rattle.kp_run.{specs.Cycles.input_at, specs.Cycles.inputs_to, proofs.Steps.state_next, proofs.Prefixes.state_is}
 use Rattle.kp_synth.specs.Carrying.{Carries}
 use Rattle.kp_synth_registers.specs.Holding.{Holds, inputs_of}
-use Rattle.kp_sched.specs.Traces.{AreQuiet, inputs_seen}
+use Rattle.kp_implements.specs.Traces.{AreQuiet, inputs_seen}
 use Rattle.kp_synth_tables.specs.Keys.{is_alive, keys_of}
 use Rattle.kp_stalls.specs.declared.cause.{Cause.Cause, Cause.TheVariants.Value, Cause.TheVariants.Squashed, Guess.Guess, Line.Line, Wait.Wait, Wrong.Wrong}
 use Rattle.kp_stalls.specs.{Claims.moment_at, Occupants.report}

@@ -1,5 +1,3 @@
-pub mod Figures
-pub mod FigureClaims
 pub mod Claims
 pub mod Guessed
 pub mod Runs

@@ -2,7 +2,8 @@
 use Rattle.std.specs.Prelude.{ℕ, zero, suc, ◌==◌, ◌&&◌, List, Option, Some, None, Bool, true, length, get_or, map, if◌then◌else◌}
 use Rattle.kp_bits.specs.Word.{Word}
 use Rattle.kp_ast.specs.declared.tree.Job.{Job}
-use Rattle.kp_pipeline.specs.{Pipeline.PipelineState, Pipeline.pipeline_start, Rows.state_after, DiagramClaims.stalls_of}
+use Rattle.kp_pipeline.specs.{Pipeline.PipelineState, Pipeline.pipeline_start, Rows.state_after}
+use Rattle.kp_diagram.specs.Claims.{stalls_of}
 use Rattle.kp_stage.specs.Start.{input, start_of}
 use Rattle.kp_machine.specs.Machine.{inputs_from, machine_of, pipe_of, start_hints, state_of, taken_of, values_in}
 use Rattle.kp_machine.specs.Slots.{sample_stages}

@@ -1,5 +1,4 @@
 -- For private contracts and proofs only: a reader need not trust it.
-pub mod Words
 pub mod Held
 pub mod Replays
 pub mod Running

@@ -3,7 +3,7 @@ ghost use Rattle.std.specs.Prelude.{◌≡◌, ◌<◌, ◌≤◌, OnOk, get_or,
 ghost use Rattle.std.specs.List.{All, list_any};
 ghost use Rattle.kp_timing.specs.Sites.{no_site, sited};
 ghost use Rattle.kp_synth.specs.Carrying.{Carries};
-ghost use Rattle.kp_sched.specs.Shows.{Shows};
+ghost use Rattle.kp_implements.specs.Shows.{Shows};
 ghost use Rattle.kp_synth_tables.specs.Keys.{keys_of};
 ghost use Rattle.kp_stalls_run.specs.Runs.{cause_with as cause_with_in, guess_with as guess_with_in, guessed_in, line_with as line_with_in, wrong_with as wrong_with_in};
 ghost use Rattle.kp_stalls_run.specs.inner.Replays.{HoldsState, names_guess as names_guess_in, names_one, run_at};

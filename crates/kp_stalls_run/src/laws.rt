@@ -1,7 +1,7 @@
-//! What the diagram of a job and its lines say of its pipelined machine.
+//! What the lines of a job say of its pipelined machine.
 
-ghost use Rattle.std.specs.Prelude.{ℕ, List};
-ghost use Rattle.kp_stalls_run.specs.{Claims.ShowCauses, FigureClaims.ShowsRun, Figures.job_figure};
+ghost use Rattle.std.specs.Prelude.{ℕ};
+ghost use Rattle.kp_stalls_run.specs.{Claims.ShowCauses};
 
 use kp_frontend::Accepted;
 use kp_machine::laws::a_design_is_accepted;
@@ -14,13 +14,4 @@ pub fn the_lines_show_causes(job: &Accepted)
     let _kept = job.design.job();
     a_design_is_accepted(&job.design);
     each_reported_wait_is_a_cause();
-}
-
-/// The figure of a job shows the run of its pipelined machine: the cells are the instructions in the full stages, the marks have their reasons,
-/// the retired instructions are in order, and each cycle is counted under its cause.
-pub fn a_figure_shows_the_run(job: &Accepted)
-    ensures { (names : List (List ℕ)) (n : ℕ) → ShowsRun job.now.design.job n (job_figure names n job.now.design.job) }
-{
-    let _kept = job.design.job();
-    a_design_is_accepted(&job.design);
 }

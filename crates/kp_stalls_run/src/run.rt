@@ -15,13 +15,13 @@ ghost use Rattle.kp_stalls.specs.Windows.{Follows};
 ghost use Rattle.kp_stalls_run.specs.Runs.{job_stalls, settled};
 ghost use Rattle.kp_stalls_run.specs.inner.Running.{StaysClose, stage_now};
 
-use crate::diagram::run_job;
 use crate::guesses::add_values;
 use crate::reach::reach;
 use crate::samples::{Samples, stages_of};
 use crate::stages::{Moment, stages_at};
 use kp_base::{NoMemory, Row};
 use kp_bits::Bits;
+use kp_diagram_run::run_job;
 use kp_frontend::Accepted;
 use kp_machine::laws::a_design_is_accepted;
 use kp_run::columns_of;

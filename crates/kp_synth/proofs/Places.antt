@@ -4,7 +4,7 @@ use Rattle.std.proofs.lemmas.{Bool.eq-eqb, Bool.or_parts, List.length-take-le, L
 use Rattle.std.specs.{List.filter, Prelude.not}
 use Rattle.kp_machine.{specs.Slots.Slot, specs.Slots.is_register, specs.Machine.files_before, proofs.Cases.by_test}
 use Rattle.kp_net.specs.Names.{same, among, Differ}
-use Rattle.kp_sched.specs.Naming.{place_among}
+use Rattle.kp_implements.specs.Naming.{place_among}
 
 -- an entry that passes a test has an index among those that pass
 pub record PassesAt {X : Type 0} (p : X → Bool) (xs : List X) (t : ℕ) (d : X) : Type 0 where

@@ -11,10 +11,11 @@ use Rattle.kp_net.specs.declared.netlist.{NetReg.NetReg, NetFile.NetFile, Port.P
 use Rattle.kp_net.specs.Netlist.{Net, Input, State, state_after, states_from, rows_from, run, last_of}
 use Rattle.kp_net.specs.{Names.IsNamed, Parts.no_reg, Parts.no_file}
 use Rattle.kp_sched.specs.Runs.{ShowsAlike}
-use Rattle.kp_sched.specs.Naming.{register_name, file_name, sample_port, hidden_names, registers_of, files_of, register_names, file_names, register_of, file_of, value_shown, place_among}
-use Rattle.kp_sched.specs.Traces.{trace_of, no_state, inputs_seen, state_at, AreQuiet}
-use Rattle.kp_sched.specs.{Shows.Shows, Shows.IsInOrder, Shows.HasRegister, Shows.HasFile, Anew.trace_from, Anew.left_by_reset, Anew.HasMemory, Anew.BeginsAnew}
-use Rattle.kp_sched.proofs.Anew.{left_alike}
+use Rattle.kp_implements.specs.Naming.{register_name, file_name, sample_port, hidden_names, registers_of, files_of, register_names, file_names, register_of, file_of, value_shown, place_among}
+use Rattle.kp_implements.specs.Traces.{trace_of, no_state, inputs_seen, state_at, AreQuiet}
+use Rattle.kp_implements.specs.Shows.{Shows, IsInOrder, HasRegister, HasFile}
+use Rattle.kp_implements.specs.Anew.{trace_from, left_by_reset, HasMemory, BeginsAnew}
+use Rattle.kp_implements.proofs.Anew.{left_alike}
 use Rattle.kp_synth_close.specs.Shows as place
 use Rattle.kp_synth_close.specs.Shows.{NamedBy, HoldsFrom, reg_slot, file_slot, port_slot, named_with, shown_word}
 use Rattle.kp_synth.{specs.Carrying.Carries, proofs.Named.names_through}

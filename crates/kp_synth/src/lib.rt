@@ -4,7 +4,7 @@
 //! the registers (kp_synth_registers), the nodes of a stage (kp_synth_stage), and the next
 //! values of registers and files (kp_synth_close). The other parts of the netlist, its registers, files and ports with
 //! their names and start values, are built here (`netlist`). What it means that a netlist shows (implements) the
-//! pipelined machine is defined in kp_sched.
+//! pipelined machine is defined in kp_implements.
 //!
 //! `run_stages` makes the nodes of all stages, from the last to the first. The nodes of a stage mean what the pipelined machine does in it (`Says` of
 //! kp_synth_registers). A read in a stage sees the stages above it by rows (bypass entries), one for each of them that may write its target: so the
@@ -31,7 +31,7 @@ ghost use Rattle.kp_stage.specs.Start.{start_of, IsStartOf};
 ghost use Rattle.kp_net.specs.Names.{IsNamed};
 ghost use Rattle.kp_net.specs.Widths.{Distinct};
 ghost use Rattle.kp_synth_close.specs.Bound as bounds;
-ghost use Rattle.kp_sched.specs.{Shows.Shows, Shows.IsInOrder, Anew.BeginsAnew};
+ghost use Rattle.kp_implements.specs.{Shows.Shows, Shows.IsInOrder, Anew.BeginsAnew};
 ghost use Rattle.kp_synth.specs.Carrying.{Carries};
 
 use crate::bound::enough_nodes;

@@ -3,7 +3,7 @@ use Rattle.std.proofs.Common.{◌≡◌, ℕ, ◌+◌, ◌≤◌, List, [], ◌�
 use Rattle.std.proofs.lemmas.List.{drop-append-le}
 use Rattle.kp_ast.specs.declared.tree.Job.{Job}
 use Rattle.kp_net.specs.{Names.IsNamed, Netlist.Net, Parts.NetOk}
-use Rattle.kp_parse_grammar.specs.Text.{gap_length}
+use Rattle.kp_lex.specs.Text.{gap_length}
 use Rattle.kp_vlog.{specs.Denote.Denotes, proofs.Sound.denoted_named, proofs.Sound.denoted_right, proofs.Round.round_from}
 use Rattle.kp_frontend.specs.Judging.{most_bytes}
 use Rattle.kp_tool.{specs.Written.IsVerilogOf, proofs.Heads.EndsLine, proofs.Heads.ends_after, proofs.Skips.skip_gap}

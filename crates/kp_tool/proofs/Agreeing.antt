@@ -11,8 +11,9 @@ use Rattle.kp_pipeline.proofs.{Counts.counts-passed, Legality.legal}
 use Rattle.kp_machine.specs.Machine.{machine_of, state_of, start_hints, pipe_of, inputs_from, values_in}
 use Rattle.kp_machine.proofs.Sampleless.{same_run}
 use Rattle.kp_net.specs.Netlist.{Net, Input}
-use Rattle.kp_sched.specs.{Runs.passes, Runs.due_value, Runs.ShowsAlike, Naming.module_name, Traces.trace_of, Traces.inputs_seen}
+use Rattle.kp_sched.specs.Runs.{passes, due_value, ShowsAlike}
 use Rattle.kp_sched.proofs.Runs.{alike_is_legal}
+use Rattle.kp_implements.specs.{Naming.module_name, Traces.trace_of, Traces.inputs_seen}
 use Rattle.kp_run.{specs.Cycles.inputs_to, specs.Cycles.own_trace, proofs.Inputs.seen_to, proofs.Inputs.quiet_to}
 use Rattle.kp_watch.specs.{Watching.Agrees, Dumps.own_run}
 use Rattle.kp_equiv.specs.Showing.{ShowsButName}

@@ -7,8 +7,9 @@ use Rattle.kp_ast.specs.declared.tree.Job.{Job}
 use Rattle.kp_pipeline.specs.Rows.{Row}
 use Rattle.kp_machine.specs.{Machine.inputs_from, Slots.targets_of, Words.HasWord, Words.target}
 use Rattle.kp_net.specs.Netlist.{Net}
-use Rattle.kp_sched.specs.{Lines.row_lines, Monitors.Kept, Rows.row_seen, Rows.rows_seen, Runs.due_value, Runs.passes, Traces.trace_of}
+use Rattle.kp_sched.specs.{Lines.row_lines, Monitors.Kept, Rows.row_seen, Rows.rows_seen, Runs.due_value, Runs.passes}
 use Rattle.kp_sched.proofs.Counting.{seen_length}
+use Rattle.kp_implements.specs.Traces.{trace_of}
 use Rattle.kp_run.{specs.Boards.due_behind, specs.Cycles.HasRows, specs.Cycles.own_trace, specs.declared.board.Board.Board, proofs.Prefixes.rows_many}
 use Rattle.kp_run.specs.declared.difference.Difference.{Difference}
 use Rattle.kp_watch.specs.Watching.{own_due, Agrees, IsFirstDifference}

@@ -4,7 +4,8 @@ use Rattle.std.proofs.lemmas.Bool.{cases_lt, cases_eq}
 use Rattle.kp_machine.specs.{Slots.targets_of, Words.HasWord, Words.target}
 use Rattle.kp_ast.specs.declared.tree.Job.{Job}
 use Rattle.kp_net.specs.Netlist.{Net, run}
-use Rattle.kp_sched.{proofs.Counting.seen_length, specs.Traces.trace_of}
+use Rattle.kp_sched.proofs.Counting.{seen_length}
+use Rattle.kp_implements.specs.Traces.{trace_of}
 use Rattle.kp_run.{specs.Cycles.inputs_to, specs.Cycles.own_trace, proofs.Prefixes.rows_many}
 use Rattle.kp_watch.specs.Watching.{own_due, Agrees, IsFirstDifference}
 use Rattle.kp_tool.specs.Watched.{own_text, differing_text, DueOfRun, agrees, differs}

@@ -1,10 +1,11 @@
 -- What the commands on a job show of the text of a processor.
 use Rattle.std.proofs.Common.{◌≡◌, ℕ, List, None, Some, Ok}
 use Rattle.kp_ast.specs.declared.tree.Job.{Job}
-use Rattle.kp_parse_grammar.specs.declared.token.Lexed.{Lexed}
+use Rattle.kp_lex.specs.declared.token.Lexed.{Lexed}
 use Rattle.kp_pipeline.specs.{Pipeline.Inputs, Rows.Trace}
 use Rattle.kp_net.specs.Netlist.{state_after}
-use Rattle.kp_sched.specs.{Naming.value_shown, Traces.trace_of, Anew.trace_from, Anew.left_by_reset, Legal.IsLegalFrom, Legal.value_from, Runs.IsLegal, Runs.due_value}
+use Rattle.kp_sched.specs.Runs.{IsLegal, due_value}
+use Rattle.kp_implements.specs.{Naming.value_shown, Traces.trace_of, Anew.trace_from, Anew.left_by_reset, Legal.IsLegalFrom, Legal.value_from}
 use Rattle.kp_frontend.specs.Judging.{Judges, JudgesHead, IsSentenceOf, broken_in, Judges.within, JudgesText.accepted as no_rule_broken, JudgesHeadText.head_accepted}
 use Rattle.kp_frontend.specs.Judging.JudgesHead.{head_within}
 use Rattle.kp_words.specs.declared.commands.Command.TheVariants.{OnJob, Watch, Debug}

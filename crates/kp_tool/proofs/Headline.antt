@@ -11,10 +11,11 @@ use Rattle.kp_pipeline.proofs.{Legality.legal, Progress.moves, Progress.never-sq
 use Rattle.kp_pipeline.proofs.Sampled.{rows-taking}
 use Rattle.kp_machine.proofs.{Accepting.accepted, Guessless.guessless, Guessless.without_guess}
 use Rattle.kp_machine.specs.{Machine.machine_of, Machine.state_of, Machine.start_hints, Machine.pipe_of, Machine.inputs_from, Words.target}
-use Rattle.kp_sched.specs.{Rows.rows_seen, Runs.due_value, Runs.IsLegal, Runs.ShowsAlike, Legal.IsLegalFrom}
-use Rattle.kp_sched.specs.{Anew.trace_from, Anew.left_by_reset, Anew.HasMemory, Anew.BeginsAnew, Naming.module_name, Naming.value_shown, Naming.value_of}
-use Rattle.kp_sched.specs.{Shows.Shows, Traces.inputs_seen, Traces.trace_of, Traces.no_state}
-use Rattle.kp_sched.proofs.{Runs.alike_is_legal, Runs.alike_moves, Runs.alike_stays, Legal.alike_is_legal_from}
+use Rattle.kp_sched.specs.{Rows.rows_seen, Runs.due_value, Runs.IsLegal, Runs.ShowsAlike}
+use Rattle.kp_sched.proofs.Runs.{alike_is_legal, alike_moves, alike_stays}
+use Rattle.kp_implements.specs.{Legal.IsLegalFrom, Anew.trace_from, Anew.left_by_reset, Anew.HasMemory, Anew.BeginsAnew}
+use Rattle.kp_implements.specs.{Naming.module_name, Naming.value_shown, Naming.value_of, Shows.Shows, Traces.inputs_seen, Traces.trace_of, Traces.no_state}
+use Rattle.kp_implements.proofs.Legal.{alike_is_legal_from}
 use Rattle.kp_frontend.specs.Judging.{Judges, broken_in, JudgesHead, Judges.within, JudgesText.accepted as no_rule_broken, JudgesHeadText.head_accepted}
 use Rattle.kp_frontend.specs.Judging.JudgesHead.{head_within}
 use Rattle.kp_words.specs.declared.commands.JobCommand.TheVariants.{Sim, Vcd, Timing, Pipe}

@@ -2,21 +2,21 @@
 use Rattle.std.proofs.Common.{◌≡◌, ◌∙◌, ◌⊎◌, inl, inr, ℕ, zero, suc, ◌+◌, ◌<◌, ◌≤◌, ◌==◌, ◌&&◌, ◌||◌, Bool, true, false, not, cond, List, [], ◌∷◌, ◌++◌, length, take, drop, Result, Ok, Err, Some, None, refl, sym, ap, ap₂, subst, arith, append_assoc}
 use Rattle.std.proofs.lemmas.{Bool.cases_lt, Bool.ltb-true, Bool.ltb-false, Bool.lt-ltb, List.take-append-le, List.drop-append-le, List.length-drop}
 use Rattle.std.specs.{Prelude.nat_lt, Prelude.⊤, Prelude.All, declared.option.Option.Option}
-use Rattle.kp_base.specs.Grammar.{Grammar, Symbol, Terminal, Nonterminal, Action, Derives, stay, expand, read, build, Has, here, there, alternatives}
 use Rattle.kp_base.specs.{Characters.is_digit, Characters.is_letter, Characters.is_word, Characters.run_length, Place.place_after}
 use Rattle.kp_base.specs.declared.refusal.Refusal.{Refusal}
+use Rattle.kp_grammar.specs.Grammar.{Grammar, Symbol, Terminal, Nonterminal, Action, Derives, stay, expand, read, build, Has, here, there, alternatives}
 use Rattle.kp_ast.specs.declared.tree.Job.{Job}
-use Rattle.kp_parse_grammar.specs.Text.{is_layout, gap_length, is_in_run, run_of, keyword_or_name, identifier, literal_or_broken, number_or_literal, number_run, mark_or_broken, mark, mark_or_shorter, token_of, front_of, token_at, is_end, Lexes, finish, skip, token, last, broken, tail_of, StandsIn}
+use Rattle.kp_lex.specs.Text.{is_layout, gap_length, is_in_run, run_of, keyword_or_name, identifier, literal_or_broken, number_or_literal, number_run, mark_or_broken, mark, mark_or_shorter, token_of, front_of, token_at, is_end, Lexes, finish, skip, token, last, broken, tail_of, StandsIn}
+use Rattle.kp_lex.specs.declared.{front.Front.Front, token.Keyword.Keyword, token.TokenKind.TokenKind, token.Token.Token, token.Lexed.Lexed, token.Mark.Mark}
+use Rattle.kp_lex.specs.Words.{keyword_of, single_mark, double_mark}
+use Rattle.kp_lex.proofs.{Fits.Fits, Fits.fits_front, Fits.gap_within, Fits.token_fits, Stands.tokens_stand}
 use Rattle.kp_parse_grammar.specs.Language.{dropped as drops, State, Sym, NAME, NUM, no_decls, no_blocks, one_block, make_job, word, mark as mark_symbol, JOB, DECLS, STAGE, STAGES, IMAGE, STALLS, INPUTS, rules, language, at, job as job_value}
-use Rattle.kp_parse_grammar.specs.declared.{front.Front.Front, token.Keyword.Keyword, token.TokenKind.TokenKind, token.Token.Token, token.Lexed.Lexed}
-use Rattle.kp_parse_grammar.specs.{declared.token.Mark.Mark, Words.keyword_of, Words.single_mark, Words.double_mark}
 use Rattle.kp_parse_grammar.specs.Tokens.{Lexeme, lexemes, spelled, kind_class, keyword_class, mark_class}
-use Rattle.kp_parse_grammar.proofs.{Fits.Fits, Fits.fits_front, Fits.gap_within, Fits.token_fits, Stands.tokens_stand}
-use Rattle.kp_parse_grammar.specs.declared.front.Front.TheVariants as fronts
-use Rattle.kp_parse_grammar.specs.declared.token.Keyword.TheVariants as keywords
-use Rattle.kp_parse_grammar.specs.declared.token.TokenKind.TheVariants as kinds
+use Rattle.kp_lex.specs.declared.front.Front.TheVariants as fronts
+use Rattle.kp_lex.specs.declared.token.Keyword.TheVariants as keywords
+use Rattle.kp_lex.specs.declared.token.TokenKind.TheVariants as kinds
 use Rattle.kp_bits.specs.{Literals.number_of, Literals.literal_of, declared.literal.Literal.Literal, declared.literal.LiteralFault.LiteralFault}
-use Rattle.kp_parse_grammar.specs.declared.token.Mark.TheVariants as marks
+use Rattle.kp_lex.specs.declared.token.Mark.TheVariants as marks
 use Rattle.kp_frontend.specs.Judging.{JudgesText, JudgesHeadText, JudgesText.accepted, JudgesHeadText.head_accepted}
 
 -- the last byte of b followed by a text is a line feed

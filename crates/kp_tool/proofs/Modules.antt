@@ -6,7 +6,7 @@ use Rattle.kp_base.specs.declared.refusal.Refused.TheVariants as refused
 use Rattle.kp_ast.specs.declared.tree.Job.{Job}
 use Rattle.kp_vread.specs.Matching.{IsRefused}
 use Rattle.kp_net.specs.{Names.IsNamed, Netlist.Net}
-use Rattle.kp_sched.specs.Shows.{HasOutputs, IsOfJob}
+use Rattle.kp_implements.specs.Shows.{HasOutputs, IsOfJob}
 use Rattle.kp_vlog.{specs.Verdict.AnswersNet, proofs.Sound.denoted_named}
 use Rattle.kp_tool.specs.{Watched.wrong_netlist, Compared.ReadsModule, Compared.misread, Compared.not_jobs, Compared.jobs, Ends.Ends, inner.Failures.misread_of}
 use Rattle.kp_tool.specs.{inner.Modules.RefusesModule, inner.Modules.MisreadsModule, declared.failure.Failure.Failure}

@@ -18,7 +18,7 @@ use Rattle.kp_watch.specs.Dumps.{vcd_text}
 use Rattle.kp_net.specs.Netlist.{Net}
 use Rattle.kp_vlog.{specs.Canon.canon, specs.Rules.Fault, specs.Verdict.refusal_of, proofs.Unique.one_net, proofs.Unique.one_rule, proofs.Unique.no_rule}
 use Rattle.kp_vlog.{specs.Splitting.FirstEnds, proofs.Ends.one_end, proofs.Ends.some_end}
-use Rattle.kp_sched.specs.Shows.{IsOfJob}
+use Rattle.kp_implements.specs.Shows.{IsOfJob}
 use Rattle.kp_equiv.specs.{Verdicts.IsVerdict, Texts.verdict_line}
 use Rattle.kp_equiv.proofs.Deciding.{one_verdict as one_comparison, some_verdict as some_comparison}
 use Rattle.kp_timing.specs.{Unfit.untimed, Lines.timing_text}

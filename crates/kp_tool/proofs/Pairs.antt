@@ -3,7 +3,7 @@ use Rattle.std.proofs.Common.{◌≤◌, ℕ, List, take, drop, length, Ok, leng
 use Rattle.std.proofs.lemmas.List.{length-take}
 use Rattle.kp_ast.specs.declared.tree.Job.{Job}
 use Rattle.kp_net.specs.{Netlist.Net, Parts.NetOk}
-use Rattle.kp_sched.specs.Shows.{IsOfJob}
+use Rattle.kp_implements.specs.Shows.{IsOfJob}
 use Rattle.kp_vlog.proofs.Sound.{denoted_named, denoted_right}
 use Rattle.kp_equiv.{specs.Verdicts.IsComparable, proofs.Jobs.comparable}
 use Rattle.kp_tool.specs.Read.{ReadsVerilog}

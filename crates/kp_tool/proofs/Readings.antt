@@ -1,9 +1,10 @@
 -- A Verilog text has a verdict: a netlist, or a violated rule.
 use Rattle.std.proofs.Common.{ℕ, zero, suc, ◌≡◌, ◌==◌, ◌⊎◌, inl, inr, ◌+◌, ◌-◌, ◌<◌, ◌≤◌, List, [], ◌∷◌, length, drop, Bool, true, false, cond, Result, Ok, Err, Some, None, refl, sym, subst, arith}
 use Rattle.std.{proofs.lemmas.List.length-drop, specs.declared.option.Option.Option}
-use Rattle.kp_base.specs.GrammarMachine.{Outcome, Accepts, Stops, Exceeds, Leads, accept, more, goes, take, make, wrong, lost, exceed}
-use Rattle.kp_base.{specs.declared.refusal.Refusal.Refusal, specs.Grammar.Nonterminal, specs.Ranks.ranks_fit, proofs.TableTests.decides, proofs.Ends.ends}
-use Rattle.kp_base.proofs.Derivations.{sentence, wrong_at}
+use Rattle.kp_base.specs.declared.refusal.Refusal.{Refusal}
+use Rattle.kp_grammar.specs.Machine.{Outcome, Accepts, Stops, Exceeds, Leads, accept, more, goes, take, make, wrong, lost, exceed}
+use Rattle.kp_grammar.specs.{Grammar.Nonterminal, Ranks.ranks_fit}
+use Rattle.kp_grammar.proofs.{TableTests.decides, Ends.ends, Derivations.sentence, Derivations.wrong_at}
 use Rattle.kp_net.specs.Netlist.{Net}
 use Rattle.kp_vlog.specs.declared.{front.Front.Front, tree.VModule.VModule}
 use Rattle.kp_vlog.specs.Tokens.{Token, Lexes, at_end, past, token, LexesTo, here, past_gap, past_token}

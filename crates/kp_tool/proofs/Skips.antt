@@ -2,7 +2,7 @@
 use Rattle.std.proofs.Common.{◌≡◌, ◌∙◌, ℕ, zero, suc, ◌+◌, ◌<◌, ◌==◌, ◌&&◌, Bool, true, false, not, cond, List, [], ◌∷◌, ◌++◌, length, drop, refl, sym, ap, subst, arith}
 use Rattle.std.proofs.lemmas.Bool.{eqb-true, and_parts, or_left}
 use Rattle.kp_base.specs.Characters.{run_length}
-use Rattle.kp_parse_grammar.specs.Text.{is_layout, gap_length}
+use Rattle.kp_lex.specs.Text.{is_layout, gap_length}
 use Rattle.kp_vlog.specs.Tokens.{Token, is_in_line, front, skips, Lexes, past}
 use Rattle.kp_vlog.proofs.Tests.{when_true}
 use Rattle.kp_vlog.specs.Tokens as verilog

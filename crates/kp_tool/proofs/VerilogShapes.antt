@@ -5,9 +5,9 @@ use Rattle.kp_vlog.specs.declared.tree.{Named.Named, Num.Num, Lit.Lit, Range.Ran
 use Rattle.kp_vlog.specs.{declared.tree.ResetList.ResetList, declared.tree.Update.Update, declared.tree.VModule.VModule, Tokens.Token}
 use Rattle.kp_vlog.specs.Language.{Value, Way, Step, Sym, verilog, rules, read_token, built}
 use Rattle.kp_vlog.specs.inner.Follow.{tables}
-use Rattle.kp_base.specs.Grammar.{Terminal, Nonterminal, Action, alternatives, Has, here, there}
-use Rattle.kp_base.specs.GrammarMachine.{Outcome, Accepts, Leads, accept, more, goes, take, make, wrong, lost, exceed}
-use Rattle.kp_base.proofs.TableTests.{picks_rule}
+use Rattle.kp_grammar.specs.Grammar.{Terminal, Nonterminal, Action, alternatives, Has, here, there}
+use Rattle.kp_grammar.specs.Machine.{Outcome, Accepts, Leads, accept, more, goes, take, make, wrong, lost, exceed}
+use Rattle.kp_grammar.proofs.TableTests.{picks_rule}
 use Rattle.kp_vlog.specs.Language as l
 
 -- the kinds of values

@@ -2,8 +2,8 @@
 use Rattle.std.proofs.Common.{◌≡◌, ℕ, ◌≤◌, List, ◌++◌, length, None, Some, Ok, refl, sym}
 use Rattle.kp_ast.specs.declared.tree.Job.{Job}
 use Rattle.kp_net.specs.Netlist.{Net}
-use Rattle.kp_parse_grammar.specs.Text.{tail_of}
-use Rattle.kp_sched.specs.Shows.{IsOfJob}
+use Rattle.kp_lex.specs.Text.{tail_of}
+use Rattle.kp_implements.specs.Shows.{IsOfJob}
 use Rattle.kp_watch.specs.Watching.{Agrees}
 use Rattle.kp_equiv.specs.Showing.{ShowsButName}
 use Rattle.kp_frontend.specs.Judging.{JudgesText, JudgesHead, JudgesHeadText, broken_in, most_bytes, JudgesHead.head_within}

@@ -5,7 +5,8 @@ use Rattle.kp_ast.specs.declared.tree.Job.{Job}
 use Rattle.kp_stage.specs.{Counts.summary_of, Start.input as samples_at}
 use Rattle.kp_machine.specs.Machine.{machine_of, sequential, values_in}
 use Rattle.kp_net.specs.Netlist.{Net}
-use Rattle.kp_sched.specs.{Runs.passes, Shows.IsOfJob}
+use Rattle.kp_sched.specs.Runs.{passes}
+use Rattle.kp_implements.specs.Shows.{IsOfJob}
 use Rattle.kp_equiv.specs.Showing.{ShowsButName}
 use Rattle.kp_words.specs.declared.commands.{Command.TheVariants.OnJob, Command.TheVariants.Read, Command.TheVariants.Watch, JobCommand.JobCommand}
 use Rattle.kp_words.specs.declared.commands.JobCommand.TheVariants.{Seq, Sim}

@@ -3,7 +3,7 @@ use Rattle.std.specs.Prelude.{ℕ, List, take, drop, Ok, Err, Result}
 use Rattle.kp_base.specs.declared.refusal.Refusal.{Refusal}
 use Rattle.kp_ast.specs.declared.tree.Job.{Job}
 use Rattle.kp_net.specs.Netlist.{Net}
-use Rattle.kp_sched.specs.Shows.{IsOfJob}
+use Rattle.kp_implements.specs.Shows.{IsOfJob}
 use Rattle.kp_vlog.specs.Splitting.{FirstEnds}
 use Rattle.kp_equiv.specs.declared.verdict.Verdict.{Verdict, TheVariants.Same, TheVariants.Differs}
 use Rattle.kp_equiv.specs.{Verdicts.IsVerdict, Texts.verdict_line}

@@ -12,8 +12,9 @@ use Rattle.kp_pipeline.specs.SpeculativeTimeline.{timeline_rows as path_rows, ti
 use Rattle.kp_pipeline.specs.RightPath.{NoWrongGuess, WaitsOnlyWhereItMust, first_moment}
 use Rattle.kp_machine.specs.Machine.{machine_of, state_of, start_hints, pipe_of, inputs_from}
 use Rattle.kp_net.specs.Netlist.{Net, Input, State, state_after, last_of}
-use Rattle.kp_sched.specs.{Runs.due_value, Naming.module_name, Naming.value_shown, Traces.trace_of, Traces.inputs_seen, Traces.AreQuiet}
-use Rattle.kp_sched.specs.{Shows.IsOfJob, Shows.HasOutputs, Anew.trace_from, Anew.left_by_reset, Anew.HasMemory, Anew.BeginsAnew}
+use Rattle.kp_sched.specs.Runs.{due_value}
+use Rattle.kp_implements.specs.{Naming.module_name, Naming.value_shown, Traces.trace_of, Traces.inputs_seen, Traces.AreQuiet, Shows.IsOfJob, Shows.HasOutputs}
+use Rattle.kp_implements.specs.Anew.{trace_from, left_by_reset, HasMemory, BeginsAnew}
 use Rattle.kp_vlog.specs.{Denote.Denotes, Splitting.FirstEnds}
 use Rattle.kp_equiv.specs.{declared.verdict.Verdict.TheVariants.Same, declared.verdict.Verdict.TheVariants.Differs, Agreement.IsFirstDifference, Runs.RunAlike, Showing.renamed, Showing.ShowsButName, Texts.verdict_line}
 use Rattle.kp_frontend.specs.Judging.{Judges, JudgesHead, broken_in}

@@ -4,7 +4,8 @@ use Rattle.kp_base.specs.{Refusal.v_rule, declared.refusal.Refusal.Refusal}
 use Rattle.kp_bits.specs.Word.{word}
 use Rattle.kp_ast.specs.declared.tree.Job.{Job}
 use Rattle.kp_net.specs.Netlist.{Net}
-use Rattle.kp_sched.specs.{Lines.row_lines, Shows.IsOfJob}
+use Rattle.kp_sched.specs.Lines.{row_lines}
+use Rattle.kp_implements.specs.Shows.{IsOfJob}
 use Rattle.kp_machine.specs.Words.{target}
 use Rattle.kp_frontend.specs.Judging.{JudgesHead}
 use Rattle.kp_watch.specs.Watching.{own_due, Agrees, IsFirstDifference}

@@ -5,7 +5,7 @@ use Rattle.kp_stage.specs.{declared.counts.Summary.Summary, Counts.summary_of}
 use Rattle.kp_synth_tables.specs.Keys.{keys_of}
 use Rattle.kp_net.specs.{Netlist.Net, Widths.Distinct}
 use Rattle.kp_vlog.specs.{Canon.canon, Denote.Denotes}
-use Rattle.kp_sched.specs.{Shows.Shows, Shows.IsInOrder, Anew.BeginsAnew}
+use Rattle.kp_implements.specs.{Shows.Shows, Shows.IsInOrder, Anew.BeginsAnew}
 
 -- The most nodes that the netlist of a job has, by the numbers of its machine: those of its expressions, and a few for each stage and entry of
 -- its tables.

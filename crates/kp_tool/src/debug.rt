@@ -1,7 +1,7 @@
 // `debug`: the pipelined machine of a job, stepped through by the commands of a script.
 ghost use Rattle.std.specs.Prelude.{◌≤◌, length, IfOk, Ok, Some};
 ghost use Rattle.kp_base.specs.Check.{Gives};
-ghost use Rattle.kp_sched.specs.Shows.{Shows};
+ghost use Rattle.kp_implements.specs.Shows.{Shows};
 ghost use Rattle.kp_debug_report.specs.Scripts.{script_of};
 ghost use Rattle.kp_words.specs.declared.commands.Command.TheVariants.{Debug};
 ghost use Rattle.kp_debug_report.specs.Inspecting.{printed, whole_run, AreOfJob};

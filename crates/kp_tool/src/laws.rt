@@ -1,7 +1,8 @@
 //! Laws about the definitions of this crate. Each function does nothing: its contract is the law.
 ghost use Rattle.std.specs.Prelude.{◌≡◌, ℕ, List, Some};
 ghost use Rattle.kp_base.specs.declared.refusal.Refusal.{Refusal};
-ghost use Rattle.kp_sched.specs.{Runs.IsLegal, Legal.IsLegalFrom};
+ghost use Rattle.kp_sched.specs.Runs.{IsLegal};
+ghost use Rattle.kp_implements.specs.Legal.{IsLegalFrom};
 ghost use Rattle.kp_words.specs.{declared.commands.Command.Command, Commands.command_of};
 ghost use Rattle.kp_words.specs.declared.commands.Command.TheVariants.{OnJob, Watch, Compare, Debug, Generate};
 ghost use Rattle.kp_words.specs.declared.commands.JobCommand.TheVariants.{Check, Sim, Vcd, Timing, Pipe};

@@ -31,7 +31,8 @@ ghost use Rattle.std.specs.Prelude.{◌≡◌, ◌≢◌, ◌++◌, map, string_
 ghost use Rattle.kp_base.specs.Causes.{Rose};
 ghost use Rattle.kp_base.specs.Refusal.{e_rule};
 ghost use Rattle.kp_base.specs.declared.refusal.Refusal.{Refusal};
-ghost use Rattle.kp_sched.specs.{Runs.IsLegal, Legal.IsLegalFrom};
+ghost use Rattle.kp_sched.specs.Runs.{IsLegal};
+ghost use Rattle.kp_implements.specs.Legal.{IsLegalFrom};
 ghost use Rattle.kp_words.specs.{Commands.command_of, Commands.reads_input, declared.commands.Command.Command};
 ghost use Rattle.kp_words.specs.declared.commands.Command.TheVariants.{OnJob, Watch, Compare, Debug, Generate};
 ghost use Rattle.kp_words.specs.declared.commands.JobCommand.TheVariants.{Check, Sim, Vcd, Timing, Pipe};

@@ -4,7 +4,7 @@ ghost use Rattle.std.proofs.Props.{props};
 ghost use Rattle.kp_base.specs.Bytes.{Writes};
 ghost use Rattle.kp_base.specs.Causes.{HasCause};
 ghost use Rattle.kp_machine.specs.Slots.{targets_of};
-ghost use Rattle.kp_sched.specs.Shows.{HasOutputs, IsOfJob};
+ghost use Rattle.kp_implements.specs.Shows.{HasOutputs, IsOfJob};
 ghost use Rattle.kp_words.specs.declared.commands.Command.TheVariants.{Watch};
 ghost use Rattle.kp_tool.specs.{Due.DueFor, Watched.DueOfHead, Watched.DueOfRun, Ends.Ends, Watching.status_by, Watching.text_by};
 

@@ -10,7 +10,8 @@ use Rattle.kp_view_words.specs.Texts.{help_text, usage_text, version_text}
 use Rattle.kp_pipeline.specs.Rows.{Row}
 use Rattle.kp_diagram_text.specs.{Charts.are_names, Figures.Figure, Text.diagram_text}
 use Rattle.kp_diagram_svg.specs.Picture.{picture}
-use Rattle.kp_stalls_run.specs.{Figures.job_figure, Figures.job_rows, FigureClaims.ShowsRun, Claims.ShowCauses, Runs.job_stalls}
+use Rattle.kp_diagram_run.specs.{Figures.job_figure, Figures.job_rows, FigureClaims.ShowsRun}
+use Rattle.kp_stalls_run.specs.{Claims.ShowCauses, Runs.job_stalls}
 use Rattle.kp_machine.specs.Machine.{inputs_from, pipe_of}
 use Rattle.kp_page.specs.{Claims.listed_last, States.states_text, Page.page as page_text}
 use Rattle.kp_paths.specs.{Claims.ArePaths, Text.paths_text, ArrowClaims.ShowsCells, Picture.paths_svg_text}

@@ -8,9 +8,9 @@ ghost use Rattle.kp_view.specs.Ends.{Ends};
 
 use crate::failure::Failure;
 use kp_base::Sink;
+use kp_diagram_run::{chart_of, run_job};
 use kp_diagram_text::write_text;
 use kp_frontend::Accepted;
-use kp_stalls_run::{chart_of, run_job};
 use kp_view_words::Run;
 use std::alloc::Global;
 

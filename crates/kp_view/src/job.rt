@@ -12,11 +12,12 @@ use crate::paths_svg::paths_svg;
 use crate::stalls::stalls;
 use crate::svg::svg;
 use kp_base::Sink;
+use kp_diagram_run::laws::a_figure_shows_the_run;
 use kp_diagram_text::are_names;
 use kp_frontend::{Accepted, judge};
 use kp_page::laws::listed_words_give_the_states;
 use kp_paths::laws::{the_arrows_are_the_cells, the_cells_are_the_paths};
-use kp_stalls_run::laws::{a_figure_shows_the_run, the_lines_show_causes};
+use kp_stalls_run::laws::the_lines_show_causes;
 use kp_view_words::{Order, Task};
 use std::alloc::Global;
 

@@ -4,13 +4,14 @@ use Rattle.std.proofs.{Math.ListN.replicate, lemmas.List.Folds.find_at, lemmas.B
 use Rattle.std.proofs.lemmas.Option.{get_or_from_slice_get, slice_get-get_or, slice_get_within}
 use Rattle.std.proofs.lemmas.List.{get_or-set_same, get_or-set_other, get_or_past, length-set, map-append, Elements.All-get_or, Elements.All-replicate}
 use Rattle.std.specs.{Prelude.find, Prelude.slice_get, Prelude.◌↔◌, List.position_or_len}
-use Rattle.kp_base.{specs.declared.place.Place.Place, specs.Grammar.Nonterminal, proofs.Derivations.is_accepted, proofs.Derivations.no_limit}
-use Rattle.kp_base.proofs.Prefix.{after}
-use Rattle.kp_parse_grammar.specs.declared.token.Keyword.TheVariants as keywords
-use Rattle.kp_parse_grammar.specs.declared.token.Mark.TheVariants as marks
-use Rattle.kp_parse_grammar.specs.{declared.token.TokenKind.TokenKind, declared.token.Token.Token, Tokens.Lexeme, Tokens.lexemes, Language.JOB, Language.at}
-use Rattle.kp_parse_grammar.specs.inner.Follow.{tables}
-use Rattle.kp_parse_grammar.specs.declared.token.TokenKind.TheVariants as kinds
+use Rattle.kp_base.specs.declared.place.Place.{Place}
+use Rattle.kp_grammar.specs.Grammar.{Nonterminal}
+use Rattle.kp_grammar.proofs.{Derivations.is_accepted, Derivations.no_limit, Prefix.after}
+use Rattle.kp_lex.specs.declared.token.Keyword.TheVariants as keywords
+use Rattle.kp_lex.specs.declared.token.Mark.TheVariants as marks
+use Rattle.kp_lex.specs.declared.token.{TokenKind.TokenKind, Token.Token}
+use Rattle.kp_parse_grammar.specs.{Tokens.Lexeme, Tokens.lexemes, Language.JOB, Language.at, inner.Follow.tables}
+use Rattle.kp_lex.specs.declared.token.TokenKind.TheVariants as kinds
 use Rattle.kp_view_expected.specs.declared.{token_class.TokenClass.TokenClass, set.Expected.Expected}
 use Rattle.kp_view_expected.specs.GoesOn.{class_of, GoesOn, all_classes, Lists}
 use Rattle.kp_view_expected.specs.inner.Plain.{Plain, number, plain, Steps, Runs, IsAnswer, Follows, Fails, IsListing}

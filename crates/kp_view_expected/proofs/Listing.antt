@@ -4,8 +4,8 @@ use Rattle.std.specs.Str.{IsUtf8}
 use Rattle.std.proofs.Common.{refl, sym, ap, subst, ◌∙◌, append_assoc, get_or, inl, inr, arith, rules}
 use Rattle.std.proofs.{Math.Seq.drop-cons, lemmas.List.at_drop_all, lemmas.Bool.Decides.eqb_tells, lemmas.Str.IsUtf8-from_ascii}
 use Rattle.std.proofs.lemmas.Str.Ascii.{IsAscii-from_all}
-use Rattle.kp_parse_grammar.specs.{Words.spelling, declared.token.Keyword.Keyword}
-use Rattle.kp_parse_grammar.specs.declared.token.Keyword.TheVariants as keywords
+use Rattle.kp_lex.specs.{Words.spelling, declared.token.Keyword.Keyword}
+use Rattle.kp_lex.specs.declared.token.Keyword.TheVariants as keywords
 use Rattle.kp_view_expected.specs.{declared.token_class.TokenClass.TokenClass, declared.display.Group.Group, declared.display.Thing.Thing, GoesOn.all_classes}
 use Rattle.kp_view_expected.specs.declared.set.Expected.{Expected}
 use Rattle.kp_view_expected.specs.Texts.{all_of, has_all, in_group, thing_of, things, before_these, separator, joined, thing_text}

@@ -3,10 +3,11 @@ use Rattle.std.proofs.Common.{ℕ, ◌≡◌, ◌==◌, List, [], ◌∷◌, ◌
 use Rattle.std.{specs.Prelude.⊤, specs.Prelude.slice_get, specs.Prelude.option_map, proofs.lemmas.Bool.eqb-true}
 use Rattle.std.proofs.lemmas.Option.{get_or_from_slice_get, slice_get-get_or, slice_get-map, slice_get_within}
 use Rattle.std.proofs.lemmas.List.{drop_all, drop_more, length-map, map-append, reverse-append, reverse-reverse}
-use Rattle.kp_base.specs.Grammar.{Terminal, Nonterminal, Has, here, there, alternatives, stay, expand, read}
-use Rattle.kp_base.specs.{Tables.among, Tables.firsts, Tables.pick, GrammarMachine.goes, GrammarMachine.take}
-use Rattle.kp_base.proofs.{TableTests.picks_rule, Prefix.after}
-use Rattle.kp_parse_grammar.specs.{declared.token.Token.Token, inner.Follow.tables}
+use Rattle.kp_grammar.specs.Grammar.{Terminal, Nonterminal, Has, here, there, alternatives, stay, expand, read}
+use Rattle.kp_grammar.specs.{Tables.among, Tables.firsts, Tables.pick, Machine.goes, Machine.take}
+use Rattle.kp_grammar.proofs.{TableTests.picks_rule, Prefix.after}
+use Rattle.kp_lex.specs.declared.token.Token.{Token}
+use Rattle.kp_parse_grammar.specs.inner.Follow.{tables}
 use Rattle.kp_view_expected.specs.inner.Plain.{Plain, is_solid, name, number, plain, plain_symbol, stack, Runs, Opens, Refuses, Decides, IsAnswer, Follows}
 use Rattle.kp_view_expected.specs.declared.{token_class.TokenClass.TokenClass, part.Part.Part, part.Symbol.Symbol as CodeSymbol}
 use Rattle.kp_view_expected.{specs.GoesOn.class_of, proofs.Tests.choose_or, proofs.Tests.chosen, proofs.Tests.lighter, proofs.Tests.solid, proofs.Tests.work}

@@ -1,7 +1,7 @@
 -- A class is in a set exactly where the list for the set names it.
 use Rattle.std.specs.Prelude.{ℕ, zero, suc, ◌≡◌, ◌↔◌, List, [], ◌∷◌, length, slice_get, Bool, true, false, not, ◌&&◌, if◌then◌else◌, Option, Some, None}
 use Rattle.std.proofs.{Common.refl, Common.sym, Common.ap, Common.subst, Common.◌∙◌, Common.arith, lemmas.Bool.and_parts}
-use Rattle.kp_parse_grammar.specs.declared.token.Mark.TheVariants as marks
+use Rattle.kp_lex.specs.declared.token.Mark.TheVariants as marks
 use Rattle.kp_view_expected.specs.declared.{token_class.TokenClass.TokenClass, set.Expected.Expected, display.Group.Group, display.Thing.Thing}
 use Rattle.kp_view_expected.specs.GoesOn.{all_classes, Lists}
 use Rattle.kp_view_expected.specs.Texts.{in_group, is_last, all_of, has_all, group_of, thing_of, things, before_these, Names, IsNamed}

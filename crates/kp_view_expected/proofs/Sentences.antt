@@ -1,8 +1,9 @@
 -- Each list of symbols has a sentence.
 use Rattle.std.proofs.Common.{ℕ, zero, suc, ◌≡◌, ◌==◌, List, [], ◌∷◌, ◌++◌, map, Bool, true, false, ◌&&◌, Option, Some, None, refl, ap, subst}
 use Rattle.std.{specs.Prelude.⊤, specs.Prelude.find, proofs.lemmas.Bool.and_parts, proofs.lemmas.Bool.eqb-true, proofs.lemmas.List.append_assoc}
-use Rattle.kp_base.specs.Grammar.{Terminal, Nonterminal, Action, alternatives, stay, expand, read, build}
-use Rattle.kp_base.{specs.Tables.choose, specs.Tables.pick, proofs.TableTests.picks_rule}
+use Rattle.kp_grammar.specs.Grammar.{Terminal, Nonterminal, Action, alternatives, stay, expand, read, build}
+use Rattle.kp_grammar.specs.Tables.{choose, pick}
+use Rattle.kp_grammar.proofs.TableTests.{picks_rule}
 use Rattle.kp_parse_grammar.specs.{Tokens.LITERAL, inner.Follow.tables}
 use Rattle.kp_view_expected.specs.declared.{token_class.TokenClass.TokenClass, part.Part.Part, part.Symbol.Symbol as CodeSymbol}
 use Rattle.kp_view_expected.specs.GoesOn.{all_classes}

@@ -1,9 +1,9 @@
 -- What holds of each alternative of the grammar, by computation.
 use Rattle.std.proofs.Common.{ℕ, suc, ◌≡◌, ◌==◌, ◌≤◌, ◌<◌, ◌+◌, List, [], ◌∷◌, ◌++◌, Bool, true, false, not, cond, ◌||◌, ◌&&◌, Option, Some, refl, subst, arith}
 use Rattle.std.{proofs.lemmas.Bool.and_parts, proofs.lemmas.Bool.eqb-true, proofs.lemmas.Bool.ltb-true, specs.Prelude.nat_lt}
-use Rattle.kp_base.specs.Grammar.{Terminal, Nonterminal, Action, alternatives, Has, here, there}
-use Rattle.kp_base.specs.Tables.{among, empty_of, firsts, vanishes, choose, pick, IsPredictive}
-use Rattle.kp_base.proofs.TableTests.{picks_rule}
+use Rattle.kp_grammar.specs.Grammar.{Terminal, Nonterminal, Action, alternatives, Has, here, there}
+use Rattle.kp_grammar.specs.Tables.{among, empty_of, firsts, vanishes, choose, pick, IsPredictive}
+use Rattle.kp_grammar.proofs.TableTests.{picks_rule}
 use Rattle.kp_parse_grammar.{specs.Language.JOB, specs.inner.Follow.tables, proofs.Ranked.rank}
 use Rattle.kp_view_expected.specs.inner.Plain.{Plain, plain, is_solid}
 

@@ -1,10 +1,11 @@
 -- A sentence of the grammar is one of the grammar without what it builds, and the other way round.
 use Rattle.std.proofs.Common.{ℕ, ◌≡◌, ◌==◌, List, [], ◌∷◌, ◌++◌, map, Bool, true, false, cond, refl, sym, ap, ◌∙◌, subst}
 use Rattle.std.specs.Prelude.{⊤}
-use Rattle.kp_base.specs.Grammar.{Terminal, Nonterminal, Action, Rules, alternatives, Has, here, there, Derives, stay, expand, read, build}
-use Rattle.kp_parse_grammar.specs.{declared.token.TokenKind.TokenKind, Tokens.Lexeme, Tokens.kind_class}
+use Rattle.kp_grammar.specs.Grammar.{Terminal, Nonterminal, Action, Rules, alternatives, Has, here, there, Derives, stay, expand, read, build}
+use Rattle.kp_lex.specs.declared.token.TokenKind.{TokenKind}
+use Rattle.kp_parse_grammar.specs.Tokens.{Lexeme, kind_class}
 use Rattle.kp_parse_grammar.specs.Language.{Sym, State, Way, Step, language, rules}
-use Rattle.kp_parse_grammar.specs.declared.token.TokenKind.TheVariants as kinds
+use Rattle.kp_lex.specs.declared.token.TokenKind.TheVariants as kinds
 use Rattle.kp_view_expected.specs.{declared.token_class.TokenClass.TokenClass, GoesOn.class_of}
 use Rattle.kp_view_expected.specs.inner.Plain.{Plain, number, stripped, stripped_rules, plain, Steps}
 

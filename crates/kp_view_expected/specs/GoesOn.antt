@@ -1,10 +1,10 @@
 -- The tokens with which some description goes on.
 use Rattle.std.specs.Prelude.{ℕ, ◌≡◌, List, [], ◌∷◌, ◌++◌, map, slice_get, Some, true}
-use Rattle.kp_base.specs.Grammar.{IsSentence}
-use Rattle.kp_parse_grammar.specs.{Words.all_keywords, declared.token.TokenKind.TokenKind, Tokens.Lexeme}
-use Rattle.kp_parse_grammar.specs.Language.{State, language, JOB, at}
-use Rattle.kp_parse_grammar.specs.declared.token.TokenKind.TheVariants as kinds
-use Rattle.kp_parse_grammar.specs.declared.token.Mark.TheVariants as marks
+use Rattle.kp_grammar.specs.Grammar.{IsSentence}
+use Rattle.kp_lex.specs.{Words.all_keywords, declared.token.TokenKind.TokenKind}
+use Rattle.kp_parse_grammar.specs.{Tokens.Lexeme, Language.State, Language.language, Language.JOB, Language.at}
+use Rattle.kp_lex.specs.declared.token.TokenKind.TheVariants as kinds
+use Rattle.kp_lex.specs.declared.token.Mark.TheVariants as marks
 use Rattle.kp_view_expected.specs.declared.{token_class.TokenClass.TokenClass, set.Expected.Expected}
 use Rattle.kp_view_expected.specs.declared.token_class.TokenClass.TheVariants as classes
 

@@ -3,9 +3,9 @@
 -- Each class of the set is listed by itself, in the order of messages. But a group whose classes are all in the set is listed as one thing, in the place of
 -- the last one of them.
 use Rattle.std.specs.Prelude.{ℕ, ◌≡◌, slice_get, List, [], ◌∷◌, ◌++◌, Bool, true, false, ◌&&◌, ◌||◌, not, if◌then◌else◌, Option, Some, None, codes}
-use Rattle.kp_parse_grammar.specs.{Words.spelling, declared.token.Mark.Mark}
-use Rattle.kp_parse_grammar.specs.declared.token.Keyword.TheVariants as keywords
-use Rattle.kp_parse_grammar.specs.declared.token.Mark.TheVariants as marks
+use Rattle.kp_lex.specs.{Words.spelling, declared.token.Mark.Mark}
+use Rattle.kp_lex.specs.declared.token.Keyword.TheVariants as keywords
+use Rattle.kp_lex.specs.declared.token.Mark.TheVariants as marks
 use Rattle.kp_view_expected.specs.declared.{token_class.TokenClass.TokenClass, set.Expected.Expected, display.Group.Group, display.Thing.Thing}
 use Rattle.kp_view_expected.specs.GoesOn.{all_classes}
 use Rattle.kp_view_expected.specs.declared.token_class.TokenClass.TheVariants as classes

@@ -4,7 +4,7 @@ ghost use Rattle.kp_view_expected.specs.Texts.{begins_expression, class_text, ex
 
 use crate::set::Expected;
 use crate::token_class::TokenClass;
-use kp_parse_grammar::{Keyword, Mark};
+use kp_lex::{Keyword, Mark};
 use std::fmt;
 use std::str::from_utf8;
 

@@ -8,7 +8,7 @@ use crate::rest::Rest;
 use crate::set::Expected;
 use crate::token_class::TokenClass;
 use kp_base::NoMemory;
-use kp_parse_grammar::Token;
+use kp_lex::Token;
 use std::alloc::Global;
 
 /// The classes of tokens with which some description goes on after these tokens of a text: none, where no description begins with them.

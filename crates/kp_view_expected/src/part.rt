@@ -1,12 +1,12 @@
 // The grammar of machine descriptions, without what it builds.
 ghost use Rattle.std.specs.Prelude.{◌≡◌, map, true, Some};
-ghost use Rattle.kp_base.specs.{Grammar.alternatives, Tables.among, Tables.first_of, Tables.firsts, Tables.pick};
+ghost use Rattle.kp_grammar.specs.{Grammar.alternatives, Tables.among, Tables.first_of, Tables.firsts, Tables.pick};
 ghost use Rattle.kp_parse_grammar.specs.inner.Follow.{tables};
 ghost use Rattle.kp_view_expected.specs.inner.Plain.{name, number, plain, plain_symbol, is_solid};
 
 use self::Symbol::Inner;
 use crate::token_class::TokenClass;
-use kp_parse_grammar::{Keyword, Mark};
+use kp_lex::{Keyword, Mark};
 
 /// A part of a description, with its alternatives.
 #[derive(Clone, Copy)]

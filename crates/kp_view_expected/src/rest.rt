@@ -1,6 +1,6 @@
 // What is still to come of a description.
 ghost use Rattle.std.specs.Prelude.{◌≡◌, [], ◌∷◌, ◌++◌, reverse, IfOk, OnOk};
-ghost use Rattle.kp_base.specs.Grammar.{Nonterminal};
+ghost use Rattle.kp_grammar.specs.Grammar.{Nonterminal};
 ghost use Rattle.kp_parse_grammar.specs.Language.{JOB};
 ghost use Rattle.kp_view_expected.specs.inner.Plain.{stack, Decides, IsAnswer};
 

@@ -1,11 +1,11 @@
 // Classes of tokens.
 ghost use Rattle.std.specs.Prelude.{◌≡◌, ◌==◌, map};
-ghost use Rattle.kp_base.specs.Tables.{among};
+ghost use Rattle.kp_grammar.specs.Tables.{among};
 ghost use Rattle.kp_view_expected.specs.GoesOn.{all_classes, class_of};
 ghost use Rattle.kp_parse_grammar.specs.Tokens.{keyword_class, mark_class};
 ghost use Rattle.kp_view_expected.specs.inner.Plain.{number};
 
-use kp_parse_grammar::{Keyword, Mark, TokenKind};
+use kp_lex::{Keyword, Mark, TokenKind};
 
 /// A class of tokens: the grammar doesn't distinguish the tokens of one class.
 #[derive(Clone, Copy)]

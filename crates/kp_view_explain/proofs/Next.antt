@@ -4,8 +4,9 @@ use Rattle.std.{proofs.lemmas.Grind.common_steps, proofs.lemmas.List.Sums.prefix
 use Rattle.std.specs.{List.position, List.position_or_len, declared.option.Option.Option}
 use Rattle.kp_base.specs.{Refusal.e_rule, declared.place.Place.Place, declared.refusal.Refusal.Refusal}
 use Rattle.kp_ast.specs.declared.tree.Job.{Job}
-use Rattle.kp_parse_grammar.specs.{Text.HasOutcome, declared.token.Token.Token, declared.token.Lexed.Lexed, Tokens.Lexeme, Tokens.lexemes}
-use Rattle.kp_parse_grammar.proofs.Outcome.{one_outcome}
+use Rattle.kp_lex.specs.{Text.HasOutcome, declared.token.Token.Token, declared.token.Lexed.Lexed}
+use Rattle.kp_lex.proofs.Outcome.{one_outcome}
+use Rattle.kp_parse_grammar.specs.Tokens.{Lexeme, lexemes}
 use Rattle.kp_parse.{specs.Sentence.Breaks, specs.Sentence.IsTree, specs.Sentence.Breaks.wrong_token, proofs.Unique.no_rule}
 use Rattle.kp_frontend.specs.Judging.{JudgesText, JudgesHeadText, most_bytes, JudgesText.no_sentence, Judges.within, JudgesHeadText.no_head_sentence}
 use Rattle.kp_frontend.{specs.Judging.JudgesHead.head_within, proofs.Verdicts.one_verdict, proofs.Verdicts.one_head}

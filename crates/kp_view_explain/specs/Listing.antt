@@ -2,9 +2,9 @@
 use Rattle.std.specs.Prelude.{◌≡◌, ◌==◌, ◌&&◌, ◌↔◌, ℕ, Bool, List, ◌∷◌, ◌++◌, take, drop, slice_get, codes, Option, Some, None, Ok}
 use Rattle.std.specs.List.{position_or_len}
 use Rattle.kp_base.specs.{Refusal.e_rule, declared.place.Place.Place}
-use Rattle.kp_parse_grammar.specs.{Text.HasOutcome, declared.token.TokenKind.TokenKind, declared.token.Token.Token, declared.token.Lexed.Lexed}
+use Rattle.kp_lex.specs.{Text.HasOutcome, declared.token.TokenKind.TokenKind, declared.token.Token.Token, declared.token.Lexed.Lexed}
 use Rattle.kp_parse_grammar.specs.Tokens.{Lexeme, lexemes}
-use Rattle.kp_parse_grammar.specs.declared.token.TokenKind.TheVariants as kinds
+use Rattle.kp_lex.specs.declared.token.TokenKind.TheVariants as kinds
 use Rattle.kp_parse.specs.Sentence.{IsWrong}
 use Rattle.kp_view_expected.specs.{GoesOn.class_of, GoesOn.GoesOn, GoesOn.Lists, Texts.expected_text, declared.set.Expected.Expected}
 use Rattle.kp_view_help.specs.Texts.{shown}

@@ -7,8 +7,8 @@ ghost use Rattle.kp_view_help.specs.Texts.{found_text, shown};
 ghost use Rattle.kp_view_explain.specs.inner.Naming.{NamesAt, NamesNext, NamesWrong};
 
 use kp_base::{NoMemory, Place, Refusal, Refused, word_length};
+use kp_lex::{Mark, Token, TokenKind, lex};
 use kp_parse::parse;
-use kp_parse_grammar::{Mark, Token, TokenKind, lex};
 use kp_view_excerpt::offset_of;
 use kp_view_expected::expected;
 use kp_view_help::{FoundToken, Word};

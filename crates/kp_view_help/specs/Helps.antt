@@ -1,7 +1,7 @@
 -- What helps at a token that can't be there, and where a number of words is in the place of the width of their addresses.
 use Rattle.std.specs.Prelude.{ℕ, ◌≡◌, ◌≢◌, ◌<◌, ◌≤◌, ◌^◌, Option, None, MatchOption, codes}
-use Rattle.kp_parse_grammar.specs.declared.token.Mark.{Mark}
-use Rattle.kp_parse_grammar.specs.declared.token.Mark.TheVariants as marks
+use Rattle.kp_lex.specs.declared.token.Mark.{Mark}
+use Rattle.kp_lex.specs.declared.token.Mark.TheVariants as marks
 use Rattle.kp_view_expected.specs.{GoesOn.Lists, declared.set.Expected.Expected}
 use Rattle.kp_view_expected.specs.declared.token_class.TokenClass.TheVariants as classes
 use Rattle.kp_view_help.specs.declared.{word.Word.Word, found.FoundToken.FoundToken, help.Help.Help}

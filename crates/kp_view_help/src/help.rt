@@ -5,7 +5,7 @@ ghost use Rattle.kp_view_help.specs.Helps.{Ends, HelpsAt, HelpsAtKeyword, HelpsA
 use crate::found::FoundToken;
 use crate::phrase::{Term, Terms, write_phrase};
 use crate::word::Word;
-use kp_parse_grammar::Mark;
+use kp_lex::Mark;
 use kp_view_expected::{Expected, TokenClass};
 use std::fmt;
 

@@ -3,7 +3,7 @@ ghost use Rattle.std.specs.Prelude.{◌≡◌, is_some};
 ghost use Rattle.kp_view_message.specs.{Helps.IsWidthHelp, Helps.fit, Helps.widen, Rules.width_rule};
 ghost use Rattle.kp_view_message.specs.inner.Places.{count, has_largest, of_goal, of_named, of_slice, of_value, of_width, places};
 
-use kp_parse_grammar::Mark;
+use kp_lex::Mark;
 use kp_view_expected::TokenClass;
 use kp_view_help::{Help, Kind, Term, Terms, Word};
 

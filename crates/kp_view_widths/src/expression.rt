@@ -8,7 +8,7 @@ use crate::notes::Notes;
 use kp_ast::{Expr, ExprKind, Name, Num, Param};
 use kp_base::Place;
 use kp_bits::BinOp;
-use kp_parse_grammar::Mark;
+use kp_lex::Mark;
 use kp_view_help::{Wanted, Word};
 use kp_view_message::{Goal, Message, WidthFault};
 

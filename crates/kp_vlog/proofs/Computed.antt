@@ -1,9 +1,9 @@
 -- The module of a given text, or the first rule that it violates, by computation.
 use Rattle.std.proofs.Common.{ℕ, zero, suc, ◌+◌, ◌-◌, ◌≤◌, ◌≡◌, List, [], ◌∷◌, ◌++◌, length, drop, Bool, true, false, Option, Some, None, refl, ap, sym, subst, ◌∙◌, arith, eq-eqb}
 use Rattle.std.{proofs.lemmas.Bool.eqb-true, proofs.lemmas.List.length-drop, specs.Prelude.◌==◌, specs.Prelude.if◌then◌else◌}
-use Rattle.kp_base.specs.{Grammar.Terminal, Grammar.Nonterminal, Grammar.Action, Grammar.IsWrongAt, Tables.pick}
-use Rattle.kp_base.specs.GrammarMachine.{Accepts, Stops, Leads, look}
-use Rattle.kp_base.proofs.Derivations.{sentence, wrong_at}
+use Rattle.kp_grammar.specs.{Grammar.Terminal, Grammar.Nonterminal, Grammar.Action, Grammar.IsWrongAt, Tables.pick}
+use Rattle.kp_grammar.specs.Machine.{Accepts, Stops, Leads, look}
+use Rattle.kp_grammar.proofs.Derivations.{sentence, wrong_at}
 use Rattle.kp_net.specs.Netlist.{Net}
 use Rattle.kp_vlog.specs.Tokens.{Word, Token, Front, finish, skips, takes, front, Lexes, at_end, past, token, LexesTo, here, past_gap, past_token}
 use Rattle.kp_vlog.specs.declared.tree.VModule.{VModule}

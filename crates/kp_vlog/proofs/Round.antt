@@ -4,7 +4,7 @@ use Rattle.kp_net.specs.{Names.IsNamed, Netlist.Net, Parts.NetOk}
 use Rattle.kp_vlog.specs.{declared.tree.VModule.VModule, Canon.canon, Rules.breaks, Rules.broken, Denote.Denotes, Language.MODULE, Language.verilog}
 use Rattle.kp_vlog.proofs.{Lex.placed, Words.net_words, Written.canon_says, Written.all_right, Sentence.sentence, Sentence.Shown, Sentence.module_of}
 use Rattle.kp_vlog.proofs.{NamesHold.names_hold, NamesHold.drivers_hold, WidthsHold.widths_hold, Denoted.same_net}
-use Rattle.kp_base.specs.Grammar.{Derives, Nonterminal}
+use Rattle.kp_grammar.specs.Grammar.{Derives, Nonterminal}
 use Rattle.kp_vlog.specs.Language as lang
 
 none_broken : (a b c : Option ℕ) → a ≡ None → b ≡ None → c ≡ None → breaks 3 a (breaks 4 b (breaks 5 c None)) ≡ None

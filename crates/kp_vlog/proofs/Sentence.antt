@@ -1,8 +1,8 @@
 -- The tokens of a netlist are a sentence, and it builds a module that represents the netlist.
 use Rattle.std.proofs.Common.{◌≡◌, ◌∙◌, ℕ, zero, suc, ◌+◌, ◌-◌, ◌^◌, ◌≤◌, List, [], ◌∷◌, ◌++◌, ◌⊎◌, inl, inr, length, get_or, Bool, true, false, cond, Option, Some, None, refl, sym, subst, arith, append_assoc, append-nil}
 use Rattle.std.{proofs.lemmas.Bool.false≢true, specs.Prelude.codes, specs.Prelude.◌==◌}
-use Rattle.kp_base.specs.{Grammar.Nonterminal, Grammar.Action, Grammar.stay, GrammarMachine.advance}
-use Rattle.kp_base.proofs.Steps.{Completes, CompletesFrom, went}
+use Rattle.kp_grammar.specs.{Grammar.Nonterminal, Grammar.Action, Grammar.stay, Machine.advance}
+use Rattle.kp_grammar.proofs.Steps.{Completes, CompletesFrom, went}
 use Rattle.kp_bits.specs.{Word.word, declared.operator.BinOp.BinOp}
 use Rattle.kp_net.specs.declared.{node.NodeId.NodeId, node.Kind.Kind, node.Node.Node, netlist.Port.Port, netlist.WritePort.WritePort, netlist.NetReg.NetReg}
 use Rattle.kp_net.specs.{declared.netlist.NetFile.NetFile, declared.netlist.Parts.Parts, Netlist.Net, Parts.no_port, Parts.no_reg, Parts.no_file}

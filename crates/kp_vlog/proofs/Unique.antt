@@ -1,7 +1,8 @@
 -- A text has one list of tokens and one module, or violates one rule.
 use Rattle.std.proofs.Common.{◌≡◌, ◌∙◌, ℕ, ◌+◌, ◌≤◌, List, [], ◌∷◌, length, drop, Some, None, refl, sym, ap, subst, arith, inl, inr}
 use Rattle.std.proofs.lemmas.{Bool.cases_lt, List.length-drop, List.drop_all}
-use Rattle.kp_base.{specs.Grammar.Nonterminal, specs.Grammar.Derives, proofs.Derivations.one_state, proofs.Derivations.one_wrong}
+use Rattle.kp_grammar.specs.Grammar.{Nonterminal, Derives}
+use Rattle.kp_grammar.proofs.Derivations.{one_state, one_wrong}
 use Rattle.kp_net.specs.Netlist.{Net}
 use Rattle.kp_vlog.specs.Tokens.{Token, Front, finish, skips, takes, broken, front, Lexes, at_end, past, token, LexesTo, here, past_gap, past_token}
 use Rattle.kp_vlog.specs.{declared.tree.VModule.VModule, Language.Value, Language.whole, Language.MODULE, Language.verilog, inner.Follow.tables, Rules.Fault}

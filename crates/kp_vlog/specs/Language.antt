@@ -1,7 +1,7 @@
 -- The grammar of the Verilog subset, with what it builds.
 use Rattle.std.specs.Prelude.{ℕ, zero, suc, ◌+◌, List, [], ◌∷◌, ◌++◌, Option, Some, None}
 use Rattle.kp_bits.specs.declared.{operator.BinOp.BinOp, literal.Literal.Literal}
-use Rattle.kp_base.specs.Grammar.{Symbol, Terminal, Nonterminal, Action, Rules, Grammar}
+use Rattle.kp_grammar.specs.Grammar.{Symbol, Terminal, Nonterminal, Action, Rules, Grammar}
 use Rattle.kp_vlog.specs.declared.{token.Keyword.Keyword, token.Mark.Mark, tree.Num.Num, tree.Lit.Lit, tree.Named.Named, tree.Range.Range, tree.VPort.VPort}
 use Rattle.kp_vlog.specs.declared.tree.{Right.Right, Item.Item, Init.Init, ResetValue.ResetValue, ResetList.ResetList, Update.Update, VModule.VModule}
 use Rattle.kp_vlog.specs.Tokens.{Word, Token}

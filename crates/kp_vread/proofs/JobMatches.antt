@@ -6,7 +6,7 @@ use Rattle.kp_ast.specs.declared.tree.Job.{Job}
 use Rattle.kp_machine.specs.{Slots.Slot, Slots.targets_of, Slots.samples_of, Slots.is_register, Words.no_slot}
 use Rattle.kp_net.specs.{Names.same, Netlist.Net, Parts.no_reg, Parts.no_file, declared.netlist.Port.Port, declared.netlist.NetReg.NetReg}
 use Rattle.kp_net.specs.declared.netlist.{NetFile.NetFile, Parts.Parts}
-use Rattle.kp_sched.specs.{Naming.place_among, Naming.register_name, Naming.file_name, Naming.sample_port, Shows.IsOfJob}
+use Rattle.kp_implements.specs.{Naming.place_among, Naming.register_name, Naming.file_name, Naming.sample_port, Shows.IsOfJob}
 use Rattle.kp_vread.specs.inner.Tests.{has_register, has_file, has_target, has_targets, names_register, names_file, is_visible, registers_known, files_known, is_port_of, are_ports_of, is_of_job}
 use Rattle.kp_vread.proofs.Tests.{holds, fails, both, implied, either_way, as_well, each, some, named}
 

@@ -4,7 +4,7 @@ use Rattle.kp_base.specs.{Refusal.v_rule, declared.refusal.Refused.Refused}
 use Rattle.kp_base.specs.declared.refusal.Refused.TheVariants as refused
 use Rattle.kp_ast.specs.declared.tree.Job.{Job}
 use Rattle.kp_net.specs.Netlist.{Net}
-use Rattle.kp_sched.specs.Shows.{IsOfJob}
+use Rattle.kp_implements.specs.Shows.{IsOfJob}
 
 -- V6, at the first byte of a text
 abbrev pub not_of_job : Refused

@@ -1,7 +1,7 @@
 //! Laws about all netlists that were read from a text. Each function does nothing: its contract is the law.
 ghost use Rattle.std.specs.Prelude.{ℕ, List};
 ghost use Rattle.kp_net.specs.Netlist.{Net};
-ghost use Rattle.kp_sched.specs.Shows.{HasOutputs};
+ghost use Rattle.kp_implements.specs.Shows.{HasOutputs};
 ghost use Rattle.kp_cycle.specs.Steps.{ShowsRows};
 ghost use Rattle.kp_vlog.specs.Denote.{Denotes};
 

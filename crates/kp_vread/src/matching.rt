@@ -1,7 +1,7 @@
 // Whether a netlist is one of a job.
 ghost use Rattle.std.specs.Prelude.{◌≡◌, MatchResult};
 ghost use Rattle.kp_machine.specs.Slots.{targets_of, samples_of};
-ghost use Rattle.kp_sched.specs.Shows.{IsOfJob};
+ghost use Rattle.kp_implements.specs.Shows.{IsOfJob};
 ghost use Rattle.kp_vread.specs.Matching.{IsRefused};
 ghost use Rattle.kp_vread.specs.inner.Tests.{is_of_job, has_targets, registers_known, files_known, are_ports_of};
 

@@ -2,7 +2,7 @@
 use Rattle.std.proofs.Common.{ℕ, zero, suc, ◌≡◌, ◌==◌, ◌≤◌, ◌-◌, nat_lt, List, [], ◌∷◌, ◌++◌, Bool, true, false, cond, ◌||◌, ◌&&◌, Option, Some, refl, sym, subst, arith}
 use Rattle.std.proofs.lemmas.Bool.{eqb-true}
 use Rattle.kp_bits.specs.declared.operator.BinOp.{BinOp}
-use Rattle.kp_base.specs.{Grammar.Nonterminal, Grammar.Action, Tables.pick, Tables.among, GrammarMachine.Outcome, GrammarMachine.look, GrammarMachine.goes}
+use Rattle.kp_grammar.specs.{Grammar.Nonterminal, Grammar.Action, Tables.pick, Tables.among, Machine.Outcome, Machine.look, Machine.goes}
 use Rattle.kp_vlog.specs.Language.{Sym, Value, verilog, mark, ID, mark_class, NAMES, BEHIND, make_binary, make_name, one_name}
 use Rattle.kp_vlog.specs.{declared.token.Mark.Mark, Tokens.Token, inner.Follow.tables}
 use Rattle.kp_vlog.specs.declared.token.Mark.TheVariants as marks

@@ -1,7 +1,7 @@
 -- Steps of the machine, in the form that the readers use.
 use Rattle.std.proofs.Common.{ℕ, ◌≡◌, ◌≤◌, ◌+◌, List, [], ◌∷◌, ◌++◌, length, drop, sym, subst, arith, Result, Ok, Err, IsErrAnd, MatchResult}
 use Rattle.std.proofs.lemmas.Result.{err_from_is_err_and}
-use Rattle.kp_base.specs.GrammarMachine.{Outcome, Accepts, Stops, accept, more}
+use Rattle.kp_grammar.specs.Machine.{Outcome, Accepts, Stops, accept, more}
 use Rattle.kp_vlog.specs.{Tokens.Token, Language.Sym, Language.Value}
 use Rattle.kp_vread_parse.specs.declared.fault.Fault.{Fault}
 use Rattle.kp_vread_parse.specs.inner.Reading.{Goes, FaultIs, Faults, Turns, Ends}

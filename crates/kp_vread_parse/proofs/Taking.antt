@@ -3,7 +3,8 @@ use Rattle.std.proofs.Common.{ℕ, ◌≡◌, ◌==◌, ◌<◌, ◌≤◌, ◌+
 use Rattle.std.proofs.lemmas.{Bool.Decides.nat_tests, List.drop_more, List.drop_all, List.drop-map}
 use Rattle.std.specs.Prelude.{slice_index_or}
 use Rattle.kp_bits.specs.declared.literal.Literal.{Literal}
-use Rattle.kp_base.{specs.Grammar.Terminal, specs.GrammarMachine.Stops, specs.GrammarMachine.look, specs.GrammarMachine.wrong, proofs.Ways.took}
+use Rattle.kp_grammar.specs.{Grammar.Terminal, Machine.Stops, Machine.look, Machine.wrong}
+use Rattle.kp_grammar.proofs.Ways.{took}
 use Rattle.kp_vlog.specs.Language.{Way, Sym, Value, ID, NUM, LIT, dropped, named, number, literal, word_class, verilog}
 use Rattle.kp_vlog.specs.{declared.token.VKind.VKind, declared.token.VToken.VToken, Tokens.Token, Outcome.token_of, Outcome.word_of, inner.Follow.tables}
 use Rattle.kp_vlog.specs.declared.token.Keyword.TheVariants as keywords

@@ -2,8 +2,8 @@
 use Rattle.std.proofs.Common.{ℕ, zero, suc, ◌≡◌, ◌≤◌, ◌+◌, ◌<◌, List, [], ◌∷◌, length, drop, take, map, All, refl, ap, sym, subst, ◌∙◌, arith}
 use Rattle.std.proofs.lemmas.List.{length-drop, drop_more, drop-map, Elements.All-weaker}
 use Rattle.std.specs.Prelude.{slice_index_or}
-use Rattle.kp_base.specs.{Grammar.IsSentence, GrammarMachine.Accepts, GrammarMachine.Stops}
-use Rattle.kp_base.proofs.Derivations.{sentence, wrong_at}
+use Rattle.kp_grammar.specs.{Grammar.IsSentence, Machine.Accepts, Machine.Stops}
+use Rattle.kp_grammar.proofs.Derivations.{sentence, wrong_at}
 use Rattle.kp_vlog.specs.declared.token.VKind.TheVariants as kinds
 use Rattle.kp_vlog.specs.{declared.token.VKind.VKind, declared.token.VToken.VToken, declared.tree.VModule.VModule, Tokens.Token, Tokens.takes}
 use Rattle.kp_vlog.specs.{Outcome.StandsIn, Outcome.token_of, Outcome.word_of, Outcome.bytes_of, Language.MODULE, Language.whole, Language.verilog}

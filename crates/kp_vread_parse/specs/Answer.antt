@@ -1,6 +1,7 @@
 -- The result of parsing: the module of the sentence, or the first wrong token.
 use Rattle.std.specs.Prelude.{ℕ, ◌≡◌, List, [], ◌∷◌, length, take, map, Result, Ok, Err, ⊤}
-use Rattle.kp_base.specs.{Place.place_after, Refusal.v_rule, declared.refusal.Refused.Refused, Grammar.IsSentence}
+use Rattle.kp_base.specs.{Place.place_after, Refusal.v_rule, declared.refusal.Refused.Refused}
+use Rattle.kp_grammar.specs.Grammar.{IsSentence}
 use Rattle.kp_base.specs.declared.refusal.Refused.TheVariants as refused
 use Rattle.kp_vlog.specs.{declared.token.VToken.VToken, declared.tree.VModule.VModule, Outcome.token_of, Language.MODULE, Language.whole, Language.verilog}
 use Rattle.kp_vlog.specs.Verdict.{IsWrong}

@@ -1,7 +1,6 @@
 // The block with the updates at the clock edge.
 ghost use Rattle.std.specs.Prelude.{◌≡◌, ◌==◌, [], ◌∷◌, MatchResult, true};
-ghost use Rattle.kp_base.specs.Grammar.{Nonterminal};
-ghost use Rattle.kp_base.specs.Tables.{among};
+ghost use Rattle.kp_grammar.specs.{Grammar.Nonterminal, Tables.among};
 ghost use Rattle.kp_vlog.specs.declared.token.Keyword.TheVariants as keywords;
 ghost use Rattle.kp_vlog.specs.Language.{keyword_class, BODY, CONDITION, VALUES, UPDATES, UPDATE, named, values as values_value, perhaps_reset, update as update_value, updates as updates_value};
 ghost use Rattle.kp_vread_parse.specs.inner.Words.{update_words, TEST, RESET_VALUES, OTHERS, REG_UPDATE, FILE_UPDATE, FIRST};

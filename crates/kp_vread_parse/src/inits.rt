@@ -1,7 +1,6 @@
 // The `initial` block.
 ghost use Rattle.std.specs.Prelude.{◌≡◌, ◌==◌, [], ◌∷◌, MatchResult, true};
-ghost use Rattle.kp_base.specs.Grammar.{Nonterminal};
-ghost use Rattle.kp_base.specs.Tables.{among};
+ghost use Rattle.kp_grammar.specs.{Grammar.Nonterminal, Tables.among};
 ghost use Rattle.kp_vlog.specs.declared.token.Keyword.TheVariants as keywords;
 ghost use Rattle.kp_vlog.specs.declared.token.Mark.TheVariants as marks;
 ghost use Rattle.kp_vlog.specs.Language.{keyword_class, mark_class, INITS, INIT, START, named, number as number_value, literal as literal_value, init as init_value, inits as inits_value};

@@ -1,7 +1,6 @@
 // Complete modules.
 ghost use Rattle.std.specs.Prelude.{[], ◌∷◌, ◌++◌, MatchResult};
-ghost use Rattle.kp_base.specs.Grammar.{Nonterminal};
-ghost use Rattle.kp_base.specs.GrammarMachine.{Accepts};
+ghost use Rattle.kp_grammar.specs.{Grammar.Nonterminal, Machine.Accepts};
 ghost use Rattle.kp_vlog.specs.Language.{MODULE, whole, named, perhaps_named, perhaps_reset, port as port_value, ports as ports_value, items as items_value, inits as inits_value, updates as updates_value};
 ghost use Rattle.kp_vread_parse.specs.inner.Words.{INPUTS, OUTPUTS, LINES, STARTS, EDGE};
 ghost use Rattle.kp_vread_parse.specs.inner.Reading.{Turns, Ends, ModuleGoes, FaultIs};

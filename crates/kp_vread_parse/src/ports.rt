@@ -1,6 +1,6 @@
 // The name of a module, and its ports.
 ghost use Rattle.std.specs.Prelude.{◌≡◌, ◌==◌, [], ◌∷◌, ◌++◌, map, MatchResult, true};
-ghost use Rattle.kp_base.specs.Grammar.{Nonterminal};
+ghost use Rattle.kp_grammar.specs.Grammar.{Nonterminal};
 ghost use Rattle.kp_vlog.specs.Language.{word as word_of, IDENTIFIER, WIRE, RANGE, PORT, STALLS, SAMPLES, range as range_value, port as port_value, ports as ports_value, perhaps_named, named};
 ghost use Rattle.kp_vread_parse.specs.inner.Words.{symbol, HEAD, INPUTS, OUTPUTS};
 ghost use Rattle.kp_vread_parse.specs.inner.Reading.{class_at, Turns, Ends};

@@ -1,7 +1,6 @@
 // The right sides of assignments.
 ghost use Rattle.std.specs.Prelude.{◌≡◌, ◌==◌, ◌&&◌, nat_lt, [], ◌∷◌, MatchResult, true};
-ghost use Rattle.kp_base.specs.Grammar.{Nonterminal};
-ghost use Rattle.kp_base.specs.Tables.{among};
+ghost use Rattle.kp_grammar.specs.{Grammar.Nonterminal, Tables.among};
 ghost use Rattle.kp_vlog.specs.declared.token.Mark.TheVariants as marks;
 ghost use Rattle.kp_vlog.specs.Language.{mark_class, LITERAL, NUMBER, RIGHT, BEHIND, INDEX, NAMES, named, names as names_value, right as right_value};
 ghost use Rattle.kp_vread_parse.specs.inner.Words.{sign, TWO_NAMES};

@@ -5,7 +5,7 @@ ghost use Rattle.kp_vlog.specs.Outcome.{token_of, word_of};
 ghost use Rattle.kp_vlog.specs.Language.{word_class, keyword_class, mark_class, IDENTIFIER, NUMBER, LITERAL, ID, NUM, LIT, named, number as number_value, literal as literal_value};
 ghost use Rattle.kp_vread_parse.specs.inner.Spelled.{IsSpelled};
 ghost use Rattle.kp_vread_parse.specs.inner.Words.{class_of, symbol, sign as sign_of, operator_classes};
-ghost use Rattle.kp_base.specs.Tables.{among};
+ghost use Rattle.kp_grammar.specs.Tables.{among};
 ghost use Rattle.kp_vread_parse.specs.inner.Reading.{class_at, Follows, Turns, Ends};
 
 use crate::fault::Fault;

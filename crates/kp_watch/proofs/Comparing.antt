@@ -6,7 +6,7 @@ use Rattle.kp_bits.specs.Word.{word}
 use Rattle.kp_ast.specs.declared.tree.Job.{Job}
 use Rattle.kp_net.specs.Netlist.{Net, State}
 use Rattle.kp_machine.specs.Words.{HasWord, target}
-use Rattle.kp_sched.specs.Naming.{value_shown}
+use Rattle.kp_implements.specs.Naming.{value_shown}
 use Rattle.kp_run.specs.declared.difference.Difference.{Difference}
 use Rattle.kp_watch.specs.inner.Comparing.{IsFirstAt, IsOneAt, ComparesWord, ComparesTarget, lower, AgreeBelow, IsFirstIn}
 

@@ -16,8 +16,8 @@ use Rattle.kp_pipeline.specs.{Accepted.Accepted, Rows.Row, Rows.bit, Rows.bits, 
 use Rattle.kp_run.specs.{Cycles.input_at, Cycles.inputs_to, Homes.home_of, Places.place_in}
 use Rattle.kp_run.specs.declared.places.Place.TheVariants.{Register, File}
 use Rattle.kp_run.proofs.{Machines.home_passes, Machines.next_is, Prefixes.passed_next, Prefixes.passed_before}
-use Rattle.kp_sched.specs.{Monitors.Kept, Monitors.HasSeen, Rows.bit_of, Rows.rows_seen, Runs.passes, Naming.register_of, Naming.file_of, Naming.value_shown}
-use Rattle.kp_sched.specs.Shows.{IsOfJob}
+use Rattle.kp_sched.specs.{Monitors.Kept, Monitors.HasSeen, Rows.bit_of, Rows.rows_seen, Runs.passes}
+use Rattle.kp_implements.specs.{Naming.register_of, Naming.file_of, Naming.value_shown, Shows.IsOfJob}
 use Rattle.kp_stage.specs.Start.{start_of as job_start}
 use Rattle.kp_seq.specs.{Running.Running, Recorded.Recorded, Recorded.results_of, Recorded.write_recorded, Recorded.record_of}
 use Rattle.kp_watch.specs.inner.Changes.{AreNoted, noted_at, last_write, no_record, record_by, wrote_by}

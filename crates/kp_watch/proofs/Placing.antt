@@ -6,7 +6,7 @@ use Rattle.kp_ast.specs.declared.tree.{Decl.Decl, Job.Job}
 use Rattle.kp_ast.specs.declared.tree.Decl.TheVariants as decls
 use Rattle.kp_machine.specs.{Slots.Slot, Slots.slot, Slots.targets_of, Slots.is_register, Words.no_slot, Words.target}
 use Rattle.kp_net.specs.{Netlist.Net, Netlist.State, Parts.no_reg}
-use Rattle.kp_sched.specs.{Naming.register_names, Naming.register_of, Naming.value_of, Naming.value_shown, Shows.IsOfJob, Shows.HasRegister}
+use Rattle.kp_implements.specs.{Naming.register_names, Naming.register_of, Naming.value_of, Naming.value_shown, Shows.IsOfJob, Shows.HasRegister}
 use Rattle.kp_vcd.specs.Recording.{Values}
 use Rattle.kp_watch.specs.{Dumps.register_values, inner.Shown.places_from, inner.Shown.shown_at, inner.Shown.ArePlaces}
 

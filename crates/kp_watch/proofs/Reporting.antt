@@ -6,7 +6,7 @@ use Rattle.kp_width.specs.{TextOrder.declared_names, Widths.widths_of}
 use Rattle.kp_stage.{specs.Stages.broken_of, proofs.Unbroken.first_none}
 use Rattle.kp_frontend.specs.{Sections.sections_of, Judging.Judges, Judging.JudgesHead, Judging.IsSentenceOf, Judging.broken_in, Judging.Judges.within}
 use Rattle.kp_frontend.specs.Judging.{JudgesText.accepted, JudgesHead.head_within, JudgesHeadText.head_accepted}
-use Rattle.kp_parse_grammar.specs.declared.token.Lexed.{Lexed}
+use Rattle.kp_lex.specs.declared.token.Lexed.{Lexed}
 use Rattle.kp_vcd.specs.{declared.dump.Dump.Dump, Reading.Fault, Reading.verdict, Fitting.FitsForm}
 use Rattle.kp_watch.specs.{Dumps.vcd_dump, Accepted.IsAccepted, Accepted.IsAccepted.of_input, Accepted.IsAccepted.of_head}
 use Rattle.kp_watch.proofs.{Named.JobNamed, Named.job_named, Fitting.dump_fits}

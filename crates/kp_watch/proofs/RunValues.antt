@@ -11,8 +11,9 @@ use Rattle.kp_watch.proofs.FewDecls.{decls_few}
 use Rattle.kp_cycle.specs.Steps.{Running, reg_shown}
 use Rattle.kp_net.specs.Netlist.{Net, State, start_of, row_of, last_of, run}
 use Rattle.kp_net.proofs.Runs.{rows_more}
-use Rattle.kp_sched.specs.{Rows.row_seen, Rows.rows_seen, Runs.ShowsAlike, Naming.value_shown, Shows.Shows}
-use Rattle.kp_sched.{specs.Traces.trace_of, specs.Traces.inputs_seen, specs.Traces.AreQuiet, proofs.Counting.seen_length}
+use Rattle.kp_sched.specs.{Rows.row_seen, Rows.rows_seen, Runs.ShowsAlike}
+use Rattle.kp_sched.proofs.Counting.{seen_length}
+use Rattle.kp_implements.specs.{Naming.value_shown, Shows.Shows, Traces.trace_of, Traces.inputs_seen, Traces.AreQuiet}
 use Rattle.kp_run.{specs.Cycles.input_at, specs.Cycles.inputs_to, proofs.Prefixes.state_is, proofs.Prefixes.rows_many}
 use Rattle.kp_vcd.specs.Recording.{Values}
 use Rattle.kp_watch.specs.Dumps.{row_values, no_row, output_values, register_values, values_at, own_run}

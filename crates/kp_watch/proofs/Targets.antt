@@ -6,7 +6,7 @@ use Rattle.kp_machine.specs.{Slots.targets_of, Words.HasWord, Words.target}
 use Rattle.kp_run.specs.{Homes.home_of, Places.IsPlace, Places.place_in, declared.places.Place.Place, declared.places.Place.TheVariants.File}
 use Rattle.kp_run.proofs.Placing.{place_at, place_there}
 use Rattle.kp_seq.specs.{Running.Running, Running.state, Recorded.Recorded}
-use Rattle.kp_sched.specs.Naming.{value_shown}
+use Rattle.kp_implements.specs.Naming.{value_shown}
 use Rattle.kp_watch.specs.declared.{beside.Beside.Beside, compare.Tables.Tables}
 use Rattle.kp_watch.specs.inner.{Changes.IsComparable, Changes.noted_at, Changes.last_write, Changes.no_record, Changes.record_by, Machines.due_by}
 use Rattle.kp_watch.{specs.inner.Results.result_in, proofs.Lanes.machine_at}

@@ -10,8 +10,9 @@ use Rattle.kp_pipeline.specs.Rows as law
 use Rattle.kp_stage.specs.Start.{input, AreSamples}
 use Rattle.kp_machine.specs.{Machine.machine_of, Machine.sequential, Machine.inputs_from, Words.HasWord, Words.target}
 use Rattle.kp_net.specs.Netlist.{Net, State as NetState, run, last_of}
-use Rattle.kp_sched.specs.{Rows.rows_seen, Runs.passes, Runs.due_value, Naming.value_shown, Shows.IsOfJob, Traces.trace_of}
+use Rattle.kp_sched.specs.{Rows.rows_seen, Runs.passes, Runs.due_value}
 use Rattle.kp_sched.proofs.Counting.{seen_length}
+use Rattle.kp_implements.specs.{Naming.value_shown, Shows.IsOfJob, Traces.trace_of}
 use Rattle.kp_seq.specs.Running.{Running}
 use Rattle.kp_run.specs.{Boards.due_behind, Cycles.inputs_to, Cycles.own_trace, Places.place_in, Places.places_in}
 use Rattle.kp_run.{proofs.Gathering.taken_is, proofs.Prefixes.state_is, proofs.Prefixes.rows_many, specs.declared.difference.Difference.Difference}

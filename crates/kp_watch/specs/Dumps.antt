@@ -5,7 +5,7 @@ use Rattle.kp_ast.specs.declared.tree.{Decl.Decl, Job.Job}
 use Rattle.kp_ast.specs.declared.tree.Decl.TheVariants as decls
 use Rattle.kp_pipeline.specs.Rows.{Row, Trace, one_if}
 use Rattle.kp_machine.specs.Machine.{pipe_of, inputs_from}
-use Rattle.kp_sched.specs.Naming.{module_name}
+use Rattle.kp_implements.specs.Naming.{module_name}
 use Rattle.kp_vcd.specs.{Recording.Values, Recording.recorded, Text.dump_text, declared.dump.Signal.Signal, declared.dump.Dump.Dump}
 
 -- ---- the signals

@@ -3,7 +3,7 @@ ghost use Rattle.std.specs.Prelude.{◌≡◌, ◌+◌, ◌<◌, ◌≤◌, ℕ,
 ghost use Rattle.kp_base.specs.declared.row.Row as masks;
 ghost use Rattle.kp_machine.specs.Slots.{sample_stages};
 ghost use Rattle.kp_stage.specs.Start.{AreSamples};
-ghost use Rattle.kp_sched.specs.{Naming.sample_ports, Shows.HasOutputs, Shows.IsOfJob};
+ghost use Rattle.kp_implements.specs.{Naming.sample_ports, Shows.HasOutputs, Shows.IsOfJob};
 ghost use Rattle.kp_run.specs.Columns.{AreColumns, row_taken};
 ghost use Rattle.kp_watch.specs.inner.Beside.{AreTables, HaveCome};
 ghost use Rattle.kp_watch.specs.inner.Changes.{AreNoted};

@@ -5,7 +5,7 @@ ghost use Rattle.kp_run.specs.Places.{place_in, words_at};
 ghost use Rattle.kp_run.specs.declared.places.Place.TheVariants.{File};
 ghost use Rattle.kp_seq.specs.Running.{state};
 ghost use Rattle.kp_machine.specs.Words.{HasWord, target};
-ghost use Rattle.kp_sched.specs.{Naming.value_shown, Shows.IsOfJob};
+ghost use Rattle.kp_implements.specs.{Naming.value_shown, Shows.IsOfJob};
 ghost use Rattle.kp_watch.specs.inner.Changes.{IsComparable, noted_at, last_write};
 ghost use Rattle.kp_watch.specs.inner.Comparing.{Compares, ComparesTarget, ComparesWord, lower};
 ghost use Rattle.kp_watch.specs.inner.Machines.{due_by};

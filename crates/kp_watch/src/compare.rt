@@ -7,7 +7,7 @@ ghost use Rattle.kp_run.specs.Homes.{AreHomes};
 ghost use Rattle.kp_run.specs.Places.{place_in, places_in, words_at};
 ghost use Rattle.kp_seq.specs.Running.{state};
 ghost use Rattle.kp_machine.specs.Words.{HasWord, target};
-ghost use Rattle.kp_sched.specs.{Naming.value_shown, Shows.IsOfJob};
+ghost use Rattle.kp_implements.specs.{Naming.value_shown, Shows.IsOfJob};
 ghost use Rattle.kp_watch.specs.inner.Comparing.{Compares, ComparesTarget, ComparesWord};
 ghost use Rattle.kp_watch.specs.inner.Machines.{due_by};
 

@@ -1,6 +1,6 @@
 // The dump of a run.
 ghost use Rattle.std.specs.Prelude.{◌≡◌, ℕ, ◌<◌, length, get_or, IfOk};
-ghost use Rattle.kp_sched.specs.Shows.{Shows};
+ghost use Rattle.kp_implements.specs.Shows.{Shows};
 ghost use Rattle.kp_vcd.specs.Recording.{recorded};
 ghost use Rattle.kp_watch.specs.{Dumps.values_at, Dumps.own_run, Dumps.vcd_dump, inner.Shown.ArePlaces};
 

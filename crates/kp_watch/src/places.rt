@@ -4,8 +4,8 @@ ghost use Rattle.kp_watch.specs.inner.Shown.{places_from};
 
 use kp_ast::Decl;
 use kp_base::NoMemory;
+use kp_implements::register_named;
 use kp_net::NetReg;
-use kp_sched::register_named;
 use std::alloc::Global;
 
 /// For each declared register its number among those of a netlist. The only error is out of memory.

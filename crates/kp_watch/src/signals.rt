@@ -2,7 +2,7 @@
 ghost use Rattle.std.specs.Prelude.{◌≡◌, ◌∷◌, true, IfOk};
 ghost use Rattle.kp_base.specs.Characters.{is_letter};
 ghost use Rattle.kp_vcd.specs.Name.{IsName};
-ghost use Rattle.kp_sched.specs.Naming.{module_name};
+ghost use Rattle.kp_implements.specs.Naming.{module_name};
 ghost use Rattle.kp_watch.specs.Dumps.{wire, register, register_signals, signals_of};
 
 use kp_ast::{Decl, Name};

@@ -5,7 +5,7 @@ ghost use Rattle.kp_bits.specs.Word.{word};
 ghost use Rattle.kp_net.specs.Netlist.{run, last_of};
 ghost use Rattle.kp_run.specs.Cycles.{HasRows, inputs_to};
 ghost use Rattle.kp_machine.specs.Words.{target};
-ghost use Rattle.kp_sched.specs.Shows.{HasOutputs, IsOfJob};
+ghost use Rattle.kp_implements.specs.Shows.{HasOutputs, IsOfJob};
 ghost use Rattle.kp_watch.specs.Watching.{own_due, Agrees, IsFirstDifference};
 ghost use Rattle.kp_run.specs.Cycles.{own_trace};
 ghost use Rattle.kp_watch.specs.inner.Beside.{AreTables, HaveCome, Answers};

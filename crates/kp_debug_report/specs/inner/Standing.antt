@@ -9,7 +9,7 @@ use Rattle.kp_net.specs.Netlist.{Net}
 use Rattle.kp_debug_report.specs.{Sessions.Debugged, Sessions.state_there, Inspecting.all_cycles, Inspecting.has_value, Inspecting.first_from}
 use Rattle.kp_run.specs.Cycles.{inputs_to, own_trace}
 use Rattle.kp_tool_report.specs.States.{State}
-use Rattle.kp_sched.specs.{Naming.register_of, Naming.file_of, Naming.value_shown, Shows.IsOfJob, Shows.Shows}
+use Rattle.kp_implements.specs.{Naming.register_of, Naming.file_of, Naming.value_shown, Shows.IsOfJob, Shows.Shows}
 
 -- it steps through the run of the job's own inputs
 pub record IsUnderWay (job : Job) (d : Debugged) : Type 0 where

@@ -3,7 +3,7 @@ use Rattle.std.specs.Prelude.{◌≡◌, ◌<◌, ◌≤◌, ◌^◌, ℕ, List,
 use Rattle.kp_base.specs.declared.refusal.{Refusal.Refusal, Refused.Refused, Refused.TheVariants.Rule, Refused.TheVariants.NoMemory}
 use Rattle.kp_ast.specs.declared.tree.Job.{Job}
 use Rattle.kp_width.specs.Declarations.{functions_in}
-use Rattle.kp_parse_grammar.specs.{Text.HasOutcome, declared.token.Lexed.Lexed}
+use Rattle.kp_lex.specs.{Text.HasOutcome, declared.token.Lexed.Lexed}
 use Rattle.kp_parse.specs.{Sentence.Breaks, declared.job.Parsed.Parsed}
 use Rattle.kp_frontend.specs.Judging.{IsSentenceOf, Describes, JudgesText}
 

@@ -1,10 +1,10 @@
 -- The parts of alternatives that are read by functions of their own.
 use Rattle.std.specs.Prelude.{List, [], ◌∷◌}
-use Rattle.kp_base.specs.Grammar.{Nonterminal, Action}
+use Rattle.kp_grammar.specs.Grammar.{Nonterminal, Action}
+use Rattle.kp_lex.specs.declared.token.{Keyword.Keyword, Mark.Mark}
 use Rattle.kp_parse_grammar.specs.Language.{Sym, word, mark, no_decls, no_blocks, one_block, no_params, one_param, no_literals, one_literal, NAME, NUM, LIT, DECLS, STAGE, STAGES, IMAGE, STALLS, INPUTS, PAR, PARS, WHOLE, BINDING, ADDRESS, HEDGE, LITS, STEP}
-use Rattle.kp_parse_grammar.specs.declared.token.{Keyword.Keyword, Mark.Mark}
-use Rattle.kp_parse_grammar.specs.declared.token.Keyword.TheVariants as keywords
-use Rattle.kp_parse_grammar.specs.declared.token.Mark.TheVariants as marks
+use Rattle.kp_lex.specs.declared.token.Keyword.TheVariants as keywords
+use Rattle.kp_lex.specs.declared.token.Mark.TheVariants as marks
 
 -- a name, a number or an expression, and a punctuator
 abbrev pub named_symbols : Mark → List Sym

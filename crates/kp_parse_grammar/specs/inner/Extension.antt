@@ -2,10 +2,11 @@
 use Rattle.std.specs.Prelude.{ℕ, ◌≡◌, ◌==◌, true, false}
 use Rattle.kp_ast.specs.declared.tree.{Expr.Expr, ExprKind.ExprKind, Num.Num}
 use Rattle.kp_ast.specs.declared.tree.ExprKind.TheViews as expressions
-use Rattle.kp_parse_grammar.specs.{declared.token.Keyword.Keyword, Tokens.IDENTIFIER, Tokens.LITERAL, Tokens.keyword_class, Tokens.mark_class}
+use Rattle.kp_lex.specs.declared.token.Keyword.{Keyword}
+use Rattle.kp_parse_grammar.specs.Tokens.{IDENTIFIER, LITERAL, keyword_class, mark_class}
 use Rattle.kp_parse_grammar.specs.Language.{Step, make_zext, make_sext}
-use Rattle.kp_parse_grammar.specs.declared.token.Keyword.TheVariants as keywords
-use Rattle.kp_parse_grammar.specs.declared.token.Mark.TheVariants as marks
+use Rattle.kp_lex.specs.declared.token.Keyword.TheVariants as keywords
+use Rattle.kp_lex.specs.declared.token.Mark.TheVariants as marks
 
 -- what the keyword builds
 abbrev pub extension_of : Keyword → Expr → Num → ExprKind

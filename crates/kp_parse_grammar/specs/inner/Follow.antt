@@ -1,8 +1,8 @@
 -- For each name its first and follow sets. Only proofs use these tables.
 use Rattle.std.specs.Prelude.{ℕ, List, [], ◌∷◌, true, false}
-use Rattle.kp_base.specs.Tables.{Tables, Row, END_OF_TEXT}
-use Rattle.kp_parse_grammar.specs.declared.token.Keyword.TheVariants as keywords
-use Rattle.kp_parse_grammar.specs.declared.token.Mark.TheVariants as marks
+use Rattle.kp_grammar.specs.Tables.{Tables, Row, END_OF_TEXT}
+use Rattle.kp_lex.specs.declared.token.Keyword.TheVariants as keywords
+use Rattle.kp_lex.specs.declared.token.Mark.TheVariants as marks
 use Rattle.kp_parse_grammar.specs.declared.level.Level.TheVariants as levels
 use Rattle.kp_parse_grammar.specs.Language.{JOB, DECLS, DECL, INDEX, ENABLE, PAR, PARS, STAGE, STAGES, STMTS, STMT, BINDING, ADDRESS, HEDGE, WHEN, WHOLE, IMAGE, WORDS, WORD, NUMBERED, LITS, STALLS, SPANS, SPAN, STEP, INPUTS, ENTRIES, ENTRY, EXPR, CHOICE, UNARY, POST, SLICES, LOW, PRIM, EXTENDED, CALL, EXPRS, PARTS, CHAIN, MORE}
 use Rattle.kp_parse_grammar.specs.Tokens.{IDENTIFIER, NUMBER, LITERAL, keyword_class, mark_class}

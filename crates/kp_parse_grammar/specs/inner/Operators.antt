@@ -3,8 +3,9 @@ use Rattle.std.specs.Prelude.{ℕ, ◌≡◌, ◌==◌, List, [], ◌∷◌, Opt
 use Rattle.kp_base.specs.declared.place.Place.{Place}
 use Rattle.kp_bits.specs.declared.operator.BinOp.{BinOp}
 use Rattle.kp_bits.specs.declared.operator.BinOp.TheVariants as ops
-use Rattle.kp_parse_grammar.specs.{declared.token.Mark.Mark, declared.level.Level.Level, Tokens.mark_class, Tokens.Lexeme, Reading.class_at, Reading.Finds}
-use Rattle.kp_parse_grammar.specs.declared.token.Mark.TheVariants as marks
+use Rattle.kp_lex.specs.declared.token.Mark.{Mark}
+use Rattle.kp_parse_grammar.specs.{declared.level.Level.Level, Tokens.mark_class, Tokens.Lexeme, Reading.class_at, Reading.Finds}
+use Rattle.kp_lex.specs.declared.token.Mark.TheVariants as marks
 use Rattle.kp_parse_grammar.specs.declared.level.Level.TheVariants as levels
 
 abbrev pub operators_of : Level → List (Mark × BinOp)

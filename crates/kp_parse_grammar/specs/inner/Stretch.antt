@@ -1,7 +1,7 @@
 -- A part of an alternative that is read by a function of its own: some symbols, in order.
 use Rattle.std.specs.Prelude.{ℕ, ◌+◌, ◌≤◌, List, [], ◌∷◌, ◌++◌, length, drop}
-use Rattle.kp_base.specs.{Grammar.Terminal, Grammar.Nonterminal, GrammarMachine.Outcome}
-use Rattle.kp_parse_grammar.specs.declared.token.Mark.TheVariants as marks
+use Rattle.kp_grammar.specs.{Grammar.Terminal, Grammar.Nonterminal, Machine.Outcome}
+use Rattle.kp_lex.specs.declared.token.Mark.TheVariants as marks
 use Rattle.kp_parse_grammar.specs.Language.{Sym, State, Value, Way, counts_one, opens, opens_at, at, counted, mark, separating, closing, NUM, LOW}
 use Rattle.kp_parse_grammar.specs.{declared.fault.Fault.Fault, Tokens.Lexeme, Reading.Goes, Reading.Faults}
 

@@ -1,7 +1,7 @@
 -- The grammar over classes of tokens, without what it builds.
 use Rattle.std.specs.Prelude.{ℕ, ◌≡◌, List, [], ◌∷◌, ◌++◌, map, reverse, slice_get, Bool, true, false, not, Some, ⊤}
-use Rattle.kp_base.specs.Grammar.{Symbol, Terminal, Nonterminal, Action, Rules, Grammar, Derives}
-use Rattle.kp_base.specs.{Tables.empty_of, GrammarMachine.Accepts, GrammarMachine.Leads}
+use Rattle.kp_grammar.specs.Grammar.{Symbol, Terminal, Nonterminal, Action, Rules, Grammar, Derives}
+use Rattle.kp_grammar.specs.{Tables.empty_of, Machine.Accepts, Machine.Leads}
 use Rattle.kp_parse_grammar.specs.Language.{rules, ADDRESS, BINDING, CALL, CHOICE, DECL, DECLS, ENABLE, ENTRIES, ENTRY, EXPR, EXPRS, EXTENDED, HEDGE, IMAGE, INDEX, INPUTS, JOB, LITS, LOW, NUMBERED, PAR, PARS, PARTS, POST, PRIM, SLICES, SPAN, SPANS, STAGE, STAGES, STALLS, STEP, STMT, STMTS, UNARY, WHEN, WHOLE, WORD, WORDS}
 use Rattle.kp_parse_grammar.specs.{Tokens.IDENTIFIER, Tokens.NUMBER, Tokens.LITERAL, Tokens.keyword_class, Tokens.mark_class, inner.Follow.tables}
 use Rattle.kp_view_expected.specs.{declared.token_class.TokenClass.TokenClass, GoesOn.all_classes, declared.part.Part.Part}

@@ -1,7 +1,7 @@
 -- The message for a text that is no sentence of the language, before it is written.
 use Rattle.std.specs.Prelude.{◌≡◌, ℕ, List, Option, MatchOption, Ok}
 use Rattle.kp_base.specs.declared.{place.Place.Place, refusal.Refusal.Refusal}
-use Rattle.kp_parse_grammar.specs.{Text.HasOutcome, declared.token.Token.Token, declared.token.Lexed.Lexed}
+use Rattle.kp_lex.specs.{Text.HasOutcome, declared.token.Token.Token, declared.token.Lexed.Lexed}
 use Rattle.kp_parse.specs.Sentence.{Breaks}
 use Rattle.kp_view_expected.specs.declared.set.Expected.{Expected}
 use Rattle.kp_view_help.specs.{Texts.found_text, declared.found.FoundToken.FoundToken}

@@ -3,7 +3,7 @@ use Rattle.std.specs.Prelude.{ℕ, ◌==◌, List, [], ◌∷◌, ◌++◌, take
 use Rattle.kp_ast.specs.declared.tree.Job.{Job}
 use Rattle.kp_machine.specs.Slots.{Slot, targets_of, samples_of, is_register}
 use Rattle.kp_net.specs.{declared.netlist.Port.Port, declared.netlist.NetReg.NetReg, declared.netlist.NetFile.NetFile, declared.netlist.Parts.Parts, Names.same}
-use Rattle.kp_sched.specs.Naming.{register_name, file_name}
+use Rattle.kp_implements.specs.Naming.{register_name, file_name}
 
 -- the first register with this name has this width
 abbrev pub has_register : List NetReg → List ℕ → ℕ → Bool

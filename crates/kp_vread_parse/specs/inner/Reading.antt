@@ -1,6 +1,6 @@
 -- The contracts of the parser's functions: the steps of the machine. Tokens are numbered from 0.
 use Rattle.std.specs.Prelude.{ℕ, ◌+◌, ◌≤◌, List, [], ◌∷◌, ◌++◌, length, drop, Bool, false}
-use Rattle.kp_base.specs.{Grammar.Nonterminal, GrammarMachine.Outcome, GrammarMachine.Stops, GrammarMachine.Leads, GrammarMachine.look}
+use Rattle.kp_grammar.specs.{Grammar.Nonterminal, Machine.Outcome, Machine.Stops, Machine.Leads, Machine.look}
 use Rattle.kp_vlog.specs.{Tokens.Token, Language.Sym, Language.Value, Language.MODULE, Language.verilog, inner.Follow.tables}
 use Rattle.kp_vread_parse.specs.declared.fault.Fault.{Fault}
 use Rattle.kp_vread_parse.specs.declared.fault.Fault.TheVariants as faults

@@ -1,7 +1,7 @@
 -- The tokens that parts of a module start with, and parts of a module that the grammar has no name for.
 use Rattle.std.specs.Prelude.{ℕ, List, [], ◌∷◌, ◌++◌}
 use Rattle.kp_bits.specs.declared.operator.BinOp.{BinOp}
-use Rattle.kp_base.specs.Grammar.{Terminal, Nonterminal, Action}
+use Rattle.kp_grammar.specs.Grammar.{Terminal, Nonterminal, Action}
 use Rattle.kp_vlog.specs.declared.token.Keyword.TheVariants as keywords
 use Rattle.kp_vlog.specs.Language.{Sym, dropped, word, mark, ID, NUM, LIT, keyword_class, mark_class, IDENTIFIER, WIRE, PORT, STALLS, SAMPLES, ITEMS, RIGHT, INITS, BODY, VALUES, UPDATES, no_ports, no_items, make_assign, two_names, no_inits, no_values, no_updates, first_update, update_reg, update_file}
 use Rattle.kp_vlog.specs.declared.token.Mark.{Mark}

@@ -5,7 +5,8 @@ use Rattle.kp_ast.specs.declared.tree.Job.{Job}
 use Rattle.kp_cycle.specs.Steps.{written_in}
 use Rattle.kp_machine.specs.{Slots.targets_of, Words.HasWord, Words.target}
 use Rattle.kp_net.specs.Netlist.{Net, last_of}
-use Rattle.kp_sched.specs.{Monitors.Kept, Naming.value_shown, Shows.IsOfJob}
+use Rattle.kp_sched.specs.Monitors.{Kept}
+use Rattle.kp_implements.specs.{Naming.value_shown, Shows.IsOfJob}
 use Rattle.kp_seq.specs.{Running.Running, Recorded.Recorded}
 use Rattle.kp_run.specs.{Cycles.input_at, Cycles.inputs_to, Homes.home_of, Homes.AreHomes, Places.place_in, Places.places_in, declared.places.Place.Place}
 use Rattle.kp_run.specs.declared.places.Place.TheVariants.{Register, File}

@@ -6,7 +6,7 @@ use Rattle.kp_ast.specs.declared.tree.{Decl.Decl, Job.Job}
 use Rattle.kp_ast.specs.declared.tree.Decl.TheVariants as decls
 use Rattle.kp_cycle.specs.Steps.{Running, reg_shown}
 use Rattle.kp_net.specs.Netlist.{Net, State}
-use Rattle.kp_sched.specs.Naming.{place_among, value_shown}
+use Rattle.kp_implements.specs.Naming.{place_among, value_shown}
 use Rattle.kp_vcd.specs.Recording.{Values}
 use Rattle.kp_watch.specs.Dumps.{register_values}
 

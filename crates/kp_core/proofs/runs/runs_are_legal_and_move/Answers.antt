@@ -1,5 +1,7 @@
 use Rattle.kp_machine.specs.Machine.{start_hints}
-use Rattle.kp_sched.{proofs.Runs.alike_moves, proofs.Runs.alike_stays, proofs.Legal.alike_is_legal_from, specs.Traces.inputs_seen}
+use Rattle.kp_sched.proofs.Runs.{alike_moves, alike_stays}
+use Rattle.kp_implements.proofs.Legal.{alike_is_legal_from}
+use Rattle.kp_implements.specs.Traces.{inputs_seen}
 use Rattle.kp_core.proofs.Beginning.{shown_along}
 use Rattle.kp_core.proofs.runs.runs_are_legal_and_move.Goals as goal
 

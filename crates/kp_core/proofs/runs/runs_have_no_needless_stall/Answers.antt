@@ -2,7 +2,7 @@ use Rattle.std.proofs.Common.{◌≡◌, List, sym, subst}
 use Rattle.kp_pipeline.specs.{RightPath.NoWrongGuess, RightPath.WaitsOnlyWhereItMust, RightPath.first_moment, Rows.Row, Rows.taken}
 use Rattle.kp_pipeline.specs.{SpeculativeTimeline.timeline_rows as path_rows, Timeline.start_hold}
 use Rattle.kp_machine.specs.Machine.{machine_of, start_hints}
-use Rattle.kp_sched.specs.Traces.{inputs_seen}
+use Rattle.kp_implements.specs.Traces.{inputs_seen}
 use Rattle.kp_core.proofs.Beginning.{shown_along}
 use Rattle.kp_core.proofs.runs.runs_have_no_needless_stall.Goals as goal
 

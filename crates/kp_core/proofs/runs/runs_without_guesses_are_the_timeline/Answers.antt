@@ -1,6 +1,6 @@
 use Rattle.std.proofs.Common.{◌∙◌}
 use Rattle.kp_machine.specs.Machine.{start_hints}
-use Rattle.kp_sched.specs.Traces.{inputs_seen}
+use Rattle.kp_implements.specs.Traces.{inputs_seen}
 use Rattle.kp_core.proofs.Beginning.{shown_along}
 use Rattle.kp_core.proofs.runs.runs_without_guesses_are_the_timeline.Goals as goal
 

@@ -1,7 +1,7 @@
 use Rattle.std.proofs.Common.{◌≡◌, ◌<◌, ◌∙◌, List, length, get_or, ap, sym, subst}
 use Rattle.kp_ast.specs.declared.tree.{Decl.Decl, Job.Job}
 use Rattle.kp_machine.specs.{Slots.targets_of, Words.no_slot}
-use Rattle.kp_sched.specs.Naming.{place_among, register_name, register_names}
+use Rattle.kp_implements.specs.Naming.{place_among, register_name, register_names}
 use Rattle.kp_debug_report.proofs.commands.register_of.Goals as goal
 
 pub register_at-requires : goal.register_at-requires

@@ -1,7 +1,7 @@
 use Rattle.std.proofs.Common.{◌<◌, ◌≤◌, ◌∙◌, ap, sym, arith}
 use Rattle.kp_machine.specs.Slots.{Slot}
 use Rattle.kp_tool_report.{specs.States.targets_in, proofs.Numbers.target_behind, proofs.Numbers.target_there, proofs.Numbers.none_left}
-use Rattle.kp_sched.specs.Naming.{place_among, register_name, register_names}
+use Rattle.kp_implements.specs.Naming.{place_among, register_name, register_names}
 use Rattle.kp_debug_report.proofs.numbers.register_at.Goals as goal
 
 pub register_for-requires : goal.register_for-requires

@@ -1,7 +1,7 @@
 use Rattle.std.{proofs.Common.◌<◌, proofs.Common.drop, specs.Prelude.IfSome, specs.Prelude.Some}
 use Rattle.kp_diagram_text.specs.{inner.Writing.WroteUpTo, Charts.ext_of, Charts.names_of}
 use Rattle.kp_sched.specs.Rows.{rows_seen}
-use Rattle.kp_pipeline.specs.Diagram.{cells_from}
+use Rattle.kp_diagram.specs.Diagram.{cells_from}
 use Rattle.kp_diagram_svg.specs.Rows.{cells_text}
 use Rattle.kp_diagram_svg.proofs.cells.write_cells.Given as goal
 

@@ -1,5 +1,6 @@
 use Rattle.std.proofs.Common.{◌∙◌, List, ap, refl, sym, length, take, arith}
-use Rattle.kp_pipeline.specs.{Rows.counts, Diagram.Fetch}
+use Rattle.kp_pipeline.specs.Rows.{counts}
+use Rattle.kp_diagram.specs.Diagram.{Fetch}
 use Rattle.kp_sched.specs.Rows.{rows_seen}
 use Rattle.kp_diagram_text.{specs.Charts.ext_of, proofs.Fetches.fetches_end, proofs.Fetches.fetches_step}
 use Rattle.kp_diagram_svg.proofs.Steps.{length_next, row_after_few}

@@ -1,5 +1,6 @@
 use Rattle.std.proofs.Common.{◌≡◌, ◌+◌, ◌≤◌, length, drop, take}
-use Rattle.kp_pipeline.specs.{Rows.counts, Diagram.diagram, Diagram.fetches_from}
+use Rattle.kp_pipeline.specs.Rows.{counts}
+use Rattle.kp_diagram.specs.Diagram.{diagram, fetches_from}
 use Rattle.kp_sched.specs.Rows.{rows_seen}
 use Rattle.kp_diagram_text.specs.Charts.{ext_of, rows_of}
 use Rattle.kp_diagram_svg.proofs.rows.count_rows.Given as goal

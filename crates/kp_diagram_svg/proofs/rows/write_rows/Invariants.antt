@@ -1,6 +1,7 @@
 use Rattle.std.proofs.Common.{◌≡◌, ◌≤◌, drop, take}
 use Rattle.kp_diagram_text.specs.{inner.Writing.WroteUpTo, Charts.ext_of, Charts.names_of, Charts.rows_of}
-use Rattle.kp_pipeline.specs.{Rows.counts, Diagram.diagram, Diagram.fetches_from}
+use Rattle.kp_pipeline.specs.Rows.{counts}
+use Rattle.kp_diagram.specs.Diagram.{diagram, fetches_from}
 use Rattle.kp_sched.specs.{Monitors.HasSeen, Rows.rows_seen}
 use Rattle.kp_diagram_svg.specs.Rows.{rows_text}
 use Rattle.kp_diagram_svg.proofs.rows.write_rows.Given as goal

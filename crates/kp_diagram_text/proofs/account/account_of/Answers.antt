@@ -1,6 +1,6 @@
 use Rattle.std.proofs.Common.{◌∙◌, ℕ, ◌+◌, ◌-◌, ap, refl, arith, option_map, replicate}
 use Rattle.std.proofs.lemmas.List.{drop_all, get_or-replicate}
-use Rattle.kp_pipeline.specs.{Diagram.account, DiagramClaims.cycles_of}
+use Rattle.kp_diagram.specs.{Diagram.account, Claims.cycles_of}
 use Rattle.kp_diagram_text.specs.{Charts.ext_of, Charts.rows_of, Losses.account_shown, Losses.loss_shown, Losses.losses_shown}
 use Rattle.kp_diagram_text.proofs.Accounts.{account-end, account-first, account-next, cycles-more}
 use Rattle.kp_diagram_text.specs.declared.account.Loss.TheVariants as losses

@@ -1,6 +1,6 @@
 use Rattle.std.proofs.Common.{◌≡◌, length, drop}
 use Rattle.kp_sched.specs.Rows.{rows_seen}
-use Rattle.kp_pipeline.specs.{Diagram.account, Diagram.spent_from, DiagramClaims.cycles_of}
+use Rattle.kp_diagram.specs.{Diagram.account, Diagram.spent_from, Claims.cycles_of}
 use Rattle.kp_diagram_text.{specs.Charts.ext_of, specs.Charts.rows_of, specs.Losses.account_shown, specs.Losses.losses_shown, proofs.Accounts.onto}
 use Rattle.kp_diagram_text.proofs.account.account_of.Given as goal
 

@@ -1,6 +1,6 @@
 use Rattle.std.proofs.Common.{rules, ◌+◌}
 use Rattle.kp_sched.specs.Rows.{bit_of, row_seen}
-use Rattle.kp_pipeline.specs.Diagram.{losses_after as next_losses}
+use Rattle.kp_diagram.specs.Diagram.{losses_after as next_losses}
 use Rattle.kp_diagram_text.{specs.Losses.losses_shown, proofs.Losses.set_above}
 use Rattle.kp_diagram_text.proofs.account.losses_after.Goals as goal
 

@@ -1,6 +1,6 @@
 use Rattle.std.proofs.Common.{◌≡◌, ℕ, ◌+◌, ◌≤◌, length}
 use Rattle.kp_sched.specs.Rows.{bit_of, row_seen}
-use Rattle.kp_pipeline.specs.Diagram.{losses_after as next_losses}
+use Rattle.kp_diagram.specs.Diagram.{losses_after as next_losses}
 use Rattle.kp_diagram_text.specs.Losses.{losses_shown}
 use Rattle.kp_diagram_text.proofs.account.losses_after.Given as goal
 

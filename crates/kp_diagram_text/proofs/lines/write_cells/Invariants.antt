@@ -1,6 +1,6 @@
 use Rattle.std.{proofs.Common.◌<◌, proofs.Common.drop, specs.Prelude.IfSome, specs.Prelude.Some}
 use Rattle.kp_sched.specs.Rows.{rows_seen}
-use Rattle.kp_pipeline.specs.Diagram.{cells_from}
+use Rattle.kp_diagram.specs.Diagram.{cells_from}
 use Rattle.kp_diagram_text.specs.{Charts.ext_of, Charts.names_of, Text.cells_text, inner.Writing.WroteUpTo}
 use Rattle.kp_diagram_text.proofs.lines.write_cells.Given as goal
 

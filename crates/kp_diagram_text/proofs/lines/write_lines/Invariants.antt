@@ -1,5 +1,6 @@
 use Rattle.std.proofs.Common.{◌≡◌, drop, take}
-use Rattle.kp_pipeline.specs.{Rows.counts, Diagram.diagram, Diagram.fetches_from}
+use Rattle.kp_pipeline.specs.Rows.{counts}
+use Rattle.kp_diagram.specs.Diagram.{diagram, fetches_from}
 use Rattle.kp_sched.specs.{Monitors.HasSeen, Rows.rows_seen}
 use Rattle.kp_diagram_text.specs.{Charts.ext_of, Charts.names_of, Charts.rows_of, Text.lines_text, inner.Writing.WroteUpTo}
 use Rattle.kp_diagram_text.proofs.lines.write_lines.Given as goal

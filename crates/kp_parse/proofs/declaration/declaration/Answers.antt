@@ -1,7 +1,8 @@
 use Rattle.std.proofs.Common.{ℕ, ◌≡◌, ◌==◌, true, Option, Some, sym, ap, ◌∙◌}
-use Rattle.kp_parse_grammar.specs.{declared.token.Keyword.Keyword, declared.token.TokenKind.TokenKind, Tokens.keyword_class, Reading.class_of}
-use Rattle.kp_parse_grammar.specs.declared.token.Keyword.TheVariants as keywords
-use Rattle.kp_parse_grammar.specs.declared.token.TokenKind.TheVariants as kinds
+use Rattle.kp_lex.specs.declared.token.{Keyword.Keyword, TokenKind.TokenKind}
+use Rattle.kp_parse_grammar.specs.{Tokens.keyword_class, Reading.class_of}
+use Rattle.kp_lex.specs.declared.token.Keyword.TheVariants as keywords
+use Rattle.kp_lex.specs.declared.token.TokenKind.TheVariants as kinds
 use Rattle.kp_parse.proofs.declaration.declaration.Goals as goal
 
 -- the class of the keyword that was found

@@ -1,5 +1,6 @@
 use Rattle.std.proofs.{Common.refl, Common.ap, Common.◌∙◌, Common.length, Common.arith, lemmas.List.length-map}
-use Rattle.kp_parse_grammar.{proofs.Counted.tokens_within, specs.Tokens.lexeme_of, specs.Tokens.lexemes}
+use Rattle.kp_lex.proofs.Counted.{tokens_within}
+use Rattle.kp_parse_grammar.specs.Tokens.{lexeme_of, lexemes}
 use Rattle.kp_parse.specs.Sentence.{Breaks}
 use Rattle.kp_parse.proofs.Text.{spelled_all, is_tree, is_only, is_wrong, is_too_deep, no_tree_wrong, no_tree_deep}
 use Rattle.kp_parse.proofs.job.parse.Goals as goal

@@ -1,5 +1,5 @@
 use Rattle.std.proofs.Common.{[], ◌∷◌, length, drop}
-use Rattle.kp_base.specs.Grammar.{Nonterminal}
+use Rattle.kp_grammar.specs.Grammar.{Nonterminal}
 use Rattle.kp_parse_grammar.specs.{Language.LITS, Language.literals, Reading.TurnsYet}
 use Rattle.kp_parse.proofs.sections.literals.Given as goal
 

@@ -1,6 +1,6 @@
 -- Each return value specifies the steps of the machine.
 use Rattle.std.proofs.Common.{arith, sym, ◌∙◌}
-use Rattle.kp_base.specs.GrammarMachine.{make}
+use Rattle.kp_grammar.specs.Machine.{make}
 use Rattle.kp_parse_grammar.proofs.Steps.{by_dropped, by_placed, by_closed, by_separated, by_counted, by_opened, by_opened_at, over_counted, over_opened, one, exits, exceeds, extends}
 use Rattle.kp_parse_grammar.proofs.Picks.{expr_is, choice_1, choice_else, unary_1, post_is, slices_1, slices_else, prim_name, prim_bracket, prim_concat, prim_extended, extended_is, call_1, call_else, exprs_are, parts_1, parts_else}
 use Rattle.kp_parse_grammar.proofs.Operators.{chain_start, more_start, more_none, operators_go_on, compare_ends, post_reads}

@@ -1,5 +1,5 @@
 use Rattle.std.proofs.Common.{arith}
-use Rattle.kp_base.specs.GrammarMachine.{make}
+use Rattle.kp_grammar.specs.Machine.{make}
 use Rattle.kp_parse_grammar.proofs.{Steps.exits, Picks.prim_literal}
 use Rattle.kp_parse_grammar.proofs.expression.literal.Goals as goal
 

@@ -1,5 +1,5 @@
 use Rattle.std.proofs.{Common.arith, lemmas.Result.MatchResult-weaker}
-use Rattle.kp_base.specs.GrammarMachine.{make}
+use Rattle.kp_grammar.specs.Machine.{make}
 use Rattle.kp_parse_grammar.proofs.{Steps.by_dropped, Steps.one, Steps.passed, Picks.low_1, Picks.low_else}
 use Rattle.kp_parse_grammar.proofs.expression.low_of.Goals as goal
 

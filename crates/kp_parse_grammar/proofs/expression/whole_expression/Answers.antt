@@ -1,4 +1,4 @@
-use Rattle.kp_base.specs.GrammarMachine.{make}
+use Rattle.kp_grammar.specs.Machine.{make}
 use Rattle.kp_parse_grammar.proofs.{Steps.exits, Picks.whole_is}
 use Rattle.kp_parse_grammar.proofs.expression.whole_expression.Goals as goal
 

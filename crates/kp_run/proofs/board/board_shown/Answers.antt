@@ -1,6 +1,6 @@
 use Rattle.std.proofs.Common.{◌∙◌, ap}
 use Rattle.kp_net.specs.Netlist.{Net, State}
-use Rattle.kp_sched.specs.Naming.{value_shown}
+use Rattle.kp_implements.specs.Naming.{value_shown}
 use Rattle.kp_run.proofs.Due.{shown_is_due}
 use Rattle.kp_run.proofs.board.board_shown.Goals as goal
 

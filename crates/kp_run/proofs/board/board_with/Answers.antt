@@ -1,6 +1,6 @@
 use Rattle.std.proofs.Common.{◌≡◌, Some, None, ap, subst}
 use Rattle.std.specs.Prelude.{MatchOption, unwrap_or}
-use Rattle.kp_sched.specs.Naming.{value_shown}
+use Rattle.kp_implements.specs.Naming.{value_shown}
 use Rattle.kp_run.{specs.Boards.due_behind, specs.inner.Finals.AreFinals, proofs.Due.counts_are, proofs.Due.finals_alike}
 use Rattle.kp_run.proofs.board.board_with.Goals as goal
 

@@ -1,7 +1,7 @@
 use Rattle.std.proofs.Common.{◌≡◌, ◌<◌, ℕ, length, get_or}
 use Rattle.kp_bits.specs.Word.{word}
 use Rattle.kp_machine.specs.Words.{target}
-use Rattle.kp_sched.specs.Naming.{value_shown}
+use Rattle.kp_implements.specs.Naming.{value_shown}
 use Rattle.kp_run.proofs.finals.words_of.Given as goal
 
 abbrev pub invariant-loop-address : goal.invariant-loop-address

@@ -2,7 +2,7 @@ use Rattle.std.proofs.Common.{◌∙◌, ◌<◌, length, length-set, ap, arith,
 use Rattle.std.proofs.lemmas.List.Elements.{All-get_or}
 use Rattle.kp_cycle.specs.Steps.{Running}
 use Rattle.kp_synth.specs.Carrying.{Carries}
-use Rattle.kp_sched.specs.Shows.{Shows}
+use Rattle.kp_implements.specs.Shows.{Shows}
 use Rattle.kp_stalls.specs.declared.cause.Line.{Line}
 use Rattle.kp_stalls_run.specs.{Runs.line_with, inner.Replays.no_line, inner.Replays.run_at}
 use Rattle.kp_stalls_run.proofs.Values.{fill_done, fill_end, fill_rest, own_net, same_there}

@@ -1,7 +1,8 @@
 use Rattle.std.proofs.Common.{◌≡◌, ◌∙◌, ℕ, ◌+◌, ◌<◌, Some, length, get_or, slice_index_or, ap, sym, subst, arith}
 use Rattle.std.proofs.lemmas.{Bool.eqb-false, List.Elements.All-map}
 use Rattle.kp_bits.specs.Word.{Word}
-use Rattle.kp_pipeline.specs.{Pipeline.Inputs, RightPath.IsRightFrom, RightPath.first_moment, RightPath.held, Rows.Row, Rows.row, DiagramClaims.stalls_of}
+use Rattle.kp_pipeline.specs.{Pipeline.Inputs, RightPath.IsRightFrom, RightPath.first_moment, RightPath.held, Rows.Row, Rows.row}
+use Rattle.kp_diagram.specs.Claims.{stalls_of}
 use Rattle.kp_stage.specs.Start.{start_of}
 use Rattle.kp_machine.specs.Machine.{inputs_at, inputs_from, machine_of, sequential, start_hints, state_of}
 use Rattle.kp_stalls.specs.{declared.cause.Cause.Cause, declared.cause.Line.Line, Claims.IsCause, Claims.read_site, Claims.run_rows}

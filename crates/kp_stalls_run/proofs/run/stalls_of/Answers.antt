@@ -1,7 +1,8 @@
 use Rattle.std.proofs.Common.{◌≡◌, ◌∙◌, ◌++◌, ◌<◌, ℕ, List, ap, arith, drop, length, map, subst, sym, take}
 use Rattle.std.{proofs.Math.Seq.take-append_seam, specs.List.All}
-use Rattle.kp_stalls_run.{specs.Figures.IsRunOf, specs.Runs.line_with, specs.Runs.run_lines, proofs.Jobs.job_lines, proofs.Jobs.run_close}
-use Rattle.kp_stalls_run.proofs.Values.{lines_below}
+use Rattle.kp_diagram_run.specs.Figures.{IsRunOf}
+use Rattle.kp_stalls_run.specs.Runs.{line_with, run_lines}
+use Rattle.kp_stalls_run.proofs.{Jobs.job_lines, Jobs.run_close, Values.lines_below}
 use Rattle.kp_stalls.specs.declared.cause.Line.{Line}
 use Rattle.kp_stalls_run.proofs.run.stalls_of.Goals as goal
 

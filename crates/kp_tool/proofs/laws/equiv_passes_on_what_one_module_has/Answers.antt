@@ -1,4 +1,4 @@
-use Rattle.kp_sched.specs.Legal.{IsLegalFrom}
+use Rattle.kp_implements.specs.Legal.{IsLegalFrom}
 use Rattle.kp_tool.specs.Headline.{IsMoving, HasNoNeedlessStallFrom}
 use Rattle.kp_tool.proofs.Headline.{pair_with, legal_alike, moves_alike, waits_alike}
 use Rattle.kp_tool.proofs.laws.equiv_passes_on_what_one_module_has.Goals as goal

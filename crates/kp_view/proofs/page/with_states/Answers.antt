@@ -4,7 +4,7 @@ use Rattle.kp_bits.specs.Word.{Word}
 use Rattle.kp_cycle.specs.Steps.{Running}
 use Rattle.kp_frontend.proofs.Given.{starts}
 use Rattle.kp_run.proofs.Given.{as_feeds}
-use Rattle.kp_sched.specs.Shows.{Shows}
+use Rattle.kp_implements.specs.Shows.{Shows}
 use Rattle.kp_diagram_text.specs.Charts.{figure_of, rows_of}
 use Rattle.kp_page.specs.{Runs.after_cycles, States.states_text, Page.page as page_text}
 use Rattle.kp_paths.specs.Text.{paths_text}

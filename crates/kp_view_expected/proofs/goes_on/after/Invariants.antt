@@ -1,5 +1,5 @@
 use Rattle.std.proofs.Common.{map, drop}
-use Rattle.kp_parse_grammar.specs.declared.token.Token.{Token}
+use Rattle.kp_lex.specs.declared.token.Token.{Token}
 use Rattle.kp_view_expected.specs.{GoesOn.class_of, inner.Plain.stack, inner.Plain.Follows}
 use Rattle.kp_view_expected.proofs.goes_on.after.Given as goal
 

@@ -1,5 +1,5 @@
 use Rattle.std.proofs.Common.{◌∙◌, sym, arith, refl}
-use Rattle.kp_base.specs.GrammarMachine.{goes}
+use Rattle.kp_grammar.specs.Machine.{goes}
 use Rattle.kp_vread_parse.proofs.{Steps.exits, Steps.follows, Picks.other}
 use Rattle.kp_vread_parse.proofs.edges.condition.Goals as goal
 

@@ -1,5 +1,5 @@
 use Rattle.std.proofs.Common.{◌∙◌, sym, arith}
-use Rattle.kp_base.specs.GrammarMachine.{make, goes}
+use Rattle.kp_grammar.specs.Machine.{make, goes}
 use Rattle.kp_vread_parse.proofs.{Picks.chosen, Picks.unchosen, Steps.exits}
 use Rattle.kp_vread_parse.proofs.edges.updates.Goals as goal
 

@@ -1,5 +1,5 @@
 use Rattle.std.proofs.Common.{[], ◌∷◌, length, drop}
-use Rattle.kp_base.specs.Grammar.{Nonterminal}
+use Rattle.kp_grammar.specs.Grammar.{Nonterminal}
 use Rattle.kp_vlog.specs.Language.{UPDATES, updates}
 use Rattle.kp_vread_parse.specs.inner.Reading.{TurnsYet}
 use Rattle.kp_vread_parse.proofs.edges.updates.Given as goal

@@ -1,5 +1,5 @@
 use Rattle.std.proofs.Common.{arith, refl}
-use Rattle.kp_base.specs.GrammarMachine.{make}
+use Rattle.kp_grammar.specs.Machine.{make}
 use Rattle.kp_vread_parse.proofs.{Steps.exits, Picks.goes_at}
 use Rattle.kp_vread_parse.proofs.inits.fill.Goals as goal
 

@@ -1,5 +1,5 @@
 use Rattle.std.proofs.Common.{◌∙◌, sym, arith, refl}
-use Rattle.kp_base.specs.GrammarMachine.{make, goes}
+use Rattle.kp_grammar.specs.Machine.{make, goes}
 use Rattle.kp_vread_parse.proofs.{Steps.exits, Picks.other}
 use Rattle.kp_vread_parse.proofs.inits.start.Goals as goal
 

@@ -1,5 +1,5 @@
 use Rattle.std.proofs.Common.{arith}
-use Rattle.kp_base.specs.GrammarMachine.{make}
+use Rattle.kp_grammar.specs.Machine.{make}
 use Rattle.kp_vread_parse.proofs.Steps.{exits, passed}
 use Rattle.kp_vread_parse.proofs.items.assignment.Goals as goal
 

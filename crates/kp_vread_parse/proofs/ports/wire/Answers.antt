@@ -1,5 +1,5 @@
 use Rattle.std.proofs.Common.{arith, refl}
-use Rattle.kp_base.specs.GrammarMachine.{goes}
+use Rattle.kp_grammar.specs.Machine.{goes}
 use Rattle.kp_vread_parse.proofs.Picks.{goes_at, other}
 use Rattle.kp_vread_parse.proofs.ports.wire.Goals as goal
 

@@ -1,5 +1,5 @@
 use Rattle.std.proofs.Common.{◌∙◌, sym, arith}
-use Rattle.kp_base.specs.GrammarMachine.{make}
+use Rattle.kp_grammar.specs.Machine.{make}
 use Rattle.kp_vread_parse.proofs.{Picks.names_none, Picks.names_some, Steps.exits}
 use Rattle.kp_vread_parse.proofs.rights.more_names.Goals as goal
 

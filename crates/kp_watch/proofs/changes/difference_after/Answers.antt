@@ -1,6 +1,6 @@
 use Rattle.std.proofs.Common.{◌<◌, arith, length}
 use Rattle.kp_machine.specs.Slots.{targets_of}
-use Rattle.kp_sched.specs.Naming.{value_shown}
+use Rattle.kp_implements.specs.Naming.{value_shown}
 use Rattle.kp_watch.{specs.inner.Machines.due_by, proofs.Comparing.target_more, proofs.Comparing.first_in}
 use Rattle.kp_run.proofs.Placing.{few_targets, as_many}
 use Rattle.kp_watch.proofs.changes.difference_after.Goals as goal

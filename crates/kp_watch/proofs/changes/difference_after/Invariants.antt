@@ -1,4 +1,4 @@
-use Rattle.kp_sched.specs.Naming.{value_shown}
+use Rattle.kp_implements.specs.Naming.{value_shown}
 use Rattle.kp_watch.specs.inner.{Comparing.AgreeBelow, Machines.due_by}
 use Rattle.kp_watch.proofs.changes.difference_after.Given as goal
 

@@ -1,6 +1,6 @@
 use Rattle.std.proofs.Common.{Option, sym, subst}
 use Rattle.kp_seq.specs.Running.{state}
-use Rattle.kp_sched.specs.Naming.{value_shown}
+use Rattle.kp_implements.specs.Naming.{value_shown}
 use Rattle.kp_watch.{specs.inner.Comparing.ComparesTarget, proofs.Comparing.lower_first}
 use Rattle.kp_run.specs.declared.difference.Difference.{Difference}
 use Rattle.kp_watch.proofs.changes.difference_among.Goals as goal

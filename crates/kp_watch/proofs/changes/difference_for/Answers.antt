@@ -2,7 +2,7 @@ use Rattle.std.proofs.Common.{◌≡◌, ◌∙◌, ◌<◌, ap, sym, subst, ari
 use Rattle.kp_ast.specs.declared.tree.Job.{Job}
 use Rattle.kp_machine.specs.{Slots.targets_of, Words.target}
 use Rattle.kp_seq.specs.Running.{state}
-use Rattle.kp_sched.specs.Shows.{IsOfJob}
+use Rattle.kp_implements.specs.Shows.{IsOfJob}
 use Rattle.kp_run.specs.Places.{place_in}
 use Rattle.kp_watch.{specs.inner.Changes.noted_at, specs.inner.Machines.due_by, proofs.Comparing.target_alike}
 use Rattle.kp_watch.proofs.Targets.{place_is, home_is, number_is, machine_is, record_is, file_noted, wrote_fits, agree_here}

@@ -1,5 +1,5 @@
 use Rattle.kp_seq.specs.Running.{state}
-use Rattle.kp_sched.specs.Naming.{value_shown}
+use Rattle.kp_implements.specs.Naming.{value_shown}
 use Rattle.kp_watch.proofs.Comparing.{first_at}
 use Rattle.kp_watch.proofs.compare.difference_at.Goals as goal
 

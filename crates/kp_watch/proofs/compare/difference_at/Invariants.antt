@@ -1,6 +1,6 @@
 use Rattle.std.proofs.Common.{◌≡◌, ◌<◌, ℕ}
 use Rattle.kp_seq.specs.Running.{state}
-use Rattle.kp_sched.specs.Naming.{value_shown}
+use Rattle.kp_implements.specs.Naming.{value_shown}
 use Rattle.kp_watch.proofs.compare.difference_at.Given as goal
 
 abbrev pub invariant-loop-address : goal.invariant-loop-address

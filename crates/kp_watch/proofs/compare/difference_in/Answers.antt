@@ -2,7 +2,7 @@ use Rattle.std.proofs.Common.{◌∙◌, ◌<◌, arith, sym, subst, length}
 use Rattle.kp_ast.specs.declared.tree.Job.{Job}
 use Rattle.kp_machine.specs.{Slots.targets_of, Words.target}
 use Rattle.kp_seq.specs.Running.{state}
-use Rattle.kp_sched.specs.{Naming.value_shown, Shows.IsOfJob}
+use Rattle.kp_implements.specs.{Naming.value_shown, Shows.IsOfJob}
 use Rattle.kp_run.{specs.Places.place_in, proofs.Placing.few_targets, proofs.Placing.as_many, proofs.Placing.place_at}
 use Rattle.kp_watch.specs.inner.Machines.{due_by}
 use Rattle.kp_watch.proofs.{Comparing.first_at_alike, Comparing.agree_alike, Comparing.target_more, Comparing.first_in, Lanes.machine_at}

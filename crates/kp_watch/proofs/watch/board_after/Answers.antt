@@ -1,6 +1,6 @@
 use Rattle.std.proofs.Common.{◌≡◌, ◌∙◌, ap}
 use Rattle.kp_net.specs.Netlist.{State}
-use Rattle.kp_sched.specs.Naming.{value_shown}
+use Rattle.kp_implements.specs.Naming.{value_shown}
 use Rattle.kp_watch.proofs.Whole.{last_is_due}
 use Rattle.kp_watch.proofs.watch.board_after.Goals as goal
 

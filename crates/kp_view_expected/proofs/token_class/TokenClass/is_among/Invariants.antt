@@ -1,5 +1,5 @@
 use Rattle.std.proofs.Common.{◌≡◌, map, drop}
-use Rattle.kp_base.specs.Tables.{among}
+use Rattle.kp_grammar.specs.Tables.{among}
 use Rattle.kp_view_expected.specs.inner.Plain.{number}
 use Rattle.kp_view_expected.proofs.token_class.TokenClass.is_among.Given as goal
 

@@ -1,5 +1,0 @@
-use Rattle.kp_base.proofs.Derivations.{over_at}
-use Rattle.kp_base.proofs.grammar.an_excess_is_the_first.Goals as goal
-
-pub returns : goal.returns
-returns types c g tables n p over limit v ts k z l = over_at g tables n p over limit z l

@@ -1,5 +1,0 @@
-use Rattle.kp_base.proofs.Derivations.{over_ends}
-use Rattle.kp_base.proofs.grammar.an_excess_stays.Goals as goal
-
-pub returns : goal.returns
-returns types c g tables n p over limit v w ts k o d = over_ends g tables n p over limit o d

@@ -1,5 +1,0 @@
-use Rattle.kp_base.proofs.Derivations.{computed}
-use Rattle.kp_base.proofs.grammar.computed_steps_are_a_derivation.Goals as goal
-
-pub returns : goal.returns
-returns types c g tables k s s' v v' ts left config e d = computed g tables k e d

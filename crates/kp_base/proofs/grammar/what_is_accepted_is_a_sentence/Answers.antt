@@ -1,5 +1,0 @@
-use Rattle.kp_base.proofs.Derivations.{sentence}
-use Rattle.kp_base.proofs.grammar.what_is_accepted_is_a_sentence.Goals as goal
-
-pub returns : goal.returns
-returns types c g tables n p over v w ts l = sentence g tables n p l

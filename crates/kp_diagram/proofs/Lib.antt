@@ -1,0 +1,5 @@
+pub mod Adding
+pub mod Steps
+pub mod Cells
+pub mod Retired
+pub mod Causes

@@ -1,0 +1,4 @@
+pub mod Alike
+pub mod Words
+pub mod Figures
+pub mod Shown

@@ -1,0 +1,5 @@
+pub mod Grammar
+pub mod Tables
+pub mod Machine
+pub mod Ranks
+pub mod Sample

@@ -1,0 +1,7 @@
+pub mod Fits
+pub mod Along
+pub mod Outcome
+pub mod Stands
+pub mod Names
+pub mod Counted
+pub mod Lengths

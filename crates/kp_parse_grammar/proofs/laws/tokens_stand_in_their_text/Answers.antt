@@ -1,5 +1,0 @@
-use Rattle.kp_parse_grammar.proofs.Stands.{tokens_stand}
-use Rattle.kp_parse_grammar.proofs.laws.tokens_stand_in_their_text.Goals as goal
-
-pub returns : goal.returns
-returns c = tokens_stand

@@ -1,5 +1,0 @@
-use Rattle.kp_pipeline.{specs.DiagramClaims.stalls_of, proofs.Retired.retired-in_order}
-use Rattle.kp_pipeline.proofs.diagram.retired_lines_are_in_order.Goals as goal
-
-pub returns : goal.returns
-returns c = λ m s hints ins last acc e. retired-in_order m acc (stalls_of ins) s hints ins last e

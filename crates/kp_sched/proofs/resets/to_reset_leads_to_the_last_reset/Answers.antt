@@ -1,8 +1,0 @@
-use Rattle.kp_sched.proofs.Anew.{quiet_behind, reset_there}
-use Rattle.kp_sched.proofs.resets.to_reset_leads_to_the_last_reset.Goals as goal
-
-pub returns-clause-quiet : goal.returns-clause-quiet
-returns-clause-quiet c = quiet_behind
-
-pub returns-clause-raised : goal.returns-clause-raised
-returns-clause-raised c = reset_there

@@ -1,5 +1,0 @@
-use Rattle.kp_stalls_run.proofs.Shown.{shows-run}
-use Rattle.kp_stalls_run.proofs.laws.a_figure_shows_the_run.Goals as goal
-
-pub returns : goal.returns
-returns c = shows-run c.args.job.now.design.job c.a_design_is_accepted.ensures
