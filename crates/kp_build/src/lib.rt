@@ -1,9 +1,9 @@
 //! Building the nodes of expressions.
 #![tactic(auto)]
 
+mod concatenation;
 mod env;
 mod expression;
-mod joined;
 mod operation;
 mod walk;
 

@@ -7,8 +7,8 @@ ghost use Rattle.kp_net.specs.Growth.{Held, Grown};
 ghost use Rattle.kp_build.specs.Names.{AreInside, IsSound, Gives};
 ghost use Rattle.kp_build.specs.inner.Showing.{IsThere, Shows, AllShow, AllInside, words_at, values_in};
 
+use crate::concatenation::joined;
 use crate::env::Env;
-use crate::joined::joined;
 use crate::operation::{chosen, inverted, number, operated, sign_extended, sliced, zero_extended};
 use kp_ast::{Decl, Expr, ExprKind, Name};
 use kp_base::NoMemory;

@@ -15,7 +15,7 @@ use Rattle.kp_sched.specs.Rows.{rows_seen, bit_of}
 use Rattle.kp_sched.proofs.Counting.{seen_length}
 use Rattle.kp_implements.specs.{Naming.value_of, Naming.value_shown, Shows.Shows, Legal.value_from, Legal.IsLegalFrom, Anew.trace_from, Anew.BeginsAnew}
 use Rattle.kp_implements.specs.Traces.{input_seen, inputs_seen, no_state, AreQuiet}
-use Rattle.kp_synth_close.specs.Shows.{HoldsFrom}
+use Rattle.kp_synth_next.specs.Shows.{HoldsFrom}
 use Rattle.kp_synth_registers.specs.Holding.{word_bit}
 use Rattle.kp_synth_tables.specs.{Spans.put_after, Keys.target_at, Keys.pipe_at, Keys.is_alive, Keys.place_of, declared.key.Key.TheVariants.Pipe}
 use Rattle.kp_synth.specs.Carrying.{Carries}

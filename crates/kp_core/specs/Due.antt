@@ -9,7 +9,7 @@ use Rattle.kp_stage.specs.Counts.{summary_of}
 use Rattle.kp_net.specs.{Netlist.Net, Names.IsNamed, Widths.Distinct}
 use Rattle.kp_vlog.specs.{Canon.canon, Denote.Denotes}
 use Rattle.kp_implements.specs.{Shows.Shows, Shows.IsInOrder, Anew.BeginsAnew}
-use Rattle.kp_synth_close.specs.Bound.{node_bound}
+use Rattle.kp_synth_next.specs.Bound.{node_bound}
 use Rattle.kp_synth.specs.Carrying.{Carries}
 use Rattle.kp_view_texts.specs.Heads.{rule_head}
 use Rattle.kp_core_ports.specs.{declared.port.Port.Port, declared.port.PortRefusal.PortRefusal, Ports.ports_of, Core.core_text, Names.names_text}

@@ -11,13 +11,13 @@ mod names;
 mod pieces;
 mod port;
 mod port_text;
-mod reading;
+mod reader;
 mod slots;
 mod table;
 mod text;
 mod words;
 
 pub use port::{Ask, Port, PortRefusal, PortRule, PortsRefused};
-pub use reading::read_ports;
+pub use reader::read_ports;
 pub use table::names_text;
 pub use text::core_text;

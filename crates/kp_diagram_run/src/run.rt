@@ -2,7 +2,7 @@
 ghost use Rattle.std.specs.Prelude.{◌≡◌, ◌≤◌, ◌<◌, ℕ, true, length, get_or, map, string_bytes, IfOk};
 ghost use Rattle.kp_machine.specs.Machine.{inputs_from, pipe_of};
 ghost use Rattle.kp_sched.specs.Rows.{rows_seen};
-ghost use Rattle.kp_frontend.specs.Spans.{word_in};
+ghost use Rattle.kp_image.specs.Spans.{word_in};
 ghost use Rattle.kp_diagram_text.specs.Charts.{IsDrawable, are_names, figure_of, rows_of};
 ghost use Rattle.kp_diagram_run.specs.{Figures.IsRunOf, Figures.job_figure, Figures.job_rows, inner.Words.words_to};
 

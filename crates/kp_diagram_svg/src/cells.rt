@@ -9,7 +9,7 @@ ghost use Rattle.kp_diagram_text.specs.Text.{stage_name};
 ghost use Rattle.kp_diagram_svg.specs.Rows.{cell_start, cells_text, look};
 
 use crate::columns::middle;
-use crate::filling::write_filled;
+use crate::template::write_filled;
 use kp_base::Sink;
 use kp_diagram_text::{Chart, Mark, Writing, mark_of, next_place};
 

@@ -7,7 +7,7 @@ ghost use Rattle.kp_diagram_text.specs.Charts.{rows_of};
 ghost use Rattle.kp_diagram_svg.specs.Sizes.{middle_of};
 ghost use Rattle.kp_diagram_svg.specs.Rows.{column_text, columns_text};
 
-use crate::filling::write_filled;
+use crate::template::write_filled;
 use kp_base::{Row, Sink};
 use kp_diagram_text::{Chart, Writing};
 

@@ -5,7 +5,7 @@ ghost use Rattle.kp_diagram_text.specs.Losses.{account_shown};
 ghost use Rattle.kp_diagram_svg.specs.Foot.{foot, rate_shown};
 ghost use Rattle.kp_diagram_svg.specs.inner.Templates.{table};
 
-use crate::filling::{Template, write_templates};
+use crate::template::{Template, write_templates};
 use kp_base::Sink;
 use kp_diagram_text::{Account, Writing, put_rate};
 

@@ -5,8 +5,8 @@ ghost use Rattle.kp_diagram_svg.specs.Sizes.{height_of, width_of};
 ghost use Rattle.kp_diagram_svg.specs.Symbols.{head};
 ghost use Rattle.kp_diagram_svg.specs.inner.Templates.{counted as counted_text, titles};
 
-use crate::filling::{Template, write_templates};
 use crate::symbols::{write_shapes, write_stages};
+use crate::template::{Template, write_templates};
 use kp_base::Sink;
 use kp_diagram_text::Writing;
 

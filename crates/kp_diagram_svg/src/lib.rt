@@ -8,11 +8,11 @@
 
 mod cells;
 mod columns;
-mod filling;
 mod foot;
 mod head;
 mod picture;
 mod rows;
 mod symbols;
+mod template;
 
 pub use picture::write_svg;

@@ -7,7 +7,7 @@ ghost use Rattle.kp_diagram_text.specs.Charts.{IsDrawable, ext_of, names_of, row
 ghost use Rattle.kp_diagram_svg.specs.Rows.{row_start, row_text, rows_text};
 
 use crate::cells::write_cells;
-use crate::filling::write_filled;
+use crate::template::write_filled;
 use kp_base::Sink;
 use kp_diagram_text::{Chart, Writing, fetches_next};
 use kp_sched::Monitor;

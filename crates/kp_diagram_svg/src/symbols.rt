@@ -3,7 +3,7 @@ ghost use Rattle.std.specs.Prelude.{◌≤◌, ◌++◌};
 ghost use Rattle.kp_diagram_text.specs.Writing.{Wrote};
 ghost use Rattle.kp_diagram_svg.specs.Symbols.{grid, shapes, stages};
 
-use crate::filling::{Template, write_templates};
+use crate::template::{Template, write_templates};
 use kp_base::Sink;
 use kp_diagram_text::Writing;
 

@@ -8,7 +8,7 @@ ghost use Rattle.kp_diagram_text.specs.Text.{column, longest, stage_name};
 ghost use Rattle.kp_diagram_text.specs.{Writing.Wrote, inner.Pieces.piece_text};
 
 use crate::pieces::{Piece, write_piece};
-use crate::writing::Writing;
+use crate::writer::Writing;
 use itoa::Buffer;
 use kp_base::{Row, Sink, SinkFault, word_length};
 

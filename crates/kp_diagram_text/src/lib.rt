@@ -13,11 +13,11 @@ mod lines;
 mod pieces;
 mod summary;
 mod text;
-mod writing;
+mod writer;
 
 pub use account::{Account, account_of};
 pub use cells::{Mark, fetches_next, mark_of, next_place};
 pub use chart::{Chart, are_names};
 pub use summary::{put_rate, write_rate};
 pub use text::write_text;
-pub use writing::Writing;
+pub use writer::Writing;

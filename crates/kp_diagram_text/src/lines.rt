@@ -10,7 +10,7 @@ ghost use Rattle.kp_diagram_text.specs.Text.{cells_text, in_column, line_at, lin
 use crate::cells::{Mark, fetches_next, mark_of, next_place};
 use crate::chart::Chart;
 use crate::pieces::{Piece, write_parts};
-use crate::writing::Writing;
+use crate::writer::Writing;
 use kp_base::Sink;
 use kp_sched::Monitor;
 

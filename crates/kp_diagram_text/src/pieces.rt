@@ -3,7 +3,7 @@ ghost use Rattle.std.specs.Prelude.{◌≡◌, flat_map};
 ghost use Rattle.kp_diagram_text.specs.Text.{counted as counted_text, in_column, spaces};
 ghost use Rattle.kp_diagram_text.specs.{Writing.Wrote, inner.Pieces.piece_text};
 
-use crate::writing::Writing;
+use crate::writer::Writing;
 use itoa::Buffer;
 use kp_base::Sink;
 

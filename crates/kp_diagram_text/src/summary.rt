@@ -7,7 +7,7 @@ ghost use Rattle.kp_diagram_text.specs.Text.{account_text, hundredths, lost_line
 
 use crate::account::Account;
 use crate::pieces::{Piece, counted, write_parts};
-use crate::writing::Writing;
+use crate::writer::Writing;
 use kp_base::{Sink, SinkFault};
 
 // The account of `count` cycles.

@@ -12,7 +12,7 @@ use crate::chart::Chart;
 use crate::lines::write_lines;
 use crate::pieces::{Piece, counted, write_parts, write_piece};
 use crate::summary::write_account;
-use crate::writing::Writing;
+use crate::writer::Writing;
 use kp_base::{Sink, SinkFault};
 
 /// Writes the diagram of a chart as text: a line for each fetch, and the account below. A fault comes only from the sink, which then has a

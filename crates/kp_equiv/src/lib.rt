@@ -5,19 +5,19 @@
 #![tactic(auto)]
 
 mod alike;
-mod building;
 mod classes;
-mod comparing;
+mod comparison;
 mod known;
 pub mod laws;
 mod names;
 mod namesakes;
+mod node_classes;
 mod operators;
 mod roots;
 mod table;
 mod verdict;
-mod writing;
+mod verdict_text;
 
-pub use comparing::compare;
+pub use comparison::compare;
 pub use verdict::Verdict;
-pub use writing::verdict_line;
+pub use verdict_text::verdict_line;

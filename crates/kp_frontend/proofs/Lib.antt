@@ -1,7 +1,2 @@
-pub mod Declared
-pub mod Feeding
-pub mod Given
-pub mod Loops
-pub mod Patterns
 pub mod Judged
 pub mod Verdicts

@@ -10,7 +10,7 @@ use Rattle.kp_lex.specs.{Text.HasOutcome, Text.tail_of, declared.token.Lexed.Lex
 use Rattle.kp_parse.specs.Sentence.{IsTree, Breaks}
 use Rattle.kp_width.specs.Widths.{widths_of}
 use Rattle.kp_stage.specs.Stages.{broken_of}
-use Rattle.kp_frontend.specs.Sections.{sections_of}
+use Rattle.kp_image.specs.Sections.{sections_of}
 
 -- the most bytes that an input may have
 abbrev pub most_bytes : ℕ

@@ -1,5 +1,2 @@
 -- These modules are for private contracts and proofs: a reader need not trust them.
-pub mod Fits
-pub mod Kept
-pub mod Laid
 pub mod Reading

@@ -2,9 +2,9 @@
 ghost use Rattle.std.specs.Prelude.{◌≡◌, ◌<◌, ◌^◌, length, None};
 ghost use Rattle.kp_base.specs.First.{first};
 ghost use Rattle.kp_stage.specs.Start.{start_of, stall_word, input};
-ghost use Rattle.kp_frontend.specs.{Sections.sections_of, Spans.word_in, Feeds.row_in};
+ghost use Rattle.kp_image.specs.{Sections.sections_of, Spans.word_in, Feeds.row_in};
 
-use crate::Sections;
+use kp_image::Sections;
 use kp_stage::Design;
 
 /// A job that violates no rule: its design, and the contents of its sections.

@@ -1,21 +1,12 @@
 //! The verdict of the rules of the language on a text, or on its head: the job that it describes, or the first rule that it violates.
 //!
-//! And the sections of a job (`Sections`), the image, the stalls and the inputs: their rules, the start state, and for each cycle the stall word and the values
-//! of the samples.
+//! `specs/Judging.antt` specifies it. `judge` takes a complete text, and `judge_head` the front of one, up to `end`; an `Accepted` has the design of the job and
+//! its sections (kp_image), and is the only way to the crates that run a job.
 #![tactic(auto)]
 
 mod accepted;
-mod check;
-mod cycles;
-mod inputs;
-mod judging;
 pub mod laws;
-mod sections;
-mod stalls;
-mod state;
+mod verdict;
 
 pub use accepted::{Accepted, Head};
-pub use inputs::InputPattern;
-pub use judging::{judge, judge_head};
-pub use sections::{Sections, start};
-pub use stalls::StallPattern;
+pub use verdict::{judge, judge_head};

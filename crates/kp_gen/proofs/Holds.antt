@@ -3,7 +3,7 @@ use Rattle.std.proofs.Common.{◌≡◌, ℕ, zero, suc, ◌+◌, ◌-◌, ◌<�
 use Rattle.std.{proofs.Math.Nat.mod-lt, proofs.lemmas.Bool.lt-ltb, specs.Prelude.nat_lt}
 use Rattle.kp_base.specs.{First.first, Check.Answer, Check.answer, Refusal.e_rule}
 use Rattle.kp_stage.specs.{Facts.facts_of, Rules.broken_by, Sizes.sizes_of, Counts.counts_of, Stages.broken_of}
-use Rattle.kp_frontend.specs.Sections.{sections_of}
+use Rattle.kp_image.specs.Sections.{sections_of}
 use Rattle.kp_gen.specs.{declared.draws.Route.Route, Draws.next, Draws.drawn, Draws.routes_from, Draws.routes_drawn, Draws.stages_drawn, Draws.registers_drawn}
 use Rattle.kp_gen.{specs.Generated.place, specs.Generated.job_of, specs.Generated.gen_job, proofs.NamesHold.few_registers, proofs.Finds.AllFrom}
 use Rattle.kp_gen.proofs.{Kept.IsFine, Kept.rules_kept, Totals.sizes_kept, Totals.counts_kept}

@@ -3,7 +3,8 @@ use Rattle.std.proofs.Common.{◌≡◌, ℕ, None}
 use Rattle.kp_base.specs.First.{first}
 use Rattle.kp_width.specs.Widths.{widths_of}
 use Rattle.kp_stage.specs.Stages.{broken_of}
-use Rattle.kp_frontend.specs.{Sections.sections_of, Judging.broken_in}
+use Rattle.kp_image.specs.Sections.{sections_of}
+use Rattle.kp_frontend.specs.Judging.{broken_in}
 use Rattle.kp_gen.{specs.Generated.gen_job, proofs.Holds.generated_stages_hold, proofs.Holds.generated_sections_hold, proofs.Holds.three}
 use Rattle.kp_gen.proofs.NamesHold.{generated_names_hold}
 

@@ -6,7 +6,7 @@ ghost use Rattle.kp_width.specs.Widths.{widths_of};
 ghost use Rattle.kp_stage.specs.Design.{plan};
 ghost use Rattle.kp_stage.specs.Start.{start_of, stall_word, input};
 ghost use Rattle.kp_stage.specs.Stages.{broken_of};
-ghost use Rattle.kp_frontend.specs.{Sections.sections_of, Spans.word_in, Feeds.row_in};
+ghost use Rattle.kp_image.specs.{Sections.sections_of, Spans.word_in, Feeds.row_in};
 ghost use Rattle.kp_gen.specs.Generated.{gen_job};
 
 use crate::job::generate;
@@ -16,7 +16,8 @@ use crate::stages::{
 use crate::widths::generated_names_are_right;
 use kp_ast::{Job, Widths};
 use kp_base::{NoMemory, Refused};
-use kp_frontend::{Accepted, Sections, start};
+use kp_frontend::Accepted;
+use kp_image::{Sections, start};
 use kp_stage::Design;
 use kp_width::widths;
 use std::alloc::Global;

@@ -3,7 +3,8 @@ ghost use Rattle.std.specs.Prelude.{◌≡◌, ◌≤◌, ℕ, None, length, sum
 ghost use Rattle.kp_base.specs.First.{first};
 ghost use Rattle.kp_width.specs.Declarations.{functions_in};
 ghost use Rattle.kp_stage.specs.Stages.{broken_of};
-ghost use Rattle.kp_frontend.specs.{Sections.sections_of, Judging.broken_in};
+ghost use Rattle.kp_image.specs.Sections.{sections_of};
+ghost use Rattle.kp_frontend.specs.Judging.{broken_in};
 ghost use Rattle.kp_gen.specs.Generated.{gen_job};
 
 /// A generated job has no function, at most 10 stages and at most 109 declarations.

@@ -9,8 +9,8 @@
 //! a netlist that begins anew owes its user.
 #![tactic(auto)]
 
-mod naming;
+mod job_names;
 pub mod netlists;
 pub mod resets;
 
-pub use naming::{file_named, register_named};
+pub use job_names::{file_named, register_named};

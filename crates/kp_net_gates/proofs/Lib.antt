@@ -1,4 +1,1 @@
 pub mod Truths
-pub mod Standing
-pub mod Within
-pub mod Greatest

@@ -3,10 +3,10 @@ use Rattle.std.proofs.Common.{◌≡◌, ℕ, zero, suc, ◌+◌, ◌<◌, ◌�
 use Rattle.kp_bits.specs.Word.{word}
 use Rattle.kp_ast.specs.declared.tree.{Decl.Decl, Job.Job}
 use Rattle.kp_ast.specs.declared.tree.Decl.TheVariants as decls
-use Rattle.kp_debug_report.specs.Inspecting.{at_line}
+use Rattle.kp_debug.specs.Inspecting.{at_line}
 use Rattle.kp_machine.specs.Slots.{targets_of}
-use Rattle.kp_tool_report.{specs.States.State, specs.Texts.register_line, proofs.Alike.Agree, proofs.Alike.word_is}
-use Rattle.kp_tool_report.proofs.Lines.{past_one, past_none}
+use Rattle.kp_report.{specs.States.State, specs.Texts.register_line, proofs.Alike.Agree, proofs.Alike.word_is}
+use Rattle.kp_report.proofs.Lines.{past_one, past_none}
 use Rattle.kp_page.specs.States.{change_line, changes_of_words, change_lines, earlier, recorded_in, recorded_from, recorded}
 
 words_alike : (name : List ℕ) (width : ℕ) (o p f g : ℕ → ℕ) (address n : ℕ) → ((a : ℕ) → a < address + n → o a ≡ p a) → ((a : ℕ) → a < address + n → f a ≡ g a)

@@ -4,9 +4,9 @@ use Rattle.std.{proofs.lemmas.List.drop_more, specs.declared.option.Option.Optio
 use Rattle.kp_base.specs.Bytes.{AppendsPart, Writes}
 use Rattle.kp_ast.specs.declared.tree.{Decl.Decl, Job.Job}
 use Rattle.kp_cycle.specs.Steps.{Running}
-use Rattle.kp_debug_report.specs.Inspecting.{at_line}
+use Rattle.kp_debug.specs.Inspecting.{at_line}
 use Rattle.kp_net.specs.Netlist.{Net}
-use Rattle.kp_tool_report.specs.States.{State, targets_in}
+use Rattle.kp_report.specs.States.{State, targets_in}
 use Rattle.kp_page.specs.States.{change_line, changes_of_words, changes_of, change_lines, all_zero, earlier, recorded_in, recorded_from}
 use Rattle.kp_page.specs.{Runs.after_cycles, inner.Seen.seen, inner.Seen.states_of}
 

@@ -1,7 +1,7 @@
 -- The value that is listed last is that of the state.
 use Rattle.std.proofs.Common.{◌≡◌, ◌∙◌, ℕ, zero, suc, Bool, true, false, refl, sym}
 use Rattle.std.{proofs.lemmas.Bool.eqb-true, specs.Prelude.◌==◌, specs.Prelude.if◌then◌else◌}
-use Rattle.kp_tool_report.specs.States.{State}
+use Rattle.kp_report.specs.States.{State}
 use Rattle.kp_page.specs.Claims.{listed_last}
 
 pub listed : (visible : ℕ → State) (T t a : ℕ) → listed_last visible T t a ≡ visible T t a

@@ -5,7 +5,7 @@ use Rattle.kp_ast.specs.declared.tree.Job.{Job}
 use Rattle.kp_net.specs.Netlist.{Net, State}
 use Rattle.kp_machine.specs.Words.{target}
 use Rattle.kp_implements.specs.Naming.{register_of, file_of, value_shown}
-use Rattle.kp_debug_report.specs.inner.Standing.{IsFileOf}
+use Rattle.kp_debug.specs.inner.Standing.{IsFileOf}
 
 pub file_words : (job : Job) (net : Net) (t number : ℕ) → IsFileOf job net t number → (st : State)
     → (λ (a : ℕ). get_or (get_or st.files number []) a 0) ≡ value_shown job net st t

@@ -1,6 +1,6 @@
 -- WHAT FOLLOWS FROM THE RECORDED STATES: all of each state.
 use Rattle.std.specs.Prelude.{ℕ, zero, suc, ◌==◌, if◌then◌else◌}
-use Rattle.kp_tool_report.specs.States.{State}
+use Rattle.kp_report.specs.States.{State}
 
 -- The value that is listed last up to cycle T, or 0 if none is. In cycle T a word is listed where it differs from the cycle before.
 abbrev pub listed_last : (ℕ → State) → ℕ → State

@@ -4,8 +4,8 @@ use Rattle.kp_bits.specs.Word.{word}
 use Rattle.kp_ast.specs.declared.tree.{Decl.Decl, Job.Job}
 use Rattle.kp_ast.specs.declared.tree.Decl.TheVariants as decls
 use Rattle.kp_machine.specs.Machine.{pipe_of, inputs_from}
-use Rattle.kp_tool_report.specs.{States.State, States.targets_in, Texts.register_line, Texts.word_line}
-use Rattle.kp_debug_report.specs.Inspecting.{at_line}
+use Rattle.kp_report.specs.{States.State, States.targets_in, Texts.register_line, Texts.word_line}
+use Rattle.kp_debug.specs.Inspecting.{at_line}
 
 -- A word of a file has a line where it differs from an earlier value.
 abbrev pub change_line : List ℕ → ℕ → ℕ → (old new : ℕ) → List ℕ

@@ -2,7 +2,7 @@
 ghost use Rattle.std.specs.Prelude.{◌≡◌, ◌+◌, ◌++◌, [], length, false, true};
 ghost use Rattle.kp_base.specs.Bytes.{Writes};
 ghost use Rattle.kp_base.specs.Causes.{HasCause};
-ghost use Rattle.kp_debug_report.specs.Inspecting.{at_line};
+ghost use Rattle.kp_debug.specs.Inspecting.{at_line};
 ghost use Rattle.kp_run.specs.Cycles.{inputs_to};
 ghost use Rattle.kp_implements.specs.Shows.{IsOfJob, Shows};
 ghost use Rattle.kp_page.specs.States.{change_lines, recorded, recorded_from, recorded_in};
@@ -83,7 +83,7 @@ fn write_later<K: Sink>(
 }
 
 // The number of a cycle, and what changed in it.
-#[tactic(auto, using(kp_base::proofs::Bytes::writes_next, kp_base::proofs::Bytes::part_more, kp_frontend::proofs::Given::few_words))]
+#[tactic(auto, using(kp_base::proofs::Bytes::writes_next, kp_base::proofs::Bytes::part_more, kp_image::proofs::Given::few_words))]
 fn write_cycle<K: Sink>(
     is_first: bool,
     before: &Sim<'_>,
@@ -109,7 +109,7 @@ fn write_cycle<K: Sink>(
     )
 }
 
-#[tactic(auto, unfolding(kp_debug_report::specs::Inspecting::at_line))]
+#[tactic(auto, unfolding(kp_debug::specs::Inspecting::at_line))]
 fn write_at<K: Sink>(cycle: u32, sink: &mut K) -> Result<(), SinkFault>
     ensures text { Writes (K.held sink.old) (K.held sink.new) (at_line cycle) result }
     ensures cause { HasCause (K.faults sink.old) (K.faults sink.new) result }

@@ -1,6 +1,6 @@
 //! What follows from the recorded states.
 ghost use Rattle.std.specs.Prelude.{◌≡◌, ℕ};
-ghost use Rattle.kp_tool_report.specs.States.{State};
+ghost use Rattle.kp_report.specs.States.{State};
 ghost use Rattle.kp_page.specs.Claims.{listed_last};
 
 /// All states follow from what is recorded: in each cycle the value of a word is the one that was listed last, or 0 if none was.

@@ -3,10 +3,10 @@ ghost use Rattle.std.specs.Prelude.{◌≡◌, ◌<◌, ◌^◌, ℕ, length, ge
 ghost use Rattle.std.specs.List.{All};
 ghost use Rattle.kp_base.specs.Bytes.{Writes};
 ghost use Rattle.kp_base.specs.Causes.{HasCause};
-ghost use Rattle.kp_debug_report.specs.inner.Standing.{HasAddresses, IsFileOf};
+ghost use Rattle.kp_debug.specs.inner.Standing.{HasAddresses, IsFileOf};
 ghost use Rattle.kp_machine.specs.Words.{target};
 ghost use Rattle.kp_implements.specs.Shows.{IsOfJob};
-ghost use Rattle.kp_tool_report.specs.inner.Targets.{HasWords, IsSmall, StandsAt};
+ghost use Rattle.kp_report.specs.inner.Targets.{HasWords, IsSmall, StandsAt};
 ghost use Rattle.kp_page.specs.States.{change_lines, changes_of, changes_of_words};
 ghost use Rattle.kp_page.specs.inner.Seen.{seen, seen_before};
 
@@ -17,7 +17,7 @@ use kp_ast::Decl;
 use kp_base::{Sink, SinkFault};
 use kp_cycle::Sim;
 use kp_frontend::Accepted;
-use kp_tool_report::{targets_in, write_register};
+use kp_report::{targets_in, write_register};
 
 /// Writes the registers, and the words that differ from the state before; before the first cycle all of them are 0. A fault comes only from the
 /// sink, which then has a prefix of the text.

@@ -3,10 +3,10 @@ ghost use Rattle.std.specs.Prelude.{◌≡◌, ◌++◌, ℕ, codes, get_or, Non
 ghost use Rattle.kp_base.specs.Bytes.{Writes};
 ghost use Rattle.kp_base.specs.Causes.{HasCause};
 ghost use Rattle.kp_bits.specs.Word.{word};
-ghost use Rattle.kp_debug_report.specs.inner.Standing.{IsFileOf, IsRegisterOf};
+ghost use Rattle.kp_debug.specs.inner.Standing.{IsFileOf, IsRegisterOf};
 ghost use Rattle.kp_machine.specs.Words.{HasWord, target};
 ghost use Rattle.kp_implements.specs.{Naming.file_names, Naming.place_among, Naming.register_names, Shows.IsOfJob};
-ghost use Rattle.kp_tool_report.specs.Texts.{word_line as line_of_word};
+ghost use Rattle.kp_report.specs.Texts.{word_line as line_of_word};
 ghost use Rattle.kp_page.specs.States.{change_line};
 ghost use Rattle.kp_page.specs.inner.Seen.{seen, seen_before};
 
@@ -94,7 +94,7 @@ pub(crate) fn write_change<K: Sink>(
     write_word_line(name, address, value, sink)
 }
 
-#[tactic(auto, unfolding(kp_tool_report::specs::Texts::word_value, kp_tool_report::specs::Texts::ending_of))]
+#[tactic(auto, unfolding(kp_report::specs::Texts::word_value, kp_report::specs::Texts::ending_of))]
 fn write_word_line<K: Sink>(
     name: &[u8],
     address: u32,

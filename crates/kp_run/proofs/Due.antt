@@ -4,7 +4,7 @@ use Rattle.kp_base.specs.{First.first, declared.row.Row.Row}
 use Rattle.kp_bits.specs.Word.{Word, word}
 use Rattle.kp_ast.specs.declared.tree.Job.{Job}
 use Rattle.kp_width.specs.Widths.{widths_of}
-use Rattle.kp_frontend.specs.Sections.{sections_of}
+use Rattle.kp_image.specs.Sections.{sections_of}
 use Rattle.kp_pipeline.specs.{Accepted.Accepted, Pipeline.Inputs}
 use Rattle.kp_pipeline.specs.Rows as law
 use Rattle.kp_machine.specs.{Machine.machine_of, Machine.inputs_from, Machine.pipe_of, Words.HasWord, Words.target}

@@ -6,7 +6,8 @@ use Rattle.kp_bits.specs.Word.{Word}
 use Rattle.kp_ast.specs.declared.tree.Job.{Job}
 use Rattle.kp_width.specs.Widths.{widths_of}
 use Rattle.kp_stage.specs.Start.{input, AreSamples}
-use Rattle.kp_frontend.{specs.Sections.sections_of, specs.Feeds.Fed, specs.Feeds.row_in, specs.Feeds.word_fed, proofs.Given.rows_fit}
+use Rattle.kp_image.specs.{Sections.sections_of, Feeds.Fed, Feeds.row_in, Feeds.word_fed}
+use Rattle.kp_image.proofs.Given.{rows_fit}
 use Rattle.kp_machine.specs.Slots.{sample_stages}
 use Rattle.kp_run.proofs.Samples.{many, few}
 

@@ -8,7 +8,8 @@ use Rattle.kp_bits.{specs.Word.Word, specs.Operators.no_word, proofs.Powers.pow_
 use Rattle.kp_ast.specs.declared.tree.{Job.Job, Stalls.Stalls}
 use Rattle.kp_width.{proofs.Unbroken.Unbroken, proofs.Unbroken.bind_unbroken, proofs.Unbroken.answer_unbroken, specs.Widths.widths_of}
 use Rattle.kp_stage.specs.Start.{stall_word, stalls_at, is_stalled, bits_below, stalls_of, input, AreSamples}
-use Rattle.kp_frontend.{specs.Sections.stall_of, specs.Sections.stalls_checked, specs.Sections.sections_of, proofs.Given.stalls_right, proofs.Given.rows_fit}
+use Rattle.kp_image.specs.Sections.{stall_of, stalls_checked, sections_of}
+use Rattle.kp_image.proofs.Given.{stalls_right, rows_fit}
 use Rattle.kp_pipeline.specs.Pipeline.{Inputs}
 use Rattle.kp_machine.specs.Machine.{inputs_at, inputs_from, values_in}
 use Rattle.kp_net.specs.Netlist.{Input}

@@ -3,7 +3,7 @@ use Rattle.std.proofs.Common.{◌≡◌, ◌∙◌, ℕ, zero, suc, ◌≤◌, L
 use Rattle.kp_base.specs.{First.first, declared.row.Row.Row}
 use Rattle.kp_ast.specs.declared.tree.Job.{Job}
 use Rattle.kp_width.specs.Widths.{widths_of}
-use Rattle.kp_frontend.specs.Sections.{sections_of}
+use Rattle.kp_image.specs.Sections.{sections_of}
 use Rattle.kp_pipeline.{specs.Pipeline.Inputs, specs.Pipeline.pipeline_start, specs.Rows.Trace, proofs.Taken.rows-length}
 use Rattle.kp_pipeline.specs.Rows as law
 use Rattle.kp_stage.specs.Start.{start_of}

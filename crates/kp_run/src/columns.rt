@@ -3,7 +3,7 @@ ghost use Rattle.std.specs.Prelude.{◌≡◌, ℕ, ◌<◌, ◌≤◌, ◌^◌,
 ghost use Rattle.kp_bits.specs.Word.{word};
 ghost use Rattle.kp_bits.specs.Operators.{no_word};
 ghost use Rattle.kp_pipeline.specs.Rows.{bit, bits};
-ghost use Rattle.kp_frontend.specs.Feeds.{row_in};
+ghost use Rattle.kp_image.specs.Feeds.{row_in};
 ghost use Rattle.kp_machine.specs.Slots.{sample_stages};
 ghost use Rattle.kp_net.specs.Netlist.{run};
 ghost use Rattle.kp_sched.specs.Rows.{bit_of, rows_seen};
@@ -15,7 +15,8 @@ use crate::cycles::cycles_of;
 use kp_ast::Decl;
 use kp_base::{NoMemory, Row};
 use kp_bits::Bits;
-use kp_frontend::{Accepted, InputPattern};
+use kp_frontend::Accepted;
+use kp_image::InputPattern;
 use kp_net::Netlist;
 use std::alloc::Global;
 use std::marker::Model;

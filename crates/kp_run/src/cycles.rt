@@ -1,7 +1,7 @@
 // A netlist that runs together with a monitor.
 ghost use Rattle.std.specs.Prelude.{◌≡◌, ◌+◌, ◌<◌, ◌≤◌, ◌^◌, [], false, length, IfOk};
 ghost use Rattle.kp_stage.specs.Start.{stall_word, input};
-ghost use Rattle.kp_frontend.specs.{Spans.word_in, Feeds.row_in};
+ghost use Rattle.kp_image.specs.{Spans.word_in, Feeds.row_in};
 ghost use Rattle.kp_net.specs.Netlist.{Net, row_of, state_after, last_of};
 ghost use Rattle.kp_cycle.specs.Steps.{SamplesFit, given};
 ghost use Rattle.kp_sched.specs.Monitors.{HasSeen};
@@ -11,7 +11,8 @@ ghost use Rattle.kp_run.specs.Cycles.{HasRows, after_cycles, input_at, inputs_to
 use kp_base::{NoMemory, Row};
 use kp_bits::Bits;
 use kp_cycle::Sim;
-use kp_frontend::{Accepted, InputPattern, Sections};
+use kp_frontend::Accepted;
+use kp_image::{InputPattern, Sections};
 use kp_net::Netlist;
 use kp_sched::Monitor;
 use kp_stage::Design;

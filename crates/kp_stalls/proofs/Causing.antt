@@ -14,16 +14,16 @@ use Rattle.kp_pipeline.specs.SpeculativeTimeline as timeline
 use Rattle.kp_machine.specs.{Slots.targets_of, Machine.machine_of, Machine.result_for, Machine.sequential, Machine.state_of}
 use Rattle.kp_machine.proofs.Stages.{stages_inside}
 use Rattle.kp_seq.specs.Recorded.{reads_from, record_of}
-use Rattle.kp_timing.specs.declared.sites.{Site.Site, Writer.Writer}
-use Rattle.kp_timing.specs.{Sites.no_site, Sites.result_number, Sites.sited, Sites.writer_at, Sites.writer_by, Reports.may_write}
-use Rattle.kp_timing.proofs.{Asking.stage_unmet, Sizes.writer_get, Sizes.writers_many}
-use Rattle.kp_timing.proofs.Results.{IsResult, is_result, no_result, past_targets, ready_same, writes_same}
+use Rattle.kp_sites.specs.declared.sites.{Site.Site, Writer.Writer}
+use Rattle.kp_sites.specs.{Sites.no_site, Sites.result_number, Sites.sited, Sites.writer_at, Sites.writer_by, Reports.may_write}
+use Rattle.kp_sites.proofs.{Asking.stage_unmet, Sizes.writer_get, Sizes.writers_many}
+use Rattle.kp_sites.proofs.Results.{IsResult, is_result, no_result, past_targets, ready_same, writes_same}
 use Rattle.kp_stalls.specs.declared.{occupants.Stage.Stage, cause.Wait.Wait}
 use Rattle.kp_stalls.specs.Occupants.{Report, Seen, at, occupants_of, report, no_stage}
 use Rattle.kp_stalls.specs.Causes.{first_wait, is_met, is_ready, is_source, nearest, nearest_above}
 use Rattle.kp_stalls.specs.Claims.{IsCause, ShowsMoment, has_ready, is_writer, read_site}
 use Rattle.kp_stalls.proofs.{OccupantFacts.report_at, OccupantFacts.stage_at, Waits.first_is, Waits.met_of, Waits.near_is, Waits.some_waits, Waits.wait_is}
-use Rattle.kp_timing.specs.Reports as reports
+use Rattle.kp_sites.specs.Reports as reports
 
 -- ---- a moment
 module _ (job : Job) (given : ℕ → ℕ → ℕ) (now : Moment) (i : Inputs) (r : Row) (stages : List Stage) (names : first (widths_of job).asked ≡ None) (rules : broken_of job ≡ None)

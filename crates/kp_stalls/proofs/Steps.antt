@@ -1,7 +1,7 @@
 -- The steps of the loops over stages and reads.
 use Rattle.std.proofs.Common.{◌≡◌, ◌∙◌, ℕ, suc, ◌+◌, ◌-◌, ◌<◌, ◌≤◌, List, ◌++◌, Option, Some, None, Bool, true, false, cond, not, ◌&&◌, drop, length, get_or, ap, sym, arith, append_assoc}
 use Rattle.std.{proofs.lemmas.List.drop_all, proofs.lemmas.List.drop_more, specs.Prelude.is_some}
-use Rattle.kp_timing.specs.{declared.sites.Site.Site, declared.sites.Writer.Writer, Sites.Sited}
+use Rattle.kp_sites.specs.{declared.sites.Site.Site, declared.sites.Writer.Writer, Sites.Sited}
 use Rattle.kp_stalls.specs.{declared.cause.Cause.Cause, declared.cause.Line.Line, declared.cause.Wait.Wait, Occupants.Seen, Occupants.at}
 use Rattle.kp_stalls.specs.Causes.{all_retire, cause_at, first_wait, is_lost, is_open, is_source, line_of, lines_down, nearest, only_open, or_else, wait_of}
 

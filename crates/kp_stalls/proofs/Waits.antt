@@ -2,7 +2,7 @@
 use Rattle.std.proofs.Common.{◌≡◌, ◌∙◌, ℕ, zero, suc, ◌+◌, ◌<◌, ◌≤◌, List, [], ◌∷◌, Option, Some, None, Bool, true, false, cond, eqb, not, ◌&&◌, ◌||◌, length, get_or, refl, ap, ap₂, sym, arith, ⊎_elim}
 use Rattle.std.proofs.lemmas.{Bool.and_parts, Bool.cases_lt, Bool.eqb-true, Bool.not-true, Option.same_Some}
 use Rattle.std.specs.Prelude.{is_some}
-use Rattle.kp_timing.specs.{declared.sites.Site.Site, declared.sites.Writer.Writer, Sites.Sited, Sites.no_site, Reports.some_unmet_from, Reports.unmet_by}
+use Rattle.kp_sites.specs.{declared.sites.Site.Site, declared.sites.Writer.Writer, Sites.Sited, Sites.no_site, Reports.some_unmet_from, Reports.unmet_by}
 use Rattle.kp_stalls.specs.{declared.cause.Wait.Wait, Occupants.Seen, Occupants.at}
 use Rattle.kp_stalls.specs.Causes.{first_wait, had_by, is_met, is_ready, is_source, nearest, nearest_above, or_else, wait_at, wait_by, wait_of}
 

@@ -9,7 +9,8 @@ use Rattle.kp_pipeline.specs.Sequential.{exec, seq}
 use Rattle.kp_synth_tables.proofs.Limits.{few}
 use Rattle.kp_machine.specs.{Machine.machine_of, Machine.sequential, Machine.state_of, Machine.values_in, Slots.targets_of, Words.after_one}
 use Rattle.kp_seq.specs.Running.{Running, state}
-use Rattle.kp_timing.{proofs.Sizes.record_room, proofs.Sizes.writers_many, specs.Sites.Sited, specs.Sites.sited}
+use Rattle.kp_sites.proofs.Sizes.{record_room, writers_many}
+use Rattle.kp_sites.specs.Sites.{Sited, sited}
 use Rattle.kp_stalls.specs.Occupants.{Report, report, report_of, nothing, stored, value_before}
 use Rattle.kp_stalls.specs.Windows.{Follows, HasRoom, IsKept, Windowed}
 

@@ -2,8 +2,8 @@
 -- them. `s` has the tables of the job; reads are numbered in text order.
 use Rattle.std.specs.Prelude.{ℕ, zero, suc, ◌+◌, ◌-◌, List, [], ◌∷◌, ◌++◌, Option, Some, None, Bool, true, false, not, ◌&&◌, ◌||◌, ◌==◌, nat_le, nat_lt, if◌then◌else◌, is_some, get_or}
 use Rattle.std.specs.List.{list_any}
-use Rattle.kp_timing.specs.{declared.sites.Site.Site, declared.sites.Writer.Writer, Sites.Sited, Sites.no_site, Reports.may_write, Reports.setting}
-use Rattle.kp_timing.specs.Reports as reports
+use Rattle.kp_sites.specs.{declared.sites.Site.Site, declared.sites.Writer.Writer, Sites.Sited, Sites.no_site, Reports.may_write, Reports.setting}
+use Rattle.kp_sites.specs.Reports as reports
 use Rattle.kp_stalls.specs.declared.{occupants.Stage.Stage, fate.Fate.Fate, cause.Cause.Cause}
 use Rattle.kp_stalls.specs.declared.cause.Cause.TheVariants.{Value, Unsure, Ahead, Held, Later, Squashed}
 use Rattle.kp_stalls.specs.declared.cause.{Wait.Wait, Had.Had, Had.TheVariants.Known, Had.TheVariants.Set, Had.TheVariants.Moved, Wrong.Wrong, Guess.Guess}

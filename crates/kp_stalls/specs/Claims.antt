@@ -6,7 +6,7 @@ use Rattle.kp_pipeline.specs.{Machine.Machine, Pipeline.Inputs, Pipeline.is_cand
 use Rattle.kp_pipeline.specs.RightPath.{Moment, first_moment, held, next_moment}
 use Rattle.kp_pipeline.specs.SpeculativeTimeline as timeline
 use Rattle.kp_machine.specs.Machine.{machine_of, state_of}
-use Rattle.kp_timing.specs.{declared.sites.Site.Site, Sites.no_site, Sites.sited}
+use Rattle.kp_sites.specs.{declared.sites.Site.Site, Sites.no_site, Sites.sited}
 use Rattle.kp_stalls.specs.{declared.cause.Wait.Wait, declared.occupants.Stage.Stage, Occupants.report, Occupants.no_stage}
 
 -- The stages show the row of a moment, and the numbers of the instructions.

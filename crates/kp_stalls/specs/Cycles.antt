@@ -1,7 +1,7 @@
 -- THE LINES OF A RUN, from its rows.
 use Rattle.std.specs.Prelude.{ℕ, zero, suc, List, [], ◌∷◌, ◌++◌, Bool, cond, leb, nat_lt}
 use Rattle.kp_pipeline.specs.Rows.{Row, bit, count_after}
-use Rattle.kp_timing.specs.Sites.{Sited}
+use Rattle.kp_sites.specs.Sites.{Sited}
 use Rattle.kp_stalls.specs.declared.{cause.Line.Line, occupants.Stage.Stage, fate.Fate.Fate}
 use Rattle.kp_stalls.specs.declared.fate.Fate.TheVariants.{Squashed, Retires, Open}
 use Rattle.kp_stalls.specs.{Occupants.Report, Occupants.occupants_of, Causes.lines_down}

@@ -5,7 +5,7 @@ use Rattle.kp_ast.specs.declared.tree.Job.{Job}
 use Rattle.kp_machine.specs.{Machine.sequential, Slots.targets_of, Words.target}
 use Rattle.kp_seq.specs.Recorded.{Recorded, record_of}
 use Rattle.kp_stalls.specs.declared.{occupants.Stage.Stage, fate.Fate.TheVariants.Open}
-use Rattle.kp_timing.specs.{declared.sites.Site.Site, Sites.sited, Reports.nothing_recorded}
+use Rattle.kp_sites.specs.{declared.sites.Site.Site, Sites.sited, Reports.nothing_recorded}
 
 -- What the sequential machine reports of an instruction, and for each read the value that its target had before the instruction at address 0.
 pub record Report : Type 0 where

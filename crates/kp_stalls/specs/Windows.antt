@@ -4,7 +4,7 @@ use Rattle.kp_ast.specs.declared.tree.Job.{Job}
 use Rattle.kp_stage.specs.Counts.{summary_of}
 use Rattle.kp_machine.specs.Machine.{sequential}
 use Rattle.kp_seq.specs.Running.{Running, state}
-use Rattle.kp_timing.specs.Sites.{Sited, sited}
+use Rattle.kp_sites.specs.Sites.{Sited, sited}
 use Rattle.kp_stalls.specs.Occupants.{Report, report, nothing, stored}
 
 -- the machine, the tables of its job, the number of the instruction that it runs next, and what it reported of the last sixteen, each under its number

@@ -7,14 +7,14 @@ ghost use Rattle.kp_stage.specs.Start.{AreSamples};
 ghost use Rattle.kp_machine.specs.Machine.{values_in};
 ghost use Rattle.kp_seq.specs.Running.{state};
 ghost use Rattle.kp_machine.specs.Words.{after_one};
-ghost use Rattle.kp_timing.specs.Sites.{sited};
+ghost use Rattle.kp_sites.specs.Sites.{sited};
 ghost use Rattle.kp_stalls.specs.Windows.{HasRoom};
 ghost use Rattle.kp_stalls.specs.Occupants.{report_of, no_value, value_before as value_of_site};
 
 use kp_base::NoMemory;
 use kp_bits::Bits;
 use kp_seq::SeqMachine;
-use kp_timing::{Reported, Site};
+use kp_sites::{Reported, Site};
 use std::alloc::Global;
 use std::marker::Model;
 

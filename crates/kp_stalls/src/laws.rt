@@ -14,7 +14,7 @@ ghost use Rattle.kp_machine.specs.Machine.{machine_of, state_of};
 ghost use Rattle.kp_stalls.specs.declared.cause.Wait.{Wait};
 ghost use Rattle.kp_stalls.specs.declared.occupants.Stage.{Stage};
 ghost use Rattle.kp_stalls.specs.declared.cause.Cause.TheVariants.{Value};
-ghost use Rattle.kp_timing.specs.Sites.{Sited, sited};
+ghost use Rattle.kp_sites.specs.Sites.{Sited, sited};
 ghost use Rattle.kp_stalls.specs.Occupants.{Seen, at, occupants_of, report};
 ghost use Rattle.kp_stalls.specs.Causes.{cause_at, first_wait, is_squashed_by, is_reported, is_waiting};
 ghost use Rattle.kp_stalls.specs.Claims.{IsCause, ShowsMoment, run_given, run_moment, run_rows};

@@ -6,13 +6,13 @@
 #![tactic(auto)]
 
 mod cause;
+mod data_hazard;
 mod fate;
 mod flight;
 pub mod laws;
 mod lines;
+mod misprediction;
 mod occupants;
-mod squashing;
-mod waiting;
 mod window;
 
 pub use cause::{Cause, Guess, Had, Line, Producer, Wait, Wrong};

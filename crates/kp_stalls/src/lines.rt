@@ -4,12 +4,12 @@ ghost use Rattle.kp_stalls.specs.Causes.{cause_at as cause_at_in, line_of, lines
 ghost use Rattle.kp_stalls.specs.Occupants.{at, occupants_of, stored};
 
 use crate::cause::{Cause, Line};
+use crate::data_hazard::value_cause;
+use crate::misprediction::wrong_of;
 use crate::occupants::{Occupants, Stage};
-use crate::squashing::wrong_of;
-use crate::waiting::value_cause;
 use crate::window::Window;
 use kp_base::NoMemory;
-use kp_timing::Sites;
+use kp_sites::Sites;
 
 /// Adds the lines of a cycle in which the stages show this. The only error is out of memory.
 pub fn add_lines(

@@ -3,7 +3,7 @@ ghost use Rattle.std.specs.Prelude.{◌≡◌, ℕ, ◌+◌, ◌<◌, ◌≤◌,
 ghost use Rattle.kp_stage.specs.Counts.{summary_of};
 ghost use Rattle.kp_stage.specs.Start.{AreSamples, IsStartOf, start_of};
 ghost use Rattle.kp_machine.specs.Machine.{values_in};
-ghost use Rattle.kp_timing.specs.Sites.{sited};
+ghost use Rattle.kp_sites.specs.Sites.{sited};
 ghost use Rattle.kp_seq.specs.Running.{state};
 ghost use Rattle.kp_machine.specs.Words.{after_one};
 ghost use Rattle.kp_stalls.specs.Occupants.{report_of, nothing};
@@ -13,8 +13,8 @@ use crate::flight::Flight;
 use kp_base::NoMemory;
 use kp_bits::Bits;
 use kp_seq::SeqMachine;
+use kp_sites::Sites;
 use kp_stage::{Design, Start};
-use kp_timing::Sites;
 use std::alloc::Global;
 use std::marker::Model;
 

@@ -5,7 +5,7 @@ use Rattle.kp_base.specs.declared.row.Row as masks
 use Rattle.kp_ast.specs.declared.tree.Job.{Job}
 use Rattle.kp_pipeline.{specs.Rows.Row, specs.Rows.count_after, specs.Rows.counts, proofs.Counts.counts-bound}
 use Rattle.kp_sched.specs.{Monitors.Kept, Monitors.HasSeen, Rows.bit_of, Rows.row_seen, Rows.rows_seen}
-use Rattle.kp_timing.specs.Sites.{sited}
+use Rattle.kp_sites.specs.Sites.{sited}
 use Rattle.kp_stalls.specs.declared.{cause.Line.Line, fate.Fate.Fate, fate.Fate.TheVariants.Open}
 use Rattle.kp_stalls.specs.{Occupants.Seen, Occupants.occupants_of, Occupants.report, Occupants.stored, Causes.lines_down}
 use Rattle.kp_stalls.specs.{Cycles.fate_in, Cycles.lines_from, Cycles.stage_of, Cycles.stages_from, Windows.Windowed, Windows.Follows}

@@ -15,7 +15,7 @@ use Rattle.kp_diagram_run.specs.Figures.{IsRunOf}
 use Rattle.kp_diagram_run.proofs.Words.{words-seen}
 use Rattle.kp_stalls_run.specs.{Runs.run_lines, Runs.settled, inner.Running.StaysClose}
 use Rattle.kp_stalls_run.proofs.{Closeness.stays_close, Steps.lines_same}
-use Rattle.kp_timing.specs.Sites.{sited}
+use Rattle.kp_sites.specs.Sites.{sited}
 use Rattle.kp_stalls.specs.{Occupants.report, Cycles.lines_from}
 
 pub run_close : (job : Job) (n : ℕ) (rows : List masks.Row) (words : List ℕ) → Accepted (machine_of job) → IsRunOf job n rows words

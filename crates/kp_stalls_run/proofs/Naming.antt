@@ -7,7 +7,7 @@ use Rattle.kp_stalls.specs.declared.cause.Cause.{Cause, TheVariants.Unsure, TheV
 use Rattle.kp_stalls.specs.declared.{cause.Guess.Guess, cause.Wait.Wait, cause.Wrong.Wrong, occupants.Stage.Stage}
 use Rattle.kp_stalls.specs.Occupants.{Seen, at, no_occupant, no_stage, no_value, occupants_of, report, value_before}
 use Rattle.kp_stalls.specs.Causes.{all_retire, cause_at, cause_of_wait, first_wait, guess_of, is_open, is_squashed_by, is_reported, is_waiting, only_open, waiting_cause, wrong_of}
-use Rattle.kp_timing.specs.{declared.sites.Site.Site, Sites.Sited, Sites.no_site, Sites.sited}
+use Rattle.kp_sites.specs.{declared.sites.Site.Site, Sites.Sited, Sites.no_site, Sites.sited}
 
 -- A WAIT is no squash.
 no_squash : (a b c d : Bool) (o : Option Wait) (w : Wrong) → cond a Later (cond b Held (cond c Ahead (cond d (cause_of_wait o) Unsure))) ≡ Squashed w → ⊥

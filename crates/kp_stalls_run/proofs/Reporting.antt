@@ -5,7 +5,7 @@ use Rattle.kp_ast.specs.declared.tree.Job.{Job}
 use Rattle.kp_pipeline.specs.{Machine.Machine, Pipeline.Inputs, Rows.Row, Rows.bit, Rows.count_after, Rows.row, Rows.rows_from}
 use Rattle.kp_pipeline.{specs.RightPath.Moment, specs.RightPath.held, specs.RightPath.next_moment, proofs.Lists.bit-at}
 use Rattle.kp_machine.specs.Machine.{inputs_at, inputs_from}
-use Rattle.kp_timing.specs.Sites.{Sited}
+use Rattle.kp_sites.specs.Sites.{Sited}
 use Rattle.kp_stalls.specs.declared.{cause.Cause.Cause, cause.Line.Line, occupants.Stage.Stage}
 use Rattle.kp_stalls.specs.Occupants.{Report, Seen, at, occupants_of, no_stage}
 use Rattle.kp_stalls.specs.{Causes.cause_at, Causes.line_of, Causes.lines_down, Claims.ShowsMoment, Claims.moment_at}

@@ -4,7 +4,7 @@ use Rattle.std.proofs.lemmas.List.{append-nil, drop_more}
 use Rattle.kp_base.specs.declared.row.Row as masks
 use Rattle.kp_pipeline.{specs.Rows.Row, specs.Rows.count_after, proofs.Lists.bit-at}
 use Rattle.kp_sched.specs.Rows.{bit_of, row_seen, rows_seen}
-use Rattle.kp_timing.specs.Sites.{Sited}
+use Rattle.kp_sites.specs.Sites.{Sited}
 use Rattle.kp_stalls.specs.declared.{occupants.Stage.Stage, cause.Line.Line, fate.Fate.Fate, fate.Fate.TheVariants.Open}
 use Rattle.kp_stalls.specs.{Occupants.Report, Occupants.Seen, Occupants.occupants_of, Causes.lines_down}
 use Rattle.kp_stalls.specs.Cycles.{fate_in, lines_from, stage_of, stages_from}

@@ -4,14 +4,14 @@ use Rattle.kp_base.specs.declared.row.Row as masks
 use Rattle.kp_base.specs.First.{first}
 use Rattle.kp_ast.specs.declared.tree.Job.{Job}
 use Rattle.kp_width.specs.Widths.{widths_of}
-use Rattle.kp_frontend.specs.{Feeds.Fed, Feeds.row_in, Sections.sections_of}
+use Rattle.kp_image.specs.{Feeds.Fed, Feeds.row_in, Sections.sections_of}
 use Rattle.kp_pipeline.specs.Rows.{taken}
 use Rattle.kp_stage.specs.Start.{AreSamples, input}
 use Rattle.kp_machine.specs.Machine.{inputs_from, machine_of, values_in}
 use Rattle.kp_run.{specs.Columns.AreColumns, specs.Columns.Taken, specs.Columns.row_taken, proofs.Gathering.rows_fit_taken, proofs.Gathering.taken_is}
 use Rattle.kp_run.proofs.{Given.rows_fed, Given.rows_given, Samples.many}
 use Rattle.kp_sched.specs.Rows.{rows_seen}
-use Rattle.kp_timing.specs.Sites.{sited}
+use Rattle.kp_sites.specs.Sites.{sited}
 use Rattle.kp_stalls.specs.{declared.cause.Line.Line, Occupants.report, Cycles.lines_from}
 use Rattle.kp_stalls_run.specs.Runs.{settled}
 

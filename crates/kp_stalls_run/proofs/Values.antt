@@ -21,7 +21,7 @@ use Rattle.kp_implements.specs.Traces.{AreQuiet, inputs_seen}
 use Rattle.kp_synth_tables.specs.Keys.{is_alive, keys_of}
 use Rattle.kp_stalls.specs.declared.cause.{Cause.Cause, Cause.TheVariants.Value, Cause.TheVariants.Squashed, Guess.Guess, Line.Line, Wait.Wait, Wrong.Wrong}
 use Rattle.kp_stalls.specs.{Claims.moment_at, Occupants.report}
-use Rattle.kp_timing.specs.Sites.{sited}
+use Rattle.kp_sites.specs.Sites.{sited}
 use Rattle.kp_stalls_run.specs.Claims.{moment_in}
 use Rattle.kp_stalls_run.specs.Runs.{cause_with, given_in, guess_with, guessed_in, line_with, run_lines, settled, state_at, wrong_with}
 use Rattle.kp_stalls_run.specs.inner.Replays.{HoldsState, names_guess, names_one, no_line, run_at}

@@ -9,7 +9,7 @@ use Rattle.kp_machine.specs.Machine.{inputs_from, machine_of, pipe_of, start_hin
 use Rattle.kp_machine.specs.Slots.{sample_stages}
 use Rattle.kp_stalls.specs.declared.cause.{Cause.Cause, Cause.TheVariants.Squashed, Guess.Guess, Line.Line}
 use Rattle.kp_stalls.specs.{Claims.read_site, Occupants.report, Cycles.lines_from}
-use Rattle.kp_timing.specs.Sites.{sited}
+use Rattle.kp_sites.specs.Sites.{sited}
 use Rattle.kp_stalls_run.specs.Guessed.{guessed_word}
 
 -- Sample x, if it is one of stage k, has in cycle T the value that instruction i takes.

@@ -1,7 +1,7 @@
 // The values that were guessed, from the registers of a netlist that runs again.
 ghost use Rattle.std.specs.Prelude.{◌≡◌, ◌<◌, ◌≤◌, OnOk, get_or, length, map};
 ghost use Rattle.std.specs.List.{All, list_any};
-ghost use Rattle.kp_timing.specs.Sites.{no_site, sited};
+ghost use Rattle.kp_sites.specs.Sites.{no_site, sited};
 ghost use Rattle.kp_synth.specs.Carrying.{Carries};
 ghost use Rattle.kp_implements.specs.Shows.{Shows};
 ghost use Rattle.kp_synth_tables.specs.Keys.{keys_of};
@@ -16,10 +16,10 @@ use kp_frontend::Accepted;
 use kp_net::Netlist;
 use kp_run::laws::a_job_gives_its_own_inputs;
 use kp_run::step;
+use kp_sites::Sites;
 use kp_stalls::{Cause, Guess, Line, Wrong};
 use kp_synth::synth;
 use kp_synth_tables::Layout;
-use kp_timing::Sites;
 use std::alloc::Global;
 
 /// Gives each guess that lines name the value that was guessed: a netlist runs again as far as the last of these lines. The only error is out of

@@ -10,7 +10,7 @@ ghost use Rattle.kp_stalls.specs.declared.fate.Fate.TheVariants.{Open};
 ghost use Rattle.kp_stalls.specs.Causes.{lines_down};
 ghost use Rattle.kp_stalls.specs.Occupants.{occupants_of, report, stored};
 ghost use Rattle.kp_stalls.specs.Cycles.{fate_in, lines_from, stages_from};
-ghost use Rattle.kp_timing.specs.Sites.{sited};
+ghost use Rattle.kp_sites.specs.Sites.{sited};
 ghost use Rattle.kp_stalls.specs.Windows.{Follows};
 ghost use Rattle.kp_stalls_run.specs.Runs.{job_stalls, settled};
 ghost use Rattle.kp_stalls_run.specs.inner.Running.{StaysClose, stage_now};

@@ -22,10 +22,10 @@ use Rattle.kp_synth_tables.specs.Keys.{target_at, sample_at, HasKey, keys_of, ke
 use Rattle.kp_synth_tables.{specs.Fits.IsWidth, specs.Fits.Fits, proofs.Apart.targets_apart, proofs.Fitting.fits, proofs.Limits.few, proofs.Limits.limits}
 use Rattle.kp_synth_tables.proofs.{Counting.keys_few, Places.key_had}
 use Rattle.kp_synth_registers.specs.{declared.outcome.Outcome.Outcome, Meaning.CellFits, Meaning.CellsFit, Meaning.node_at}
-use Rattle.kp_synth_close.specs.{declared.control.RowNodes.RowNodes, Nexts.Closes, Nexts.NextIs, Nexts.port_word, Nexts.PortFits, Nexts.no_node_id}
-use Rattle.kp_synth_close.specs.{Control.ShowRow, Closed.Starts, Closed.Closed}
-use Rattle.kp_synth_close.specs.Shows.{named_with, reg_slot, file_slot, port_slot, registers_of, files_of, other_names, NamedBy, Shows}
-use Rattle.kp_synth_close.proofs.Whole.{shows_over, words_always, shows_anew, holds_over, holds_anew}
+use Rattle.kp_synth_next.specs.{declared.control.RowNodes.RowNodes, Nexts.Closes, Nexts.NextIs, Nexts.port_word, Nexts.PortFits, Nexts.no_node_id}
+use Rattle.kp_synth_next.specs.{Control.ShowRow, Closed.Starts, Closed.Closed}
+use Rattle.kp_synth_next.specs.Shows.{named_with, reg_slot, file_slot, port_slot, registers_of, files_of, other_names, NamedBy, Shows}
+use Rattle.kp_synth_next.proofs.Whole.{shows_over, words_always, shows_anew, holds_over, holds_anew}
 use Rattle.kp_synth.specs.inner.Built.{no_word, reg_count, file_count, visible_regs, other_reg, other_regs, first_start, net_regs, net_parts, made_net, SpelledReg, SpelledFile, SpelledPort, Spelled}
 use Rattle.kp_synth.proofs.Parts.{zero_plus, visible_named, wide, visible_counted, visible_at, others_counted, others_named, other_at, ports_named, port_at, ports_counted, FileIs, file_at, files_counted, files_named}
 use Rattle.kp_synth.proofs.{Numbers.is_file, Numbers.register_place, Numbers.file_found, Places.file_number}

@@ -4,7 +4,7 @@ use Rattle.std.{proofs.lemmas.Option.slice_get_cases, specs.Prelude.slice_get}
 use Rattle.kp_ast.specs.declared.tree.Job.{Job}
 use Rattle.kp_pipeline.specs.Pipeline.{PipelineState, Inputs, above, hits, is_candidate, candidate_hits, intent_known, forwarded, ok_value}
 use Rattle.kp_pipeline.{specs.Sequential.intends, proofs.Cycle.truth-in}
-use Rattle.kp_net_gates.specs.Forward.{enable_on, set_on, set_value as number_of_set}
+use Rattle.kp_fwd.specs.Forward.{enable_on, set_on, set_value as number_of_set}
 use Rattle.kp_synth_registers.specs.{declared.outcome.Set.Set, Meaning.IsTest, Meaning.set_value, Holding.Holds, Holding.optional}
 use Rattle.kp_machine.specs.{Machine.machine_of, Slots.targets_of}
 use Rattle.kp_net.specs.{declared.node.NodeId.NodeId, Nodes.Cells, Nodes.at, Nodes.on, Growth.Held, Growth.Kept}

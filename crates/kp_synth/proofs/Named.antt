@@ -6,7 +6,7 @@ use Rattle.kp_machine.{proofs.Cases.by_test, specs.Slots.Slot, proofs.Apart.has_
 use Rattle.kp_ast.specs.Expressions.{is_same_name}
 use Rattle.kp_net.specs.Names.{same, among, Differ}
 use Rattle.kp_synth_tables.specs.Keys.{no_slot}
-use Rattle.kp_synth_close.specs.Shows.{other_names}
+use Rattle.kp_synth_next.specs.Shows.{other_names}
 
 -- Each entry has a name of its own.
 abbrev pub Own : List Slot → Type 0

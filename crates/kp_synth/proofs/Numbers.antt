@@ -7,7 +7,7 @@ use Rattle.kp_machine.specs.Machine.{registers_before, files_before}
 use Rattle.kp_ast.specs.declared.tree.Job.{Job}
 use Rattle.kp_synth_tables.specs.declared.key.Key.{Key, TheVariants.Visible}
 use Rattle.kp_synth_tables.specs.Keys.{no_slot, target_at, visible_keys, later_keys, hint_keys, keys_of, place_in, place_of}
-use Rattle.kp_synth_close.specs.Shows.{files_of}
+use Rattle.kp_synth_next.specs.Shows.{files_of}
 use Rattle.kp_synth.proofs.Places.{comes_from, file_number}
 
 abbrev pub is_file : Slot → Bool

@@ -8,7 +8,7 @@ use Rattle.kp_machine.specs.Slots.{pipes_of}
 use Rattle.kp_machine.specs.Machine.{machine_of, result_for, write_stage_of, is_enabled_by, address_by, enabled_of, address_in}
 use Rattle.kp_net.specs.{declared.node.NodeId.NodeId, Nodes.Cells, Nodes.at, Nodes.on, Growth.Held, Growth.Wire, Growth.Kept}
 use Rattle.kp_net.proofs.Growing.{kept_then}
-use Rattle.kp_net_gates.specs.Forward.{BitOk, enable_on}
+use Rattle.kp_fwd.specs.Forward.{BitOk, enable_on}
 use Rattle.kp_synth_registers.specs.{declared.outcome.Set.Set, Holding.Holds, Holding.optional}
 use Rattle.kp_synth_registers.specs.Meaning.{IsTest, MayGive, SetFits, set_value}
 use Rattle.kp_synth_registers.proofs.Growth.{test_kept, may_give_kept, set_kept}

@@ -16,8 +16,8 @@ use Rattle.kp_implements.specs.Traces.{trace_of, no_state, inputs_seen, state_at
 use Rattle.kp_implements.specs.Shows.{Shows, IsInOrder, HasRegister, HasFile}
 use Rattle.kp_implements.specs.Anew.{trace_from, left_by_reset, HasMemory, BeginsAnew}
 use Rattle.kp_implements.proofs.Anew.{left_alike}
-use Rattle.kp_synth_close.specs.Shows as place
-use Rattle.kp_synth_close.specs.Shows.{NamedBy, HoldsFrom, reg_slot, file_slot, port_slot, named_with, shown_word}
+use Rattle.kp_synth_next.specs.Shows as place
+use Rattle.kp_synth_next.specs.Shows.{NamedBy, HoldsFrom, reg_slot, file_slot, port_slot, named_with, shown_word}
 use Rattle.kp_synth.{specs.Carrying.Carries, proofs.Named.names_through}
 use Rattle.kp_synth.proofs.Places.{passes_at, comes_from, stands_at, first_at, file_number}
 

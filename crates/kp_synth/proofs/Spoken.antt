@@ -7,7 +7,7 @@ use Rattle.kp_net.{specs.declared.node.NodeId.NodeId, specs.Growth.Held, specs.G
 use Rattle.kp_synth_registers.specs.{declared.outcome.Outcome.Outcome, Meaning.Ready, Meaning.IsTest, Meaning.Says, Meaning.guesses_at, Meaning.node_at}
 use Rattle.kp_synth_registers.{specs.declared.registers.Reads.Reads, proofs.Growth.test_kept, proofs.Growth.gives_kept, proofs.Growth.says_kept}
 use Rattle.kp_synth_stage.{specs.declared.row.Source.Source, specs.declared.work.Work.Work, specs.Work.Fits, specs.Work.SlotsHave, proofs.Nearest.sources_kept}
-use Rattle.kp_synth.specs.{declared.staging.Entered.Entered, inner.Seeing.PipesIn, inner.Seeing.SamplesIn, inner.Seeing.HintsIn, inner.Seeing.Computes}
+use Rattle.kp_synth.specs.{declared.pipeline_stage.Entered.Entered, inner.Seeing.PipesIn, inner.Seeing.SamplesIn, inner.Seeing.HintsIn, inner.Seeing.Computes}
 use Rattle.kp_synth.specs.inner.{Whole.SetMeans, Whole.SetsMean, Descending.EnteredOk, Descending.Faces, Descending.SayFrom}
 use Rattle.kp_synth.proofs.{Downward.stages_are, Downward.stages_end, Stalling.sees_above_kept}
 

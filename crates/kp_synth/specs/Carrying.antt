@@ -5,7 +5,7 @@ use Rattle.kp_ast.specs.declared.tree.Job.{Job}
 use Rattle.kp_stage.specs.Start.{start_of}
 use Rattle.kp_machine.specs.Machine.{state_of}
 use Rattle.kp_net.specs.Netlist.{Net, Input, State, start_of as net_start, state_after}
-use Rattle.kp_synth_close.specs.Shows.{HoldsFrom}
+use Rattle.kp_synth_next.specs.Shows.{HoldsFrom}
 use Rattle.kp_implements.specs.{Naming.value_shown, Traces.AreQuiet, Anew.HasMemory, Anew.left_by_reset}
 
 pub record Carries (net : Net) (job : Job) : Type 0 where

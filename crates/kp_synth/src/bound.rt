@@ -1,7 +1,7 @@
 //! An upper bound on the number of nodes.
 ghost use Rattle.std.specs.Prelude.{◌≡◌, ◌+◌, ◌≤◌, ◌*◌};
 ghost use Rattle.kp_stage.specs.Counts.{summary_of};
-ghost use Rattle.kp_synth_close.specs.Bound as bounds;
+ghost use Rattle.kp_synth_next.specs.Bound as bounds;
 ghost use Rattle.kp_synth.specs.inner.Rooms.{reading_room, inside_room, closing_room};
 
 use kp_stage::Design;

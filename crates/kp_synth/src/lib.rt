@@ -2,7 +2,7 @@
 //!
 //! `synth` combines the results of the lower crates: the tables of the design (kp_synth_tables), the nodes that read
 //! the registers (kp_synth_registers), the nodes of a stage (kp_synth_stage), and the next
-//! values of registers and files (kp_synth_close). The other parts of the netlist, its registers, files and ports with
+//! values of registers and files (kp_synth_next). The other parts of the netlist, its registers, files and ports with
 //! their names and start values, are built here (`netlist`). What it means that a netlist shows (implements) the
 //! pipelined machine is defined in kp_implements.
 //!
@@ -11,31 +11,31 @@
 //! stages are built from the last one down, and each of them adds its rows for those below. `specs/Stages` bounds the number of nodes.
 #![tactic(auto)]
 
-mod adding;
-mod all;
 mod bound;
-mod entering;
+mod bypass_entries;
 mod files;
+mod flow;
+mod forwarded_result;
 mod labels;
-mod making;
-mod missing;
+mod misprediction;
 mod netlist;
+mod pipeline_stage;
 mod registers;
-mod rows;
 mod stage;
-mod staging;
+mod stage_inputs;
+mod stages;
 
 ghost use Rattle.std.specs.Prelude.{◌≡◌, ◌≤◌, length, IfOk};
 ghost use Rattle.kp_stage.specs.Counts.{summary_of};
 ghost use Rattle.kp_stage.specs.Start.{start_of, IsStartOf};
 ghost use Rattle.kp_net.specs.Names.{IsNamed};
 ghost use Rattle.kp_net.specs.Widths.{Distinct};
-ghost use Rattle.kp_synth_close.specs.Bound as bounds;
+ghost use Rattle.kp_synth_next.specs.Bound as bounds;
 ghost use Rattle.kp_implements.specs.{Shows.Shows, Shows.IsInOrder, Anew.BeginsAnew};
 ghost use Rattle.kp_synth.specs.Carrying.{Carries};
 
 use crate::bound::enough_nodes;
-use crate::making::make;
+use crate::flow::make;
 use kp_base::NoMemory;
 use kp_net::Netlist;
 use kp_stage::{Design, Start};

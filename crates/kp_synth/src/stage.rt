@@ -10,8 +10,8 @@ ghost use Rattle.kp_synth_stage.specs.Work.{stmts_at, AreSlots, Fits, SlotsHave,
 ghost use Rattle.kp_synth.specs.inner.Seeing.{SeesAbove, PipesIn, SamplesIn, HintsIn, Computes};
 
 use kp_base::NoMemory;
+use kp_engine::stall_of;
 use kp_net::NodeId;
-use kp_net_gates::stall_of;
 use kp_pool::Pool;
 use kp_stage::Design;
 use kp_synth_stage::{Slots, Source, Work, run_block};

@@ -6,9 +6,9 @@
 #![tactic(auto)]
 
 mod outcome;
-mod reading;
 mod registers;
+mod stage_values;
 
 pub use outcome::{Made, Outcome, Set};
-pub use reading::{full_in, kept, pipe_in, result_in, sample_in};
 pub use registers::{Reads, read_cells, word_in};
+pub use stage_values::{full_in, kept, pipe_in, result_in, sample_in};

@@ -17,7 +17,7 @@ use Rattle.kp_machine.specs.Trees as trees
 use Rattle.kp_pipeline.specs.Sequential.{first_value}
 use Rattle.kp_net.specs.{declared.node.NodeId.NodeId, Nodes.Cells, Nodes.at, Nodes.on, Widths.AllRight, Growth.Held, Growth.Wire, Growth.Kept}
 use Rattle.kp_net.proofs.Growing.{wire_kept, kept_then}
-use Rattle.kp_net_gates.specs.Forward.{enable_on}
+use Rattle.kp_fwd.specs.Forward.{enable_on}
 use Rattle.kp_build.specs.Names.{Scope, Gives}
 use Rattle.kp_synth_registers.specs.{declared.outcome.Set.Set, Holding.optional, Meaning.SetFits, Meaning.set_value}
 use Rattle.kp_synth_registers.proofs.Growth.{set_kept, set_fits}

@@ -17,7 +17,7 @@ use Rattle.kp_machine.proofs.{Scopes.IsSlot, Scopes.fresh_none, Scopes.found_sen
 use Rattle.kp_machine.specs.Trees as trees
 use Rattle.kp_net.specs.{declared.node.NodeId.NodeId, Nodes.Cells, Nodes.at, Nodes.on, Widths.AllRight, Growth.Held, Growth.Wire, Growth.Kept}
 use Rattle.kp_net.proofs.{Growing.wire_kept, Growing.kept_then, Values.at_fits}
-use Rattle.kp_net_gates.specs.Forward.{BitOk, enable_on}
+use Rattle.kp_fwd.specs.Forward.{BitOk, enable_on}
 use Rattle.kp_build.specs.Names.{Scope}
 use Rattle.kp_synth_tables.{proofs.Fitting.width_there, proofs.Fitting.address_there, proofs.Fitting.no_address, specs.Keys.target_at}
 use Rattle.kp_synth_registers.specs.Meaning.{PutFits}

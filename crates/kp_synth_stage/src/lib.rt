@@ -7,7 +7,7 @@
 #![tactic(auto)]
 
 mod block;
-mod reading;
+mod bypass;
 mod row;
 mod slots;
 mod statement;
@@ -15,7 +15,7 @@ mod value;
 mod work;
 
 pub use block::run_block;
-pub use reading::source_truth;
+pub use bypass::source_truth;
 pub use row::{Own, Row, Source, Truth};
 pub use slots::{Slot, Slots};
 pub use statement::source_at;

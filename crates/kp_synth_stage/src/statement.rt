@@ -17,7 +17,7 @@ ghost use Rattle.kp_synth_stage.specs.inner.Doing.{target_of};
 ghost use Rattle.kp_synth_stage.specs.inner.Scopes.{scope_at, Bound};
 ghost use Rattle.kp_synth_stage.specs.inner.Statements.{GuessOk, ReadGives, made_of};
 
-use crate::reading::{condition, read_source};
+use crate::bypass::{condition, read_source};
 use crate::row::{Answer, Source};
 use crate::slots::{Slots, number_of, target_named};
 use crate::value::{value, value_if};

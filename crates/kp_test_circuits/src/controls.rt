@@ -2,7 +2,8 @@
 ghost use Rattle.std.specs.Prelude.{◌≡◌, ◌<◌, ◌≤◌, length, IfSome, IsTrue, All};
 ghost use Rattle.kp_net.specs.Growth.{Held, Wire};
 ghost use Rattle.kp_net.specs.Widths.{wide};
-ghost use Rattle.kp_net_gates.specs.{Forward.BitOk, Forward.PairOk, Forward.SameWidth, Forward.CandidateOk, Misses.BitsOk};
+ghost use Rattle.kp_fwd.specs.Forward.{BitOk, PairOk, SameWidth, CandidateOk};
+ghost use Rattle.kp_engine.specs.Misses.{BitsOk};
 
 use crate::circuit::Circuit;
 use crate::gates::{is_there, is_wire, of_bits, of_words, read_nodes, row, source};
@@ -10,8 +11,9 @@ use crate::line::Line;
 use crate::nodes::add_node;
 use crate::operations::Op;
 use crate::report::Report;
+use kp_engine::{Sweep, mismatch, sweep};
+use kp_fwd::{Candidate, carried, hit_of, select};
 use kp_net::NodeId;
-use kp_net_gates::{Candidate, Sweep, carried, hit_of, mismatch, select, sweep};
 use kp_pool::Pool;
 use std::alloc::Global;
 

@@ -8,10 +8,10 @@ use crate::circuit::Circuit;
 use crate::line::Line;
 use crate::operations::Op;
 use kp_bits::{BinOp, Bits};
+use kp_engine::{full_next, stall_of, update_of};
 use kp_net::{Kind, Node, NodeId, Operands};
 use kp_net_gates::{
-    binary, bit, both, choose, complement, constant, either, full_next, inverse, join, part, pick,
-    same, stall_of, update_of,
+    binary, bit, both, choose, complement, constant, either, inverse, join, part, pick, same,
 };
 use kp_pool::Pool;
 use std::alloc::Global;

@@ -10,12 +10,12 @@ use Rattle.kp_pipeline.specs.SpeculativeTimeline as timeline
 use Rattle.kp_machine.specs.{Slots.targets_of, Machine.machine_of, Machine.result_for}
 use Rattle.kp_seq.specs.Recorded.{Recorded, reads_from, record_of}
 use Rattle.kp_sched.specs.Rows.{bit_of}
-use Rattle.kp_timing.{specs.declared.sites.Writer.Writer, specs.Sites.sited, specs.Sites.result_number, specs.Sites.writer_by, proofs.Asking.stage_unmet}
-use Rattle.kp_timing.proofs.Sizes.{writer_get, writers_many}
-use Rattle.kp_timing.proofs.Results.{IsResult, is_result, no_result, past_targets, ready_same, writes_same}
+use Rattle.kp_sites.specs.{declared.sites.Writer.Writer, Sites.sited, Sites.result_number, Sites.writer_by}
+use Rattle.kp_sites.proofs.{Asking.stage_unmet, Sizes.writer_get, Sizes.writers_many}
+use Rattle.kp_sites.proofs.Results.{IsResult, is_result, no_result, past_targets, ready_same, writes_same}
 use Rattle.kp_timing.specs.inner.Deciding.{Held, record_in, is_full, met_from, is_met, some_unmet_from, waits_by, is_blocked_by, found_at, found_down, no_stage_found, moves_by}
-use Rattle.kp_timing.specs.{declared.deciding.Found.Found, Timed.stalled_by}
-use Rattle.kp_timing.specs.Reports as reports
+use Rattle.kp_timing.specs.{declared.movement.Found.Found, Timed.stalled_by}
+use Rattle.kp_sites.specs.Reports as reports
 
 -- nothing is stored
 pub nothing : {X : Type 0} (x : X) (n j : ℕ) → get_or (replicate n x) j x ≡ x

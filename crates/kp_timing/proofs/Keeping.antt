@@ -15,8 +15,9 @@ use Rattle.kp_pipeline.proofs.Lists.{bits-same}
 use Rattle.kp_seq.specs.{Running.Running, Running.state, Recorded.Recorded, Recorded.record_of}
 use Rattle.kp_base.specs.declared.row.Row as masks
 use Rattle.kp_sched.specs.Rows.{bit_of, row_seen}
-use Rattle.kp_timing.{specs.Sites.Sited, specs.Reports.HasRoom, specs.Reports.nothing_recorded, proofs.Sizes.record_room}
-use Rattle.kp_timing.specs.{Timed.IsPlain, Timed.stalled_by, declared.deciding.Found.Found}
+use Rattle.kp_sites.specs.{Sites.Sited, Reports.HasRoom, Reports.nothing_recorded}
+use Rattle.kp_sites.proofs.Sizes.{record_room}
+use Rattle.kp_timing.specs.{Timed.IsPlain, Timed.stalled_by, declared.movement.Found.Found}
 use Rattle.kp_timing.specs.inner.Deciding.{Held, record_in, moves_by, taken_down, found_down, no_stage_found}
 use Rattle.kp_timing.specs.inner.Kept.{AreSites, IsKept, Advances}
 use Rattle.kp_timing.proofs.Decisions.{AllFound, found, moves_is, nothing}

@@ -9,7 +9,3 @@ pub mod Plain
 pub mod Texts
 pub mod Stepping
 pub mod Steps
-pub mod Writers
-pub mod Results
-pub mod Asking
-pub mod Sizes

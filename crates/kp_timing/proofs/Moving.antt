@@ -2,7 +2,7 @@
 use Rattle.std.proofs.Common.{◌≡◌, ◌≢◌, ◌∙◌, ℕ, zero, suc, ◌+◌, ◌<◌, ◌≤◌, List, None, Bool, true, false, cond, not, ◌&&◌, length, get_or, set, refl, ap, sym, subst, arith, ⊎_elim, ◌⊎◌, inl, inr}
 use Rattle.std.proofs.lemmas.{Bool.cases_eq, Bool.cases_lt, List.length-set, List.get_or-set_same, List.get_or-set_other}
 use Rattle.std.{proofs.lemmas.List.Edits.swap_is, proofs.lemmas.List.Edits.length-swap, specs.Prelude.is_some, specs.List.swap}
-use Rattle.kp_timing.specs.Reports.{nothing_recorded}
+use Rattle.kp_sites.specs.Reports.{nothing_recorded}
 use Rattle.kp_timing.specs.inner.Deciding.{Held, record_in, moves_by, taken_by, taken_down}
 
 swap_to : {X : Type 0} (xs : List X) (i j : ℕ) (d : X) → i < length xs → j < length xs → get_or (swap xs i j) j d ≡ get_or xs i d

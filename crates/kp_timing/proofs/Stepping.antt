@@ -1,9 +1,9 @@
 -- The steps of the loops over stages.
 use Rattle.std.proofs.Common.{◌≡◌, ◌∙◌, ℕ, suc, ◌+◌, ◌-◌, ◌<◌, ◌≤◌, List, Option, None, Bool, true, false, cond, leb, not, ◌&&◌, ◌||◌, drop, length, get_or, set, ap, sym, arith}
 use Rattle.std.{proofs.lemmas.List.drop_more, specs.List.swap}
+use Rattle.kp_sites.specs.{declared.sites.Site.Site, declared.sites.Writer.Writer, Sites.Sited, Reports.is_ready, Reports.may_write}
 use Rattle.kp_timing.specs.inner.Deciding.{Held, record_in, is_full, met_from, is_unmet, some_unmet_from, found_at, found_down, moves_by, taken_by, taken_down}
-use Rattle.kp_timing.specs.{declared.deciding.Found.Found, declared.sites.Site.Site, declared.sites.Writer.Writer, Sites.Sited}
-use Rattle.kp_timing.specs.Reports.{is_ready, may_write}
+use Rattle.kp_timing.specs.declared.movement.Found.{Found}
 
 -- the stages above a read
 pub met_here : (h : Held) (b : List Bool) (w : Writer) (a n k : ℕ) → k < n → (is_full h k && (leb k w.write && may_write w (record_in h k) k a)) ≡ true

@@ -3,5 +3,3 @@ pub mod Cycles
 pub mod Lines
 pub mod Unfit
 pub mod inner
-pub mod Sites
-pub mod Reports

@@ -1,4 +1,3 @@
 -- For private contracts and proofs only: no public clause of the crate cites these definitions.
 pub mod Deciding
 pub mod Kept
-pub mod Ported

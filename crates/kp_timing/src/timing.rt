@@ -3,13 +3,14 @@ ghost use Rattle.std.specs.Prelude.{◌≡◌, IfOk, None};
 ghost use Rattle.std.specs.Coded.{codes};
 ghost use Rattle.kp_ast.specs.contracts.tree.ExprKind as tree;
 ghost use Rattle.kp_stage.specs.Start.{start_of, stall_word};
-ghost use Rattle.kp_frontend.specs.Spans.{word_in};
+ghost use Rattle.kp_image.specs.Spans.{word_in};
 ghost use Rattle.kp_timing.specs.Timed.{IsOpened};
 ghost use Rattle.kp_timing.specs.Unfit.{untimed};
 
 use crate::Timeline;
 use kp_base::NoMemory;
-use kp_frontend::{Accepted, StallPattern};
+use kp_frontend::Accepted;
+use kp_image::StallPattern;
 use std::alloc::Global;
 
 /// An opened timeline, the stall words of its job, and the number of cycles to run.

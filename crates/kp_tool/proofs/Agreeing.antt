@@ -4,7 +4,9 @@ use Rattle.std.{proofs.Math.Path.fun_ext, proofs.lemmas.Bool.cond-true, specs.de
 use Rattle.kp_base.specs.{First.first, declared.refusal.Refusal.Refusal}
 use Rattle.kp_ast.specs.declared.tree.Job.{Job}
 use Rattle.kp_width.specs.Widths.{widths_of}
-use Rattle.kp_frontend.{specs.Sections.sections_of, specs.Judging.Judges, specs.Judging.JudgesHead, specs.Judging.broken_in, proofs.Verdicts.one_verdict}
+use Rattle.kp_image.specs.Sections.{sections_of}
+use Rattle.kp_frontend.specs.Judging.{Judges, JudgesHead, broken_in}
+use Rattle.kp_frontend.proofs.Verdicts.{one_verdict}
 use Rattle.kp_stage.{specs.Counts.summary_of, specs.Stages.broken_of, specs.Start.start_of, specs.Start.input as samples_at, proofs.Unbroken.first_none}
 use Rattle.kp_pipeline.specs.{Accepted.Accepted, Pipeline.Inputs, Rows.Row, Rows.Trace, Rows.counts, Rows.passed, Rows.taken}
 use Rattle.kp_pipeline.proofs.{Counts.counts-passed, Legality.legal}
@@ -15,13 +17,14 @@ use Rattle.kp_sched.specs.Runs.{passes, due_value, ShowsAlike}
 use Rattle.kp_sched.proofs.Runs.{alike_is_legal}
 use Rattle.kp_implements.specs.{Naming.module_name, Traces.trace_of, Traces.inputs_seen}
 use Rattle.kp_run.{specs.Cycles.inputs_to, specs.Cycles.own_trace, proofs.Inputs.seen_to, proofs.Inputs.quiet_to}
-use Rattle.kp_watch.specs.{Watching.Agrees, Dumps.own_run}
+use Rattle.kp_watch.specs.Watching.{Agrees}
+use Rattle.kp_vcd.specs.Dumps.{own_run}
 use Rattle.kp_equiv.specs.Showing.{ShowsButName}
 use Rattle.kp_timing.specs.Unfit.{untimed}
 use Rattle.kp_words.specs.declared.commands.JobCommand.{JobCommand, TheVariants.Seq, TheVariants.Check, TheVariants.Sim, TheVariants.Timing, TheVariants.Pipe}
 use Rattle.kp_words.specs.declared.commands.Command.TheVariants.{OnJob, Read, Watch}
-use Rattle.kp_tool_report.specs.{States.sequential_text, States.text_after, Runs.run_text, Runs.sim_text, Runs.counts_behind}
-use Rattle.kp_tool_report.proofs.Sims.{rows_many}
+use Rattle.kp_report.specs.{States.sequential_text, States.text_after, Runs.run_text, Runs.sim_text, Runs.counts_behind}
+use Rattle.kp_report.proofs.Sims.{rows_many}
 use Rattle.kp_tool.specs.{Due.DueFor, Due.DueOfJob, Due.DueOfTiming, Read.ReadsVerilog, Refused.Breaks, Refused.own_rule}
 use Rattle.kp_tool.specs.Watched.{DueOfNetlist, agrees, differs, of_other, of_job}
 use Rattle.kp_tool.specs.Agreeing.{sequential_state, IsSequential, IsChecked, IsFaulty, IsReadBack}

@@ -7,13 +7,13 @@ use Rattle.kp_base.specs.declared.refusal.Refusal.{Refusal}
 use Rattle.kp_ast.specs.declared.tree.Job.{Job}
 use Rattle.kp_frontend.specs.Judging.{Judges, JudgesText, JudgesHeadText, too_long, JudgesHead, JudgesHead.head_over, JudgesHead.head_within}
 use Rattle.kp_frontend.specs.Judging.Judges.{over, within}
-use Rattle.kp_tool_report.specs.Texts.{refusal_line}
+use Rattle.kp_report.specs.Texts.{refusal_line}
 use Rattle.kp_net.specs.Netlist.{Net}
 use Rattle.kp_vlog.specs.{Canon.canon, Splitting.FirstEnds}
 use Rattle.kp_tool.specs.Due.{Completes, Due, DueFor, DueOfJob, DueOfProgram, program_of, IsDue, IsWhole}
 use Rattle.kp_tool.specs.{Read.ReadsVerilog, Read.DueOfRead, Read.read_over, Read.read_within, Watched.DueOfHead, Watched.DueOfText}
 use Rattle.kp_tool.specs.{Compared.DueOfModules, Compared.DueOfPairHead, Scripted.DueOfScript, Scripted.DueOfScriptHead}
-use Rattle.kp_debug_report.specs.Scripts.{script_of}
+use Rattle.kp_debug_script.specs.Scripts.{script_of}
 
 too_long_due : (command : Command) (old new : Option (List ℕ)) (taken : List ℕ) → reads_input (Some command) ≡ true → Consumes old new taken → length taken ≡ 16777217 → IsWhole (reads_input (Some command)) taken new × DueFor (Some command) taken 2 (refusal_line too_long)
 unfolding program_of

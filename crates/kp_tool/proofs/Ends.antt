@@ -8,7 +8,7 @@ use Rattle.kp_words.specs.declared.commands.{Command.TheVariants.OnJob, JobComma
 use Rattle.kp_frontend.specs.{Judging.JudgesText, Judging.JudgesHeadText, Accepting.AnswersText, Accepting.AnswersHead}
 use Rattle.kp_vlog.specs.Verdict.{AnswersNet}
 use Rattle.kp_timing.specs.{Unfit.untimed, Lines.timing_text}
-use Rattle.kp_tool_report.specs.Texts.{refusal_line}
+use Rattle.kp_report.specs.Texts.{refusal_line}
 use Rattle.kp_tool.specs.{Saying.Says, Due.DueFor, Due.DueOfJob, Due.DueOfTiming, Read.ReadsVerilog, Ends.Ends, Ends.EndsAt}
 use Rattle.kp_tool.specs.{inner.Failures.failure_of, inner.Failures.misread_of, declared.failure.Failure.Failure, declared.failure.Stop.Stop}
 use Rattle.kp_tool.specs.declared.failure.Stop.TheVariants.{ReadFault, WriteFault, NoMemory}

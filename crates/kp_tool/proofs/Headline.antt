@@ -20,10 +20,10 @@ use Rattle.kp_frontend.specs.Judging.{Judges, broken_in, JudgesHead, Judges.with
 use Rattle.kp_frontend.specs.Judging.JudgesHead.{head_within}
 use Rattle.kp_words.specs.declared.commands.JobCommand.TheVariants.{Sim, Vcd, Timing, Pipe}
 use Rattle.kp_words.specs.declared.commands.Command.TheVariants.{OnJob, Watch, Compare, Debug, Generate}
-use Rattle.kp_tool_report.{specs.Runs.sim_text, proofs.Sims.rows_many, specs.Line.gen_text, specs.Line.totals_of, specs.Line.totals_line}
+use Rattle.kp_report.{specs.Runs.sim_text, proofs.Sims.rows_many, specs.Line.gen_text, specs.Line.totals_of, specs.Line.totals_line}
 use Rattle.kp_gen.{specs.Generated.gen_job, proofs.Unbroken.generated_unbroken}
-use Rattle.kp_vcd.{specs.Held.held, specs.Held.Changes, proofs.Holding.recorded_held, proofs.Holding.recorded_new}
-use Rattle.kp_watch.{specs.Dumps.own_run, specs.Dumps.values_at, specs.Dumps.vcd_dump, proofs.Lasting.run_lasts}
+use Rattle.kp_vcd.specs.{Held.held, Held.Changes, Dumps.own_run, Dumps.values_at, Dumps.vcd_dump}
+use Rattle.kp_vcd.proofs.{Holding.recorded_held, Holding.recorded_new, Lasting.run_lasts}
 use Rattle.kp_timing.{specs.Unfit.untimed, proofs.Plain.has_timeline}
 use Rattle.kp_tool.specs.Headline.{IsMoving, HasNoNeedlessStall, HasNoNeedlessStallFrom, IsVerilogWith, IsRunWith, IsDumpedWith, IsGeneratedWith, IsTimed, IsDebuggedWith, IsNetlistWith, IsPairAlike, IsPairDifferent, Implements, IsImplementation, RunsWith, IsPairWith}
 use Rattle.kp_tool.specs.{Due.DueFor, Due.DueOfTiming, Read.ReadsVerilog}
@@ -33,7 +33,8 @@ use Rattle.kp_net.specs.Netlist.{Net, Input, State, start_of as begin_of, state_
 use Rattle.kp_vlog.specs.Splitting.{FirstEnds}
 use Rattle.kp_equiv.specs.{declared.verdict.Verdict.TheVariants.Same, declared.verdict.Verdict.TheVariants.Differs, Showing.renamed}
 use Rattle.kp_equiv.proofs.{Running.theorem, Shown.states_same, Shown.rows_same, Shown.first_shows, Shown.second_shows, Anew.first_begins, Anew.second_begins}
-use Rattle.kp_debug_report.specs.{declared.command.Command.Command, Scripts.script_of, Inspecting.all_cycles, Inspecting.whole_run}
+use Rattle.kp_debug_script.specs.{declared.command.Command.Command, Scripts.script_of}
+use Rattle.kp_debug.specs.Inspecting.{all_cycles, whole_run}
 
 pub judged_unbroken : (input : List ℕ) (job : Job) → Judges input (Ok job) → broken_in job ≡ None
 judged_unbroken input job (within short (no_rule_broken describes none)) = none

@@ -10,10 +10,10 @@ use Rattle.kp_words.specs.declared.commands.Command.{Command}
 use Rattle.kp_words.specs.declared.commands.Command.TheVariants.{OnJob, Assemble, Read, Watch, Compare, Debug, Generate}
 use Rattle.kp_words.specs.declared.commands.JobCommand.{JobCommand, TheVariants.Timing}
 use Rattle.kp_frontend.{specs.Judging.JudgesHead, proofs.Verdicts.one_head}
-use Rattle.kp_tool_report.specs.Texts.{refusal_line}
+use Rattle.kp_report.specs.Texts.{refusal_line}
 use Rattle.kp_timing.specs.Unfit.{untimed}
 use Rattle.kp_equiv.specs.declared.verdict.Verdict.TheVariants.{Same, Differs}
-use Rattle.kp_debug_report.specs.{declared.command.Command.Command as Step, Scripts.script_of}
+use Rattle.kp_debug_script.specs.{declared.command.Command.Command as Step, Scripts.script_of}
 use Rattle.kp_tool.specs.{Due.DueFor, Due.DueOfJob, Due.DueOfTiming, Due.DueOfProgram, Due.program_of, Read.ReadsVerilog, Read.DueOfVerilog, Read.read_over, Read.read_within}
 use Rattle.kp_tool.specs.Watched.{DueOfText, of_other, of_job, agrees, differs}
 use Rattle.kp_tool.specs.Compared.{DueOfPair, DueOfSecond, DueOfFirst, DueOfModules, DueOfPairHead, ReadsModule, misread, not_jobs}

@@ -10,7 +10,7 @@ use Rattle.kp_implements.specs.Shows.{HasOutputs, IsOfJob}
 use Rattle.kp_vlog.{specs.Verdict.AnswersNet, proofs.Sound.denoted_named}
 use Rattle.kp_tool.specs.{Watched.wrong_netlist, Compared.ReadsModule, Compared.misread, Compared.not_jobs, Compared.jobs, Ends.Ends, inner.Failures.misread_of}
 use Rattle.kp_tool.specs.{inner.Modules.RefusesModule, inner.Modules.MisreadsModule, declared.failure.Failure.Failure}
-use Rattle.kp_tool_report.specs.Texts.{refusal_line}
+use Rattle.kp_report.specs.Texts.{refusal_line}
 use Rattle.kp_tool.specs.declared.failure.Failure.TheVariants as failure
 
 -- a rule of V1 to V5 is an error

@@ -13,8 +13,8 @@ use Rattle.kp_words.specs.declared.commands.JobCommand.TheVariants.{Seq, Check, 
 use Rattle.kp_words.specs.Commands.{command_of}
 use Rattle.kp_frontend.specs.Judging.{most_bytes, too_long, Judges, JudgesHead, JudgesHead.head_within}
 use Rattle.kp_frontend.proofs.Verdicts.{one_verdict, some_verdict, one_head, some_head}
-use Rattle.kp_tool_report.specs.{Texts.bad_words, Texts.refusal_line, Texts.accepted_line, States.sequential_text, Runs.sim_text, Line.gen_text}
-use Rattle.kp_watch.specs.Dumps.{vcd_text}
+use Rattle.kp_report.specs.{Texts.bad_words, Texts.refusal_line, Texts.accepted_line, States.sequential_text, Runs.sim_text, Line.gen_text}
+use Rattle.kp_vcd.specs.Dumps.{vcd_text}
 use Rattle.kp_net.specs.Netlist.{Net}
 use Rattle.kp_vlog.{specs.Canon.canon, specs.Rules.Fault, specs.Verdict.refusal_of, proofs.Unique.one_net, proofs.Unique.one_rule, proofs.Unique.no_rule}
 use Rattle.kp_vlog.{specs.Splitting.FirstEnds, proofs.Ends.one_end, proofs.Ends.some_end}
@@ -28,7 +28,8 @@ use Rattle.kp_tool.specs.Compared.{verdict_status, DueOfPair, ReadsModule, misre
 use Rattle.kp_tool.specs.Scripted.{DueOfScript, DueOfScriptHead}
 use Rattle.kp_tool.specs.Watched.{wrong_netlist, DueOfNetlist, of_other, of_job, DueOfText, DueOfHead}
 use Rattle.kp_tool.proofs.{Pairs.first_right, Pairs.second_right, Pairs.comparable_pair, Readings.some_reading, Differences.said_of_run, Differences.run_said}
-use Rattle.kp_debug_report.specs.{declared.command.Command.Command as Step, Scripts.script_of, Inspecting.debug_text}
+use Rattle.kp_debug_script.specs.{declared.command.Command.Command as Step, Scripts.script_of}
+use Rattle.kp_debug.specs.Inspecting.{debug_text}
 
 -- the texts are equal, except for those that `pipe` may print for a job
 abbrev SameText : Option Command → List ℕ → List ℕ → Type 0

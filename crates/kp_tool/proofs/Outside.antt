@@ -3,7 +3,7 @@ use Rattle.std.proofs.Common.{true, false, ◌≤◌, ◌≡◌, ◌≢◌, ◌�
 use Rattle.std.specs.{declared.option.Option.Option, declared.result.Result.Result, Io.KnownBytes.Consumes, Io.KnownBytes.IsAtEnd}
 use Rattle.kp_base.specs.{declared.refusal.Refusal.Refusal, Causes.Rose}
 use Rattle.kp_words.specs.{declared.commands.Command.Command, Commands.command_of, Commands.reads_input}
-use Rattle.kp_tool_report.specs.Texts.{bad_words}
+use Rattle.kp_report.specs.Texts.{bad_words}
 use Rattle.kp_tool.{proofs.Refusals.refused_where_broken, proofs.Misreads.misread_where_broken, proofs.Ends.weaker, proofs.Statuses.final, proofs.Statuses.no_command, specs.Saying.Says}
 use Rattle.kp_tool.specs.{Due.DueFor, Due.IsDue, Due.IsFinal, Due.Completes, Due.Begins, Due.Between, Refused.Breaks, Misread.Misreads, Ends.Ends, Ends.EndsAt}
 use Rattle.kp_tool.specs.{inner.Failures.stop_status, inner.Failures.end_status, declared.failure.Failure.Failure, declared.failure.Stop.Stop}

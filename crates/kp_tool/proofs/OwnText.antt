@@ -8,7 +8,7 @@ use Rattle.kp_sched.specs.{Lines.row_lines, Runs.passes, Runs.due_value}
 use Rattle.kp_run.specs.Cycles.{own_trace}
 use Rattle.kp_equiv.specs.Showing.{ShowsButName}
 use Rattle.kp_frontend.specs.Judging.{broken_in}
-use Rattle.kp_tool_report.{specs.States.State, specs.Runs.count_line, specs.Runs.run_text, specs.Runs.sim_text, proofs.Alike.lines_alike, proofs.Sims.rows_many}
+use Rattle.kp_report.{specs.States.State, specs.Runs.count_line, specs.Runs.run_text, specs.Runs.sim_text, proofs.Alike.lines_alike, proofs.Sims.rows_many}
 use Rattle.kp_tool.{specs.Watched.own_text, proofs.Agreeing.shown_agrees, proofs.Agreeing.agrees_if_shown}
 
 pub run_text_alike : (job : Job) (rows : List Row) (s u : State) → ((t a : ℕ) → HasWord job t a → s t a ≡ u t a) → run_text job rows s ≡ run_text job rows u

@@ -5,7 +5,7 @@ use Rattle.kp_base.specs.{Check.Gives, declared.refusal.Refusal.Refusal, declare
 use Rattle.kp_base.specs.declared.refusal.Refused.TheVariants as refused
 use Rattle.kp_asm.specs.{Image.image_text_of, Program.assembled}
 use Rattle.kp_words.specs.declared.commands.Command.TheVariants.{Assemble}
-use Rattle.kp_tool_report.specs.Texts.{refusal_line}
+use Rattle.kp_report.specs.Texts.{refusal_line}
 use Rattle.kp_tool.specs.{Due.DueFor, Due.DueOfProgram, Due.program_of, Ends.Ends, inner.Failures.failure_of, declared.failure.Failure.Failure}
 
 is_assembled : (input : List ℕ) → length input ≤ 16777216 → program_of input ≡ assembled input

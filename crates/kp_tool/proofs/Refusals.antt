@@ -8,14 +8,14 @@ use Rattle.kp_words.specs.declared.commands.Command.TheVariants.{OnJob, Assemble
 use Rattle.kp_words.specs.declared.commands.JobCommand.{JobCommand, TheVariants.Timing}
 use Rattle.kp_frontend.proofs.Verdicts.{one_verdict, one_head}
 use Rattle.kp_net.specs.Netlist.{Net}
-use Rattle.kp_tool_report.specs.Texts.{refusal_line}
+use Rattle.kp_report.specs.Texts.{refusal_line}
 use Rattle.kp_timing.specs.Unfit.{untimed}
 use Rattle.kp_tool.specs.{Due.DueFor, Due.DueOfJob, Due.DueOfTiming, Due.DueOfProgram, Due.program_of, Read.DueOfVerilog, Read.read_over, Read.read_within}
 use Rattle.kp_tool.specs.Refused.{Breaks, own_rule}
 use Rattle.kp_tool.specs.Watched.{DueOfText, DueOfNetlist, of_other, of_job, agrees, differs}
 use Rattle.kp_tool.specs.{Compared.DueOfPair, Compared.DueOfSecond, Compared.DueOfFirst, Scripted.DueOfScript}
 use Rattle.kp_equiv.specs.declared.verdict.Verdict.TheVariants.{Same, Differs}
-use Rattle.kp_debug_report.specs.{declared.command.Command.Command as Step, Scripts.script_of}
+use Rattle.kp_debug_script.specs.{declared.command.Command.Command as Step, Scripts.script_of}
 
 -- status 2 for an accepted job means that it violates the command's own rule
 of_timing : (count : ℕ) (job : Job) (text : List ℕ) (found : Option Refusal) → untimed job ≡ found → DueOfTiming count job found 2 text

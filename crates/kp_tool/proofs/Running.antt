@@ -5,7 +5,7 @@ use Rattle.kp_ast.specs.declared.tree.Job.{Job}
 use Rattle.kp_stage.specs.{Start.start_of, Start.input, declared.start.Start.Start}
 use Rattle.kp_pipeline.specs.Sequential.{seq}
 use Rattle.kp_machine.specs.Machine.{machine_of, state_of, sequential, values_in}
-use Rattle.kp_tool_report.specs.States.{State}
+use Rattle.kp_report.specs.States.{State}
 
 -- the run over these input vectors
 abbrev run : Job → State → (ℕ → List Word) → ℕ → State

@@ -10,7 +10,7 @@ use Rattle.kp_words.specs.declared.commands.JobCommand.TheVariants.{Seq, Check, 
 use Rattle.kp_net.specs.Netlist.{Net}
 use Rattle.kp_timing.specs.Unfit.{untimed}
 use Rattle.kp_equiv.specs.declared.verdict.Verdict.TheVariants.{Same, Differs}
-use Rattle.kp_debug_report.specs.{declared.command.Command.Command as Step, Scripts.script_of}
+use Rattle.kp_debug_script.specs.{declared.command.Command.Command as Step, Scripts.script_of}
 use Rattle.kp_tool.specs.Due.{DueFor, DueOfJob, DueOfTiming, DueOfProgram, program_of, IsFinal}
 use Rattle.kp_tool.specs.Read.{DueOfVerilog, read_over, read_within}
 use Rattle.kp_tool.specs.Watched.{DueOfText, DueOfNetlist, of_other, of_job, agrees, differs}

@@ -6,7 +6,7 @@ use Rattle.kp_machine.specs.Machine.{pipe_of, inputs_from}
 use Rattle.kp_sched.specs.Rows.{rows_seen}
 use Rattle.kp_run.specs.Boards.{due_behind}
 use Rattle.kp_gen.specs.Generated.{gen_job}
-use Rattle.kp_tool_report.{specs.Line.totals_of, specs.Line.totals_line, specs.Line.gen_text, proofs.Generated.run_is_generated}
+use Rattle.kp_report.{specs.Line.totals_of, specs.Line.totals_line, specs.Line.gen_text, proofs.Generated.run_is_generated}
 
 pub summed_is_due : (number count : ℕ) (job opened : Job) (rows : List Row) → job ≡ gen_job number → opened ≡ job
     → rows_seen job.stages.value rows ≡ (pipe_of job (inputs_from job 0 count)).rows

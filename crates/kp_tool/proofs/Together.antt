@@ -3,7 +3,7 @@ use Rattle.std.proofs.Common.{◌∙◌, ◌≡◌, ℕ, List, ◌++◌, Some, O
 use Rattle.kp_ast.specs.declared.tree.Job.{Job}
 use Rattle.kp_frontend.{specs.Judging.Judges, specs.Judging.JudgesText, specs.Judging.Judges.within, proofs.Verdicts.one_verdict}
 use Rattle.kp_words.specs.declared.commands.{JobCommand.TheVariants.Sim, JobCommand.TheVariants.Pipe, Command.TheVariants.OnJob, Command.TheVariants.Watch}
-use Rattle.kp_tool_report.specs.Runs.{sim_text}
+use Rattle.kp_report.specs.Runs.{sim_text}
 use Rattle.kp_tool.{specs.Due.DueFor, specs.Agreeing.IsWatched, proofs.Headline.judged_unbroken, proofs.Heads.EndsLine, proofs.Heads.ends_line}
 use Rattle.kp_tool.proofs.Watches.{watched}
 

@@ -8,7 +8,7 @@ use Rattle.kp_watch.specs.Watching.{Agrees}
 use Rattle.kp_equiv.specs.Showing.{ShowsButName}
 use Rattle.kp_frontend.specs.Judging.{JudgesText, JudgesHead, JudgesHeadText, broken_in, most_bytes, JudgesHead.head_within}
 use Rattle.kp_words.specs.declared.commands.Command.TheVariants.{Watch}
-use Rattle.kp_tool_report.specs.Runs.{sim_text}
+use Rattle.kp_report.specs.Runs.{sim_text}
 use Rattle.kp_tool.specs.{Due.DueFor, Written.IsVerilogOf, Read.ReadsVerilog, Watched.own_text, Watched.of_job, Watched.agrees}
 use Rattle.kp_tool.proofs.{Agreeing.agrees_if_shown, Headline.implements, Heads.EndsLine, Heads.head_of_both, Heads.tail_is_gap, OwnText.own_is_sim}
 use Rattle.kp_tool.proofs.After.{reads_after}

@@ -11,8 +11,9 @@ use Rattle.kp_equiv.specs.Showing.{ShowsButName}
 use Rattle.kp_words.specs.declared.commands.{Command.TheVariants.OnJob, Command.TheVariants.Read, Command.TheVariants.Watch, JobCommand.JobCommand}
 use Rattle.kp_words.specs.declared.commands.JobCommand.TheVariants.{Seq, Sim}
 use Rattle.kp_frontend.specs.Judging.{Judges, JudgesHead, most_bytes}
-use Rattle.kp_watch.specs.{Watching.IsFirstDifference, Dumps.own_run}
-use Rattle.kp_tool_report.specs.{Texts.accepted_line, States.text_after, Runs.run_text, Runs.counts_behind}
+use Rattle.kp_watch.specs.Watching.{IsFirstDifference}
+use Rattle.kp_vcd.specs.Dumps.{own_run}
+use Rattle.kp_report.specs.{Texts.accepted_line, States.text_after, Runs.run_text, Runs.counts_behind}
 use Rattle.kp_tool.specs.{Due.DueFor, Read.ReadsVerilog, Refused.Breaks, Refused.own_rule, Watched.differing_text}
 
 -- the state that `seq N` prints: that of the sequential machine after N instructions, of which instruction i has the samples of cycle i

@@ -8,7 +8,7 @@ use Rattle.kp_vlog.specs.Splitting.{FirstEnds}
 use Rattle.kp_equiv.specs.declared.verdict.Verdict.{Verdict, TheVariants.Same, TheVariants.Differs}
 use Rattle.kp_equiv.specs.{Verdicts.IsVerdict, Texts.verdict_line}
 use Rattle.kp_frontend.specs.Judging.{JudgesHead}
-use Rattle.kp_tool_report.specs.Texts.{refusal_line}
+use Rattle.kp_report.specs.Texts.{refusal_line}
 use Rattle.kp_tool.specs.{Saying.Says, Read.ReadsVerilog, Watched.wrong_netlist}
 
 -- the status of a verdict

@@ -11,8 +11,8 @@ use Rattle.kp_words.specs.declared.commands.JobCommand.{JobCommand}
 use Rattle.kp_words.specs.declared.commands.JobCommand.TheVariants.{Seq, Check, Sim, Pipe, Vcd, Timing}
 use Rattle.kp_words.specs.Commands.{command_of, reads_input}
 use Rattle.kp_frontend.specs.Judging.{Judges, too_long}
-use Rattle.kp_tool_report.specs.{Texts.bad_words, Texts.refusal_line, Texts.accepted_line, States.sequential_text, Runs.sim_text, Line.gen_text}
-use Rattle.kp_watch.specs.Dumps.{vcd_text}
+use Rattle.kp_report.specs.{Texts.bad_words, Texts.refusal_line, Texts.accepted_line, States.sequential_text, Runs.sim_text, Line.gen_text}
+use Rattle.kp_vcd.specs.Dumps.{vcd_text}
 use Rattle.kp_timing.specs.{Unfit.untimed, Lines.timing_text}
 use Rattle.kp_tool.specs.{Saying.Says, Written.IsVerilogOf, Read.DueOfRead, Watched.DueOfWatch, Compared.DueOfCompare, Scripted.DueOfDebug}
 

@@ -1,7 +1,7 @@
 -- HOW A COMMAND ENDS: what was appended to the sink, by the result. `Due` is the outcomes that are specified.
 use Rattle.std.specs.{Prelude.◌≡◌, Prelude.ℕ, Prelude.List, Prelude.Option, Prelude.Result, Prelude.Ok, Prelude.Err, Io.KnownBytes.Appends}
 use Rattle.kp_base.specs.{Bytes.AppendsPart, Causes.Rose}
-use Rattle.kp_tool_report.specs.Texts.{refusal_line}
+use Rattle.kp_report.specs.Texts.{refusal_line}
 use Rattle.kp_tool.specs.declared.failure.{Failure.Failure, Failure.TheVariants.Refused, Failure.TheVariants.Misread, Failure.TheVariants.Stopped, Stop.Stop}
 use Rattle.kp_tool.specs.declared.failure.Stop.TheVariants.{ReadFault, WriteFault, NoMemory}
 

@@ -18,12 +18,12 @@ use Rattle.kp_implements.specs.Anew.{trace_from, left_by_reset, HasMemory, Begin
 use Rattle.kp_vlog.specs.{Denote.Denotes, Splitting.FirstEnds}
 use Rattle.kp_equiv.specs.{declared.verdict.Verdict.TheVariants.Same, declared.verdict.Verdict.TheVariants.Differs, Agreement.IsFirstDifference, Runs.RunAlike, Showing.renamed, Showing.ShowsButName, Texts.verdict_line}
 use Rattle.kp_frontend.specs.Judging.{Judges, JudgesHead, broken_in}
-use Rattle.kp_debug_report.specs.{declared.command.Command.Command, Scripts.script_of, Inspecting.all_cycles, Inspecting.printed}
+use Rattle.kp_debug_script.specs.{declared.command.Command.Command, Scripts.script_of}
+use Rattle.kp_debug.specs.Inspecting.{all_cycles, printed}
 use Rattle.kp_run.specs.Cycles.{own_trace}
-use Rattle.kp_tool_report.specs.{Runs.run_text, Line.totals_of, Line.totals_line}
+use Rattle.kp_report.specs.{Runs.run_text, Line.totals_of, Line.totals_line}
 use Rattle.kp_gen.specs.Generated.{gen_job}
-use Rattle.kp_vcd.specs.Held.{held, Changes}
-use Rattle.kp_watch.specs.Dumps.{own_run, values_at, vcd_dump, vcd_text}
+use Rattle.kp_vcd.specs.{Held.held, Held.Changes, Dumps.own_run, Dumps.values_at, Dumps.vcd_dump, Dumps.vcd_text}
 use Rattle.kp_timing.specs.Lines.{timing_text}
 use Rattle.kp_tool.specs.{Read.ReadsVerilog, Watched.own_text}
 

@@ -4,7 +4,7 @@ use Rattle.kp_base.specs.declared.refusal.Refusal.{Refusal}
 use Rattle.kp_net.specs.Netlist.{Net}
 use Rattle.kp_vlog.specs.{Canon.canon, Denote.Denotes, Verdict.IsRefused}
 use Rattle.kp_frontend.specs.Judging.{most_bytes, too_long}
-use Rattle.kp_tool_report.specs.Texts.{refusal_line}
+use Rattle.kp_report.specs.Texts.{refusal_line}
 use Rattle.kp_tool.specs.Saying.{Says}
 
 -- what the rules of Verilog decide about the text that starts at an offset: the netlist that it denotes, or the first rule that it violates

@@ -7,7 +7,7 @@ use Rattle.kp_words.specs.declared.commands.Command.TheVariants.{OnJob, Assemble
 use Rattle.kp_words.specs.declared.commands.JobCommand.{JobCommand, TheVariants.Timing}
 use Rattle.kp_frontend.specs.Judging.{Judges, JudgesHead, most_bytes, too_long}
 use Rattle.kp_timing.specs.Unfit.{untimed}
-use Rattle.kp_debug_report.specs.Scripts.{script_of}
+use Rattle.kp_debug_script.specs.Scripts.{script_of}
 use Rattle.kp_tool.specs.Due.{program_of}
 
 -- The rule that only one command has for a job which violates no other: E38 of `timing`.

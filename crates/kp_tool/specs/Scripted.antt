@@ -2,9 +2,10 @@
 use Rattle.std.specs.Prelude.{ℕ, List, Ok, Err, Result}
 use Rattle.kp_base.specs.declared.refusal.Refusal.{Refusal}
 use Rattle.kp_ast.specs.declared.tree.Job.{Job}
-use Rattle.kp_debug_report.specs.{declared.command.Command.Command, Scripts.script_of, Inspecting.debug_text}
+use Rattle.kp_debug_script.specs.{declared.command.Command.Command, Scripts.script_of}
+use Rattle.kp_debug.specs.Inspecting.{debug_text}
 use Rattle.kp_frontend.specs.Judging.{JudgesHead}
-use Rattle.kp_tool_report.specs.Texts.{refusal_line}
+use Rattle.kp_report.specs.Texts.{refusal_line}
 use Rattle.kp_tool.specs.Saying.{Says}
 
 -- the outcome for a script of a job: what its commands print, or the first of E39 to E41 that it violates

@@ -10,7 +10,7 @@ use Rattle.kp_machine.specs.Words.{target}
 use Rattle.kp_frontend.specs.Judging.{JudgesHead}
 use Rattle.kp_watch.specs.Watching.{own_due, Agrees, IsFirstDifference}
 use Rattle.kp_run.specs.Cycles.{own_trace}
-use Rattle.kp_tool_report.specs.{Texts.refusal_line, Texts.differs_line, Runs.run_text}
+use Rattle.kp_report.specs.{Texts.refusal_line, Texts.differs_line, Runs.run_text}
 use Rattle.kp_tool.specs.{Saying.Says, Read.ReadsVerilog}
 
 -- the rows of the netlist's own run, followed by the counts and the values of its registers and files

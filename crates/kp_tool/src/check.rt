@@ -1,15 +1,15 @@
 // `check`: the numbers of a job that violates no rule.
 ghost use Rattle.kp_stage.specs.Counts.{summary_of};
 ghost use Rattle.kp_words.specs.declared.commands.JobCommand.TheVariants.{Check};
-ghost use Rattle.kp_tool_report.specs.Texts.{accepted_line};
+ghost use Rattle.kp_report.specs.Texts.{accepted_line};
 ghost use Rattle.kp_tool.specs.{Due.DueOfJob, Ends.Ends};
 
 use crate::failure::Failure;
 use crate::outcome::{Outcome, finish};
 use kp_base::{Sink, SinkFault};
 use kp_frontend::Accepted;
+use kp_report::write_accepted;
 use kp_stage::Design;
-use kp_tool_report::write_accepted;
 
 /// `check`: writes the line of counts of a job.
 pub fn check<K: Sink>(job: &Accepted, sink: &mut K) -> Result<u8, Failure>

@@ -2,16 +2,17 @@
 ghost use Rattle.std.specs.Prelude.{◌≤◌, length, IfOk, Ok, Some};
 ghost use Rattle.kp_base.specs.Check.{Gives};
 ghost use Rattle.kp_implements.specs.Shows.{Shows};
-ghost use Rattle.kp_debug_report.specs.Scripts.{script_of};
+ghost use Rattle.kp_debug_script.specs.Scripts.{script_of};
 ghost use Rattle.kp_words.specs.declared.commands.Command.TheVariants.{Debug};
-ghost use Rattle.kp_debug_report.specs.Inspecting.{printed, whole_run, AreOfJob};
+ghost use Rattle.kp_debug.specs.Inspecting.{printed, whole_run, AreOfJob};
 ghost use Rattle.kp_tool.specs.{Due.DueFor, Scripted.DueOfScriptHead, Ends.Ends, inner.OfJob.of_targets-prop};
 
 use crate::failure::Failure;
 use crate::outcome::{Outcome, finish};
 use kp_base::{NoMemory, Refused, Sink, SinkFault};
-use kp_debug_report::laws::a_script_is_of_its_job;
-use kp_debug_report::{Command, Inspection, read_script};
+use kp_debug::Inspection;
+use kp_debug::laws::a_script_is_of_its_job;
+use kp_debug_script::{Command, read_script};
 use kp_frontend::{Accepted, Head, judge_head};
 use kp_net::Netlist;
 use kp_synth::synth;

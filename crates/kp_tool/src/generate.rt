@@ -1,7 +1,7 @@
 // `gen G N`: a run of the pipelined machine of a generated job.
 ghost use Rattle.std.specs.Prelude.{◌≡◌, IfOk};
 ghost use Rattle.kp_gen.specs.Generated.{gen_job};
-ghost use Rattle.kp_tool_report.specs.Line.{totals_line, gen_text};
+ghost use Rattle.kp_report.specs.Line.{totals_line, gen_text};
 ghost use Rattle.kp_tool.specs.{Saying.Says, Ends.Ends};
 
 use crate::failure::Failure;
@@ -9,10 +9,10 @@ use crate::outcome::{Outcome, finish};
 use kp_base::{NoMemory, Sink, SinkFault};
 use kp_frontend::Accepted;
 use kp_gen::generated;
+use kp_report::{Totals, totals_of, write_totals};
 use kp_run::board_shown;
 use kp_run::laws::a_run_shows_the_pipeline;
 use kp_synth::synth;
-use kp_tool_report::{Totals, totals_of, write_totals};
 use std::alloc::Global;
 
 /// `gen G N`: generates the job of a number, runs its pipelined machine over `count` cycles, and writes the totals of the run.

@@ -6,7 +6,7 @@ ghost use Rattle.kp_implements.specs.Legal.{IsLegalFrom};
 ghost use Rattle.kp_words.specs.{declared.commands.Command.Command, Commands.command_of};
 ghost use Rattle.kp_words.specs.declared.commands.Command.TheVariants.{OnJob, Watch, Compare, Debug, Generate};
 ghost use Rattle.kp_words.specs.declared.commands.JobCommand.TheVariants.{Check, Sim, Vcd, Timing, Pipe};
-ghost use Rattle.kp_tool_report.specs.Texts.{refusal_line};
+ghost use Rattle.kp_report.specs.Texts.{refusal_line};
 ghost use Rattle.kp_tool.specs.{Due.Due, Due.DueFor, Agreeing.IsSequential, Agreeing.IsChecked, Agreeing.IsFaulty, Agreeing.IsReadBack, Agreeing.IsWatched};
 ghost use Rattle.kp_tool.specs.Headline.{IsMoving, HasNoNeedlessStall, HasNoNeedlessStallFrom, IsVerilogWith, IsRunWith, IsDumpedWith, IsGeneratedWith, IsTimed, IsDebuggedWith, IsNetlistWith, IsPairAlike, IsPairDifferent, IsImplementation, IsPairWith};
 ghost use Rattle.kp_tool.specs.{Refused.Breaks, Misread.Misreads};

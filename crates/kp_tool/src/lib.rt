@@ -36,7 +36,7 @@ ghost use Rattle.kp_implements.specs.Legal.{IsLegalFrom};
 ghost use Rattle.kp_words.specs.{Commands.command_of, Commands.reads_input, declared.commands.Command.Command};
 ghost use Rattle.kp_words.specs.declared.commands.Command.TheVariants.{OnJob, Watch, Compare, Debug, Generate};
 ghost use Rattle.kp_words.specs.declared.commands.JobCommand.TheVariants.{Check, Sim, Vcd, Timing, Pipe};
-ghost use Rattle.kp_tool_report.specs.Texts.{refusal_line};
+ghost use Rattle.kp_report.specs.Texts.{refusal_line};
 ghost use Rattle.kp_tool.specs.{Saying.Says, Due.Due, Due.IsDue, Due.IsFinal, Due.Completes, Due.Begins, Due.Between, Refused.Breaks, Misread.Misreads, Ends.Ends, Ends.EndsAt};
 ghost use Rattle.kp_tool.specs.Headline.{IsMoving, HasNoNeedlessStall, HasNoNeedlessStallFrom, IsVerilogWith, IsRunWith, IsDumpedWith, IsGeneratedWith, IsTimed, IsDebuggedWith, IsNetlistWith, IsPairAlike, IsPairDifferent, IsImplementation, IsPairWith};
 ghost use Rattle.kp_tool.specs.Agreeing.{IsSequential, IsChecked, IsFaulty, IsReadBack, IsWatched};
@@ -46,7 +46,7 @@ use crate::commands::carry_out;
 use crate::failure::{Failure, Stop};
 use crate::outcome::{BadWords, finish};
 use kp_base::{Place, ReadAll, Refusal, Sink, Source, read_all};
-use kp_tool_report::write_refusal;
+use kp_report::write_refusal;
 use kp_words::Command;
 use std::alloc::Global;
 

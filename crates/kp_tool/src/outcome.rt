@@ -2,7 +2,7 @@
 ghost use Rattle.std.specs.Prelude.{◌≡◌, ℕ, List, IfOk};
 ghost use Rattle.kp_base.specs.Bytes.{Writes};
 ghost use Rattle.kp_base.specs.Causes.{HasCause};
-ghost use Rattle.kp_tool_report.specs.Texts.{bad_words};
+ghost use Rattle.kp_report.specs.Texts.{bad_words};
 ghost use Rattle.kp_tool.specs.{Saying.Says, Ends.Ends};
 
 use crate::failure::Failure;

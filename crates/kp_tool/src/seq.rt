@@ -6,17 +6,18 @@ ghost use Rattle.kp_machine.specs.Machine.{machine_of, sequential, values_in};
 ghost use Rattle.kp_machine.specs.Slots.{targets_of};
 ghost use Rattle.kp_seq.specs.Running.{state};
 ghost use Rattle.kp_words.specs.declared.commands.JobCommand.TheVariants.{Seq};
-ghost use Rattle.kp_frontend.specs.Feeds.{row_in};
-ghost use Rattle.kp_tool_report.specs.States.{text_after};
+ghost use Rattle.kp_image.specs.Feeds.{row_in};
+ghost use Rattle.kp_report.specs.States.{text_after};
 ghost use Rattle.kp_tool.specs.{Due.DueOfJob, Ends.Ends};
 
 use crate::failure::Failure;
 use crate::outcome::{Outcome, finish};
 use kp_base::{NoMemory, Sink, SinkFault};
-use kp_frontend::{Accepted, InputPattern};
+use kp_frontend::Accepted;
+use kp_image::InputPattern;
+use kp_report::write_run_after;
 use kp_seq::SeqMachine;
 use kp_stage::Design;
-use kp_tool_report::write_run_after;
 use std::alloc::Global;
 
 /// `seq N`: executes `count` instructions of a job on its sequential machine, and writes the state after them.

@@ -3,17 +3,17 @@ ghost use Rattle.std.specs.Prelude.{◌≡◌, IfOk};
 ghost use Rattle.kp_sched.specs.Rows.{rows_seen};
 ghost use Rattle.kp_words.specs.declared.commands.JobCommand.TheVariants.{Sim};
 ghost use Rattle.kp_run.specs.Boards.{due_behind};
-ghost use Rattle.kp_tool_report.specs.Runs.{run_text, sim_text};
+ghost use Rattle.kp_report.specs.Runs.{run_text, sim_text};
 ghost use Rattle.kp_tool.specs.{Due.DueOfJob, Ends.Ends};
 
 use crate::failure::Failure;
 use crate::outcome::{Outcome, finish};
 use kp_base::{NoMemory, Sink, SinkFault};
 use kp_frontend::Accepted;
+use kp_report::write_board;
 use kp_run::laws::a_run_shows_the_pipeline;
 use kp_run::{Board, board_shown};
 use kp_synth::synth;
-use kp_tool_report::write_board;
 use std::alloc::Global;
 
 /// `sim N`: runs the pipelined machine of a job over `count` cycles, and writes its rows, the counts, and the values after them.

@@ -1,8 +1,7 @@
 // `vcd N`: the value changes of the pipelined machine of a job.
 ghost use Rattle.std.specs.Prelude.{◌≡◌, IfOk};
 ghost use Rattle.kp_words.specs.declared.commands.JobCommand.TheVariants.{Vcd};
-ghost use Rattle.kp_vcd.specs.Text.{dump_text};
-ghost use Rattle.kp_watch.specs.Dumps.{vcd_text};
+ghost use Rattle.kp_vcd.specs.{Text.dump_text, Dumps.vcd_text};
 ghost use Rattle.kp_tool.specs.{Due.DueOfJob, Ends.Ends};
 
 use crate::failure::Failure;
@@ -10,8 +9,7 @@ use crate::outcome::{Outcome, finish};
 use kp_base::{NoMemory, Sink, SinkFault};
 use kp_frontend::Accepted;
 use kp_synth::synth;
-use kp_vcd::{Dump, write_dump};
-use kp_watch::dump_of;
+use kp_vcd::{Dump, dump_of, write_dump};
 use std::alloc::Global;
 
 /// `vcd N`: runs the pipelined machine of a job over `count` cycles, and writes its value changes.

@@ -14,8 +14,8 @@ use crate::outcome::{Outcome, finish};
 use kp_base::{NoMemory, Sink, SinkFault};
 use kp_frontend::{Accepted, Head, judge_head};
 use kp_net::Netlist;
+use kp_report::{write_board, write_difference};
 use kp_run::{Board, Difference};
-use kp_tool_report::{write_board, write_difference};
 use kp_watch::watched;
 use std::alloc::Global;
 

@@ -11,3 +11,14 @@ pub mod Meeting
 pub mod Numerals
 pub mod Leading
 pub mod Round
+mod FewDecls
+pub mod Masks
+pub mod Placing
+pub mod RunValues
+pub mod Naming
+pub mod Lasting
+pub mod Named
+pub mod ReadValues
+pub mod Rising
+pub mod Fitting
+pub mod Reporting

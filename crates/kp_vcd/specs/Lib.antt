@@ -6,4 +6,6 @@ pub mod Words
 pub mod Forms
 pub mod Reading
 pub mod Fitting
+pub mod Dumps
+pub mod Accepted
 pub mod inner

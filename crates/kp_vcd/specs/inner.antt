@@ -1,3 +1,4 @@
 -- For private contracts and proofs of this crate only: no public clause depends on it.
 pub mod Left
 pub mod Meeting
+pub mod Shown

@@ -8,7 +8,7 @@ use Rattle.kp_ast.specs.declared.tree.{Decl.Decl, Job.Job}
 use Rattle.kp_net.specs.Netlist.{Net}
 use Rattle.kp_asm.specs.Program.{assembled}
 use Rattle.kp_vlog.specs.{Denote.Denotes, Verdict.IsRefused}
-use Rattle.kp_debug_report.specs.{Scripts.script_of, declared.command.Command.Command}
+use Rattle.kp_debug_script.specs.{Scripts.script_of, declared.command.Command.Command}
 use Rattle.kp_implements.specs.Shows.{IsOfJob}
 use Rattle.kp_vread.specs.Matching.{IsRefused as IsOfOther}
 use Rattle.kp_frontend.specs.Judging.{JudgesText, JudgesHeadText, too_long}

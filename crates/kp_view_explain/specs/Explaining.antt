@@ -7,7 +7,7 @@ use Rattle.kp_ast.specs.declared.tree.Job.{Job}
 use Rattle.kp_net.specs.Netlist.{Net}
 use Rattle.kp_asm.specs.Program.{assembled}
 use Rattle.kp_vlog.specs.{Denote.Denotes, Verdict.IsRefused}
-use Rattle.kp_debug_report.specs.Scripts.{script_of}
+use Rattle.kp_debug_script.specs.Scripts.{script_of}
 use Rattle.kp_implements.specs.Shows.{IsOfJob}
 use Rattle.kp_frontend.specs.Judging.{JudgesText, JudgesHeadText, most_bytes, too_long}
 use Rattle.kp_view_texts.specs.Heads.{rule_head}

@@ -4,17 +4,17 @@
 //! the rule at the place, it is a fixed sentence for the rule.
 #![tactic(auto)]
 
-mod calling;
-mod explaining;
 mod explanation;
 mod of_job;
 mod program;
-mod reading;
 mod script;
+mod syntax;
+mod text;
+mod top;
 mod verilog;
 mod words;
 
-pub use calling::{Stop, explain_source};
-pub use explaining::explain;
 pub use explanation::Explanation;
+pub use text::explain;
+pub use top::{Stop, explain_source};
 pub use words::{HELP, Order, Subject, asks_help};

@@ -9,7 +9,7 @@ ghost use Rattle.kp_view_explain.specs.inner.Shown.{ExplainsShown};
 ghost use Rattle.kp_view_findings.specs.Messages.{AppendsShown, Grows};
 
 use crate::explanation::Explanation;
-use crate::reading::reading_message;
+use crate::syntax::reading_message;
 use kp_ast::Job;
 use kp_base::{NoMemory, Refusal, Refused};
 use kp_frontend::judge;

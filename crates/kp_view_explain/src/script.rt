@@ -8,7 +8,7 @@ ghost use Rattle.kp_view_explain.specs.inner.Shown.{ExplainsScript, ExplainsShow
 use crate::explanation::Explanation;
 use crate::of_job::facts;
 use kp_base::{NoMemory, Refused};
-use kp_debug_report::read_script;
+use kp_debug_script::read_script;
 use kp_frontend::{Head, judge_head};
 use kp_view_texts::write_script;
 use std::alloc::Global;

@@ -2,7 +2,6 @@
 //! violates none. The verdict itself is that of `kp_frontend`.
 #![tactic(auto)]
 
-mod adding;
 mod counts;
 mod facts;
 mod notes;
@@ -12,6 +11,7 @@ mod stages;
 mod unused;
 mod used;
 mod uses;
+mod warning_list;
 mod warnings;
 
 pub use stages::faults;

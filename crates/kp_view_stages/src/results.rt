@@ -5,8 +5,8 @@ ghost use Rattle.kp_ast.specs.declared.tree.Job.{Job};
 ghost use Rattle.kp_view_findings.specs.Sets.{sets_from};
 ghost use Rattle.kp_view_stages.specs.Cautions.{ClaimsNothing, IsInVain, IsTrueOf};
 
-use crate::adding::add;
 use crate::ready::ready;
+use crate::warning_list::add;
 use kp_ast::{Block, Expr, ExprKind, Job, Name, Named, ResultDecl, Stmt, StmtKind};
 use kp_base::NoMemory;
 use kp_view_findings::laws::a_set_in_vain_never_takes_place;

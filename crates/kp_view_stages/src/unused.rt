@@ -3,8 +3,8 @@ ghost use Rattle.std.specs.Prelude.{◌≡◌, IfSome, OnOk};
 ghost use Rattle.std.specs.List.{All};
 ghost use Rattle.kp_view_stages.specs.Cautions.{ClaimsNothing, IsTrueOf};
 
-use crate::adding::add;
 use crate::used::used_in_stmts;
+use crate::warning_list::add;
 use kp_ast::{Block, Decl, Job, Name, Named, Stmt, StmtKind};
 use kp_base::NoMemory;
 use kp_view_findings::{Caution, Table};

@@ -3,11 +3,11 @@ ghost use Rattle.std.specs.Prelude.{◌≡◌, IfOk, OnOk};
 ghost use Rattle.std.specs.List.{All};
 ghost use Rattle.kp_view_stages.specs.Cautions.{IsTrueOf};
 
-use crate::adding::add;
 use crate::ready::puts_of;
 use crate::results::of_output;
 use crate::unused::{of_block, of_decl};
 use crate::used::used_in_text;
+use crate::warning_list::add;
 use kp_ast::{Decl, Job};
 use kp_base::NoMemory;
 use kp_view_findings::{Caution, Table};

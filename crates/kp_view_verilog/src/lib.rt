@@ -4,10 +4,10 @@
 //! The facts come from a second pass over the text, its tokens or its tree, which asks the rules of kp_vlog again at the place.
 #![tactic(auto)]
 
-mod following;
+mod continuation;
 mod lines;
 mod other;
-mod reading;
+mod syntax;
 mod verilog;
 
 pub use other::write_other;

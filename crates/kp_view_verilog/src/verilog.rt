@@ -4,7 +4,7 @@ ghost use Rattle.kp_view_excerpt.specs.{Excerpts.IsExcerpt, Lines.line_at, Notes
 ghost use Rattle.kp_view_verilog.specs.{Marks.Marks, Marks.from_place, Marks.token_length, Marks.unread_length};
 
 use crate::lines::{from_place, offset_at, token_length, unread_length};
-use crate::reading::{expected_at, found_at, no_token};
+use crate::syntax::{expected_at, found_at, no_token};
 use kp_base::{NoMemory, Place, Refusal, Refused};
 use kp_view_excerpt::{Excerpt, excerpt_at, write_fault};
 use kp_view_verilog_faults::{Expected, ReadingFault};

@@ -2,19 +2,19 @@
 //! (`round_trip`); and where the first of two modules in one text ends.
 #![tactic(auto)]
 
+mod first_module;
 mod front;
 pub mod laws;
 mod lead;
 mod lexer;
 pub mod module_ends;
 pub mod round_trip;
-mod splitting;
 mod token;
 mod tree;
 
+pub use first_module::first_module_end;
 pub use front::{Front, read_front};
 pub use lexer::vlex;
-pub use splitting::first_module_end;
 pub use token::{Keyword, Mark, VKind, VToken};
 pub use tree::{
     Fill, Init, Item, Lit, Named, Num, Range, ResetList, ResetValue, Right, Update, VModule, VPort,

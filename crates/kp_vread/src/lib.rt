@@ -4,9 +4,9 @@
 #![tactic(auto)]
 
 mod build;
+mod job_match;
 mod kinds;
 pub mod laws;
-mod matching;
 mod nexts;
 mod nodes;
 mod numbers;
@@ -16,5 +16,5 @@ mod read;
 mod targets;
 mod words;
 
-pub use matching::matches;
+pub use job_match::matches;
 pub use read::read_verilog;

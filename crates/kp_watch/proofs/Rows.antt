@@ -8,7 +8,7 @@ use Rattle.kp_net.{specs.Netlist.Net, specs.Netlist.start_of, specs.Netlist.row_
 use Rattle.kp_sched.specs.{Monitors.Kept, Monitors.HasSeen, Rows.rows_seen}
 use Rattle.kp_seq.specs.Running.{Running}
 use Rattle.kp_run.{specs.Cycles.input_at, specs.Cycles.inputs_to, proofs.Prefixes.rows_many, proofs.Prefixes.passed_first}
-use Rattle.kp_watch.specs.{declared.beside.Beside.Beside, declared.compare.Tables.Tables, inner.Beside.HaveCome}
+use Rattle.kp_watch.specs.{declared.lockstep.Beside.Beside, declared.compare.Tables.Tables, inner.Beside.HaveCome}
 use Rattle.kp_watch.specs.inner.Machines.{given, ran, HasRun, HaveRun}
 
 pub first_rows : (job : Job) (net : Net) (n T : ℕ) → T ≤ n → take T (run net (inputs_to job n)).rows ≡ (run net (inputs_to job T)).rows

@@ -7,9 +7,10 @@ use Rattle.kp_run.specs.{Homes.home_of, Places.IsPlace, Places.place_in, declare
 use Rattle.kp_run.proofs.Placing.{place_at, place_there}
 use Rattle.kp_seq.specs.{Running.Running, Running.state, Recorded.Recorded}
 use Rattle.kp_implements.specs.Naming.{value_shown}
-use Rattle.kp_watch.specs.declared.{beside.Beside.Beside, compare.Tables.Tables}
+use Rattle.kp_watch.specs.declared.{lockstep.Beside.Beside, compare.Tables.Tables}
 use Rattle.kp_watch.specs.inner.{Changes.IsComparable, Changes.noted_at, Changes.last_write, Changes.no_record, Changes.record_by, Machines.due_by}
-use Rattle.kp_watch.{specs.inner.Results.result_in, proofs.Lanes.machine_at}
+use Rattle.kp_watch.specs.inner.Results.{result_in}
+use Rattle.kp_watch.proofs.Lanes.{machine_at}
 
 module _ (job : Job) (tables : Tables) (both : Beside) (t : ℕ) (comparable : IsComparable job tables both) (within : t < length (targets_of job.decls)) where
   abbrev machines : List Running

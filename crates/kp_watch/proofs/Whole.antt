@@ -16,7 +16,7 @@ use Rattle.kp_implements.specs.{Naming.value_shown, Shows.IsOfJob, Traces.trace_
 use Rattle.kp_seq.specs.Running.{Running}
 use Rattle.kp_run.specs.{Boards.due_behind, Cycles.inputs_to, Cycles.own_trace, Places.place_in, Places.places_in}
 use Rattle.kp_run.{proofs.Gathering.taken_is, proofs.Prefixes.state_is, proofs.Prefixes.rows_many, specs.declared.difference.Difference.Difference}
-use Rattle.kp_watch.specs.{Watching.own_due, Watching.Agrees, Watching.IsFirstDifference, declared.beside.Beside.Beside, declared.compare.Tables.Tables}
+use Rattle.kp_watch.specs.{Watching.own_due, Watching.Agrees, Watching.IsFirstDifference, declared.lockstep.Beside.Beside, declared.compare.Tables.Tables}
 use Rattle.kp_watch.specs.inner.Beside.{IsRecorded, AreTables, HaveCome}
 use Rattle.kp_watch.specs.inner.{Changes.AreNoted, Changes.AgreeElsewhere, Changes.IsComparable, Changes.noted_at, Comparing.IsFirstIn, Comparing.Compares}
 use Rattle.kp_watch.specs.inner.Machines.{given, HaveRun, due_by}

@@ -1,4 +1,2 @@
 pub mod Watching
-pub mod Dumps
-pub mod Accepted
 pub mod inner

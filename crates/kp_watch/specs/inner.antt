@@ -4,4 +4,3 @@ pub mod Machines
 pub mod Comparing
 pub mod Beside
 pub mod Changes
-pub mod Shown

@@ -10,8 +10,8 @@ ghost use Rattle.kp_watch.specs.inner.Changes.{IsComparable, noted_at, last_writ
 ghost use Rattle.kp_watch.specs.inner.Comparing.{Compares, ComparesTarget, ComparesWord, lower};
 ghost use Rattle.kp_watch.specs.inner.Machines.{due_by};
 
-use crate::beside::Beside;
 use crate::compare::{Tables, difference_of};
+use crate::lockstep::Beside;
 use kp_cycle::Sim;
 use kp_frontend::Accepted;
 use kp_run::{Difference, Place};

@@ -10,9 +10,9 @@ ghost use Rattle.kp_watch.specs.Watching.{own_due, Agrees, IsFirstDifference};
 ghost use Rattle.kp_run.specs.Cycles.{own_trace};
 ghost use Rattle.kp_watch.specs.inner.Beside.{AreTables, HaveCome, Answers};
 
-use crate::beside::{Beside, tables_of};
 use crate::changes::difference_after;
 use crate::compare::{Tables, difference_in};
+use crate::lockstep::{Beside, tables_of};
 use kp_base::NoMemory;
 use kp_frontend::Accepted;
 use kp_machine::laws::a_design_is_accepted;

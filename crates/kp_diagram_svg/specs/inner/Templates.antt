@@ -1,7 +1,7 @@
 -- The text of a template.
 use Rattle.std.specs.Prelude.{ℕ, ◌+◌, ◌*◌, ◌==◌, List, ◌++◌, codes, if◌then◌else◌}
 use Rattle.kp_diagram.specs.Diagram.{Account}
-use Rattle.kp_diagram_svg.specs.{declared.filling.Template.Template, Filling.filled, Foot.account_words, Foot.legend_looks, Foot.legend_words, Foot.spent}
+use Rattle.kp_diagram_svg.specs.{declared.template.Template.Template, Filling.filled, Foot.account_words, Foot.legend_looks, Foot.legend_words, Foot.spent}
 use Rattle.kp_diagram_svg.specs.{Sizes.account_left, Symbols.canvas, Symbols.caption, Symbols.description}
 
 abbrev pub template_text : Template → List ℕ

@@ -4,7 +4,7 @@ use Rattle.kp_ast.specs.declared.tree.Job.{Job}
 use Rattle.kp_cycle.specs.Steps.{Running}
 use Rattle.kp_net.specs.Netlist.{Net, last_of}
 use Rattle.kp_run.specs.Cycles.{inputs_to}
-use Rattle.kp_tool_report.specs.States.{State}
+use Rattle.kp_report.specs.States.{State}
 use Rattle.kp_implements.specs.Naming.{value_shown}
 use Rattle.kp_page.specs.States.{all_zero}
 

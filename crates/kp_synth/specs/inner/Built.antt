@@ -10,7 +10,7 @@ use Rattle.kp_net.specs.{declared.netlist.Parts.Parts, Growth.Held, Netlist.Net}
 use Rattle.kp_net.specs.Names.{IsSpelled, is_module_name, is_reg_name, is_file_name, is_sample_name}
 use Rattle.kp_synth_tables.specs.declared.key.Key.{Key, TheVariants.Hint}
 use Rattle.kp_synth_tables.specs.Keys.{target_at, sample_at, hint_at, key_width, keys_of}
-use Rattle.kp_synth_close.specs.{declared.control.RowNodes.RowNodes, Nexts.no_node_id}
+use Rattle.kp_synth_next.specs.{declared.control.RowNodes.RowNodes, Nexts.no_node_id}
 
 abbrev pub no_word : Word
 no_word = record { width = 0; value = 0 }

@@ -6,7 +6,7 @@ use Rattle.kp_machine.specs.{Machine.machine_of, Slots.pipes_of, Slots.hints_of}
 use Rattle.kp_net.specs.{declared.node.NodeId.NodeId, Growth.Held, Growth.Wire}
 use Rattle.kp_synth_registers.specs.{declared.outcome.Outcome.Outcome, Meaning.IsTest, Meaning.Says}
 use Rattle.kp_synth_stage.specs.{declared.row.Source.Source, Rows.SourcesOk, Work.SlotsHave}
-use Rattle.kp_synth.specs.{declared.staging.Entered.Entered, inner.Seeing.SeesAbove, inner.Seeing.PipesIn, inner.Seeing.HintsIn, inner.Whole.Few}
+use Rattle.kp_synth.specs.{declared.pipeline_stage.Entered.Entered, inner.Seeing.SeesAbove, inner.Seeing.PipesIn, inner.Seeing.HintsIn, inner.Whole.Few}
 
 -- the nodes of the inputs of stage k
 pub record EnteredOk (job : Job) (p : Held) (k : ℕ) (e : Entered) : Type 0 where

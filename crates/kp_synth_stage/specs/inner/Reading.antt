@@ -1,7 +1,7 @@
 -- What the nodes of one read mean.
 use Rattle.std.specs.Prelude.{Bool, List, None, Option, Some, [], if◌then◌else◌, is_some, length, not, unwrap_or, ℕ, ◌&&◌, ◌<◌, ◌∷◌, ◌≡◌}
 use Rattle.kp_net.specs.{Growth.Held, Nodes.Cells, Nodes.at, Nodes.on, Widths.wide, declared.node.NodeId.NodeId}
-use Rattle.kp_net_gates.specs.declared.rows.Candidate.{Candidate}
+use Rattle.kp_fwd.specs.declared.entries.Candidate.{Candidate}
 use Rattle.kp_synth_stage.specs.{Rows.row_hits, declared.row.Row.Row}
 
 -- the width of the address of a read, and that its node is in the pool

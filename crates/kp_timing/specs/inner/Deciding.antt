@@ -3,9 +3,10 @@ use Rattle.std.specs.Prelude.{ℕ, zero, suc, ◌+◌, ◌-◌, List, Option, So
 use Rattle.std.specs.List.{swap}
 use Rattle.kp_seq.specs.Recorded.{Recorded}
 use Rattle.kp_sched.specs.Rows.{bit_of}
-use Rattle.kp_timing.specs.{declared.sites.Site.Site, declared.sites.Writer.Writer, Sites.Sited}
-use Rattle.kp_timing.specs.{Reports.is_ready, Reports.may_write, Reports.nothing_recorded, Reports.unmet_by, declared.deciding.Found.Found}
-use Rattle.kp_timing.specs.Reports as reports
+use Rattle.kp_sites.specs.{declared.sites.Site.Site, declared.sites.Writer.Writer, Sites.Sited}
+use Rattle.kp_sites.specs.Reports.{is_ready, may_write, nothing_recorded, unmet_by}
+use Rattle.kp_timing.specs.declared.movement.Found.{Found}
+use Rattle.kp_sites.specs.Reports as reports
 
 -- the instructions in the stages: their numbers, and what was reported about each
 pub record Held : Type 0 where

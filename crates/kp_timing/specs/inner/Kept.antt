@@ -7,7 +7,8 @@ use Rattle.kp_stage.specs.{declared.start.Start.Start, Counts.summary_of, Stages
 use Rattle.kp_pipeline.specs.{Sequential.seq, Timeline.no_samples}
 use Rattle.kp_machine.specs.{Machine.machine_of, Machine.state_of, Words.after_one}
 use Rattle.kp_seq.specs.{Running.Running, Running.state, Recorded.record_of}
-use Rattle.kp_timing.specs.{Sites.Sited, Sites.sited, Reports.HasRoom, Timed.IsPlain}
+use Rattle.kp_sites.specs.{Sites.Sited, Sites.sited, Reports.HasRoom}
+use Rattle.kp_timing.specs.Timed.{IsPlain}
 use Rattle.kp_timing.specs.inner.Deciding.{Held, record_in, moves_by, taken_down, fetched}
 
 -- the job violates no rule of names, widths and stages, and these are its tables

@@ -1,4 +1,4 @@
-use Rattle.kp_tool_report.specs.Texts.{refusal_line}
+use Rattle.kp_report.specs.Texts.{refusal_line}
 use Rattle.kp_tool.proofs.Ends.{refused_end}
 use Rattle.kp_tool.proofs.ended.Goals as goal
 

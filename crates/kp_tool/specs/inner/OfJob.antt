@@ -1,8 +1,9 @@
 -- That the register of a command is one of its job is a proposition.
 use Rattle.std.proofs.Props.{props}
 use Rattle.kp_ast.specs.declared.tree.Job.{Job}
-use Rattle.kp_debug_report.specs.{declared.command.Command.Command, Inspecting.IsOfTargets}
-use Rattle.kp_debug_report.specs.declared.command.Command.TheVariants as commands
+use Rattle.kp_debug_script.specs.declared.command.Command.{Command}
+use Rattle.kp_debug.specs.Inspecting.{IsOfTargets}
+use Rattle.kp_debug_script.specs.declared.command.Command.TheVariants as commands
 
 pub of_targets-prop : (job : Job) (command : Command) → IsProp (IsOfTargets job command)
 of_targets-prop job (commands.Step n) = Prim.hlevel props

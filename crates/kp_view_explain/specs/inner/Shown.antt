@@ -2,7 +2,7 @@
 use Rattle.std.specs.Prelude.{ℕ, Bool, List, Option, IfSome}
 use Rattle.kp_base.specs.declared.refusal.Refusal.{Refusal}
 use Rattle.kp_ast.specs.declared.tree.{Decl.Decl, Job.Job}
-use Rattle.kp_debug_report.specs.Scripts.{script_of}
+use Rattle.kp_debug_script.specs.Scripts.{script_of}
 use Rattle.kp_view_verilog.specs.Marks.{Marks}
 use Rattle.kp_view_texts.specs.Marks.{script_mark}
 use Rattle.kp_view_explain.specs.Explaining.{FindsIn, FindsInModule, Says, rule_of}

@@ -8,7 +8,7 @@ use Rattle.kp_sched.specs.Rows.{rows_seen}
 use Rattle.kp_machine.specs.Words.{target}
 use Rattle.kp_run.specs.{Columns.AreColumns, Cycles.HasRows, Cycles.inputs_to, Cycles.own_trace, Homes.AreHomes, Places.places_in}
 use Rattle.kp_run.specs.declared.difference.Difference.{Difference}
-use Rattle.kp_watch.specs.{Watching.own_due, Watching.Agrees, Watching.IsFirstDifference, declared.compare.Tables.Tables, declared.beside.Beside.Beside}
+use Rattle.kp_watch.specs.{Watching.own_due, Watching.Agrees, Watching.IsFirstDifference, declared.compare.Tables.Tables, declared.lockstep.Beside.Beside}
 use Rattle.kp_watch.specs.inner.{Machines.given, Machines.HaveRun, Machines.AreNeeded, Results.AreResults}
 
 -- what stays the same in all cycles

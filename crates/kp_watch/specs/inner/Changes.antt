@@ -10,7 +10,7 @@ use Rattle.kp_implements.specs.{Naming.value_shown, Shows.IsOfJob}
 use Rattle.kp_seq.specs.{Running.Running, Recorded.Recorded}
 use Rattle.kp_run.specs.{Cycles.input_at, Cycles.inputs_to, Homes.home_of, Homes.AreHomes, Places.place_in, Places.places_in, declared.places.Place.Place}
 use Rattle.kp_run.specs.declared.places.Place.TheVariants.{Register, File}
-use Rattle.kp_watch.specs.{declared.beside.Beside.Beside, declared.compare.Tables.Tables, inner.Machines.due_by}
+use Rattle.kp_watch.specs.{declared.lockstep.Beside.Beside, declared.compare.Tables.Tables, inner.Machines.due_by}
 use Rattle.kp_watch.specs.inner.Results.{result_in, AreResults}
 
 -- the addresses that the write ports of a netlist wrote in cycle T

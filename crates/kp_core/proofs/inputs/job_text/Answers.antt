@@ -1,4 +1,4 @@
-use Rattle.kp_frontend.proofs.Given.{starts}
+use Rattle.kp_image.proofs.Given.{starts}
 use Rattle.kp_core.proofs.Outcomes.{all_registers}
 use Rattle.kp_core.proofs.inputs.job_text.Goals as goal
 

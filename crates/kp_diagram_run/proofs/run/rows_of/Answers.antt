@@ -1,6 +1,6 @@
 use Rattle.std.proofs.Common.{◌∙◌, ap, length, List}
 use Rattle.kp_base.specs.declared.row.Row.{Row}
-use Rattle.kp_frontend.proofs.Given.{starts}
+use Rattle.kp_image.proofs.Given.{starts}
 use Rattle.kp_run.proofs.Prefixes.{rows_many}
 use Rattle.kp_diagram_run.proofs.run.rows_of.Goals as goal
 

@@ -1,5 +1,5 @@
 use Rattle.std.proofs.Common.{◌∙◌, ℕ, List, ap, length, get_or}
-use Rattle.kp_frontend.specs.Spans.{word_in}
+use Rattle.kp_image.specs.Spans.{word_in}
 use Rattle.kp_diagram_run.proofs.Words.{word-at, words-many}
 use Rattle.kp_diagram_run.proofs.run.run_job.Goals as goal
 

@@ -1,5 +1,5 @@
 use Rattle.std.proofs.Common.{◌≡◌}
-use Rattle.kp_frontend.specs.Spans.{word_in}
+use Rattle.kp_image.specs.Spans.{word_in}
 use Rattle.kp_diagram_run.specs.inner.Words.{words_to}
 use Rattle.kp_diagram_run.proofs.run.words_of.Given as goal
 

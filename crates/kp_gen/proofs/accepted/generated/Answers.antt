@@ -4,7 +4,7 @@ use Rattle.kp_base.specs.First.{first}
 use Rattle.kp_ast.specs.declared.tree.Job.{Job}
 use Rattle.kp_width.specs.{Declarations.functions_in, Widths.widths_of}
 use Rattle.kp_stage.specs.{Design.Plan, Stages.broken_of}
-use Rattle.kp_frontend.specs.Sections.{sections_of}
+use Rattle.kp_image.specs.Sections.{sections_of}
 use Rattle.kp_gen.proofs.accepted.generated.Goals as goal
 
 pub widths_of-requires-clause-few_functions : goal.widths_of-requires-clause-few_functions

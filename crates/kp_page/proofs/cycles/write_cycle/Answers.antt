@@ -1,7 +1,7 @@
 use Rattle.std.proofs.Common.{◌≡◌, ◌∙◌, All, List, ap, sym, subst}
 use Rattle.kp_ast.specs.declared.tree.{Decl.Decl, Job.Job}
 use Rattle.kp_machine.proofs.Widths.{job_fine}
-use Rattle.kp_debug_report.{specs.inner.Standing.HasAddresses, proofs.Places.some_addresses}
+use Rattle.kp_debug.{specs.inner.Standing.HasAddresses, proofs.Places.some_addresses}
 use Rattle.kp_page.proofs.cycles.write_cycle.Goals as goal
 
 pub write_changes-requires-clause-some : goal.write_changes-requires-clause-some

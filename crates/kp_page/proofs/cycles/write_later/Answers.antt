@@ -3,7 +3,7 @@ use Rattle.kp_base.proofs.Bytes.{written_piece, written_part, rest_whole}
 use Rattle.kp_net.specs.Netlist.{Net}
 use Rattle.kp_cycle.specs.Steps.{Running}
 use Rattle.kp_implements.specs.Shows.{IsOfJob}
-use Rattle.kp_tool_report.proofs.Lines.{left_is}
+use Rattle.kp_report.proofs.Lines.{left_is}
 use Rattle.kp_page.specs.inner.Seen.{states_of}
 use Rattle.kp_page.proofs.Lines.{appends_as, part_as, cycle_is, cycles_next, cycles_end}
 use Rattle.kp_page.proofs.cycles.write_later.Goals as goal

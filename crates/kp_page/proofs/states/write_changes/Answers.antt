@@ -1,7 +1,7 @@
 use Rattle.std.proofs.{Common.arith, Common.ap, lemmas.Result.err_from_is_err_and}
 use Rattle.kp_base.proofs.Bytes.{written_piece, written_part}
 use Rattle.kp_machine.specs.Slots.{targets_of}
-use Rattle.kp_tool_report.proofs.Lines.{left_is, past, at_most_one, stands}
+use Rattle.kp_report.proofs.Lines.{left_is, past, at_most_one, stands}
 use Rattle.kp_page.{specs.inner.Seen.seen, specs.inner.Seen.seen_before, proofs.Lines.state_next}
 use Rattle.kp_page.proofs.states.write_changes.Goals as goal
 

@@ -1,6 +1,6 @@
 use Rattle.std.proofs.Common.{◌∙◌, subst, sym}
-use Rattle.kp_tool_report.specs.inner.Targets.{StandsAt}
-use Rattle.kp_debug_report.{specs.inner.Standing.HasAddresses, proofs.Places.register_is, proofs.Places.file_is}
+use Rattle.kp_report.specs.inner.Targets.{StandsAt}
+use Rattle.kp_debug.{specs.inner.Standing.HasAddresses, proofs.Places.register_is, proofs.Places.file_is}
 use Rattle.kp_page.proofs.states.write_target.Goals as goal
 
 pub register_shown-value-requires-clause-register : goal.register_shown-value-requires-clause-register

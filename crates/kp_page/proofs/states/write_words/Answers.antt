@@ -1,7 +1,7 @@
 use Rattle.std.proofs.{Common.arith, Common.ℕ, Common.get_or, lemmas.Result.err_from_is_err_and, KnownBytes.Appends-nil}
 use Rattle.kp_base.proofs.Bytes.{written_piece, written_part, rest_whole}
 use Rattle.kp_machine.specs.Words.{target}
-use Rattle.kp_tool_report.proofs.Lines.{left_is}
+use Rattle.kp_report.proofs.Lines.{left_is}
 use Rattle.kp_page.{specs.inner.Seen.seen, proofs.Lines.words_next, proofs.Lines.words_end}
 use Rattle.kp_page.proofs.states.write_words.Goals as goal
 

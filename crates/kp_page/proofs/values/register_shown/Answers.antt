@@ -1,5 +1,5 @@
 use Rattle.std.proofs.Common.{◌∙◌}
-use Rattle.kp_debug_report.proofs.Places.{register_there, register_value}
+use Rattle.kp_debug.proofs.Places.{register_there, register_value}
 use Rattle.kp_page.proofs.values.register_shown.Goals as goal
 
 pub value-requires : goal.value-requires

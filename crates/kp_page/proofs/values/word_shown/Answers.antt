@@ -1,5 +1,5 @@
 use Rattle.std.proofs.Common.{◌∙◌}
-use Rattle.kp_debug_report.proofs.Places.{file_there, address_there, file_value}
+use Rattle.kp_debug.proofs.Places.{file_there, address_there, file_value}
 use Rattle.kp_page.proofs.values.word_shown.Goals as goal
 
 pub word-requires-clause-file : goal.word-requires-clause-file

@@ -1,5 +1,5 @@
 use Rattle.std.proofs.Common.{◌∙◌, ℕ, Bool, List, get_or, ap, sym}
-use Rattle.kp_debug_report.proofs.Places.{file_there}
+use Rattle.kp_debug.proofs.Places.{file_there}
 use Rattle.kp_page.{specs.inner.Seen.seen_before, proofs.Words.file_words}
 use Rattle.kp_page.proofs.values.words_before.Goals as goal
 

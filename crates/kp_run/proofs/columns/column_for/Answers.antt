@@ -1,6 +1,6 @@
 use Rattle.std.proofs.Common.{◌∙◌, ℕ, ap, sym}
 use Rattle.kp_bits.specs.Word.{Word, word}
-use Rattle.kp_frontend.specs.Feeds.{row_in}
+use Rattle.kp_image.specs.Feeds.{row_in}
 use Rattle.kp_sched.specs.Rows.{rows_seen}
 use Rattle.kp_run.{specs.Columns.words_taken, proofs.Gathering.one_taken, proofs.Gathering.none_taken, proofs.Samples.is_got}
 use Rattle.kp_run.proofs.columns.column_for.Goals.{then-updates+in_ok-push, else-updates}

@@ -1,5 +1,5 @@
 use Rattle.std.proofs.Common.{◌≡◌, ◌++◌, drop}
-use Rattle.kp_frontend.specs.Feeds.{row_in}
+use Rattle.kp_image.specs.Feeds.{row_in}
 use Rattle.kp_sched.specs.Rows.{rows_seen}
 use Rattle.kp_run.specs.Columns.{words_taken}
 use Rattle.kp_run.proofs.columns.column_for.Given as goal

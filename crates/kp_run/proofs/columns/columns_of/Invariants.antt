@@ -1,5 +1,5 @@
 use Rattle.std.proofs.Common.{◌≡◌, ◌<◌, ℕ, length}
-use Rattle.kp_frontend.specs.Feeds.{row_in}
+use Rattle.kp_image.specs.Feeds.{row_in}
 use Rattle.kp_run.specs.Columns.{HasColumn}
 use Rattle.kp_run.proofs.columns.columns_of.Given as goal
 

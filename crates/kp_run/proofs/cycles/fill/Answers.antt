@@ -1,5 +1,5 @@
 use Rattle.std.proofs.Common.{◌≡◌, ◌<◌, ◌∙◌, arith, length, length-set}
-use Rattle.kp_frontend.specs.Feeds.{row_in}
+use Rattle.kp_image.specs.Feeds.{row_in}
 use Rattle.kp_run.proofs.{Given.as_feeds, Samples.set_next, Samples.is_got}
 use Rattle.kp_run.proofs.cycles.fill.Goals as goal
 

@@ -1,5 +1,5 @@
 use Rattle.std.{proofs.Common.◌≡◌, proofs.Common.length, specs.Prelude.take}
-use Rattle.kp_frontend.specs.Feeds.{row_in}
+use Rattle.kp_image.specs.Feeds.{row_in}
 use Rattle.kp_run.proofs.cycles.fill.Given as goal
 
 abbrev pub invariant-loop-x : goal.invariant-loop-x

@@ -1,5 +1,5 @@
 use Rattle.std.proofs.Common.{◌∙◌, [], refl, ap, arith}
-use Rattle.kp_frontend.specs.{Spans.word_in, Feeds.row_in}
+use Rattle.kp_image.specs.{Spans.word_in, Feeds.row_in}
 use Rattle.kp_net.specs.Netlist.{State, last_of, row_of, state_after}
 use Rattle.kp_run.{specs.Cycles.inputs_to, specs.Cycles.input_at, proofs.Steps.given_at, proofs.Steps.state_next, proofs.Given.rows_fed, proofs.Given.feeds_few}
 use Rattle.kp_run.proofs.Samples.{fits_ports}

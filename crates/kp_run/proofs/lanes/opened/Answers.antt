@@ -1,6 +1,6 @@
 use Rattle.std.proofs.Common.{◌≡◌, IfOk, subst}
 use Rattle.kp_stage.specs.declared.start.Start.{Start}
-use Rattle.kp_frontend.proofs.Given.{starts}
+use Rattle.kp_image.proofs.Given.{starts}
 use Rattle.kp_machine.specs.Machine.{state_of}
 use Rattle.kp_seq.specs.Running.{state}
 use Rattle.kp_run.proofs.lanes.opened.Goals as goal

@@ -1,7 +1,7 @@
 use Rattle.kp_stage.specs.Start.{start_of}
 use Rattle.kp_pipeline.specs.RightPath.{first_moment}
 use Rattle.kp_machine.specs.Machine.{machine_of, state_of}
-use Rattle.kp_timing.specs.Sites.{sited}
+use Rattle.kp_sites.specs.Sites.{sited}
 use Rattle.kp_stalls.specs.{Occupants.occupants_of, Occupants.report, Claims.run_given, Claims.run_moment, Claims.run_rows}
 use Rattle.kp_stalls.proofs.{Causing.caused, Moments.must_at, Reporting.record_found}
 use Rattle.kp_stalls.proofs.laws.each_reported_wait_is_a_cause.Goals as goal

@@ -1,5 +1,5 @@
 use Rattle.std.proofs.Common.{◌∙◌, sym}
-use Rattle.kp_frontend.proofs.Given.{starts}
+use Rattle.kp_image.proofs.Given.{starts}
 use Rattle.kp_stalls_run.proofs.Values.{same_lines}
 use Rattle.kp_stalls_run.proofs.guesses.add_values.Goals as goal
 

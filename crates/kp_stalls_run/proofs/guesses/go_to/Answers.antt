@@ -1,6 +1,6 @@
 use Rattle.std.proofs.Common.{◌≡◌, ◌∙◌, ℕ, sym, subst, arith, false}
 use Rattle.kp_cycle.specs.Steps.{Running, SamplesFit, given}
-use Rattle.kp_frontend.specs.{Feeds.row_in, Spans.word_in}
+use Rattle.kp_image.specs.{Feeds.row_in, Spans.word_in}
 use Rattle.kp_net.specs.Netlist.{Input}
 use Rattle.kp_run.{specs.Cycles.input_at, proofs.Given.feeds_few, proofs.Given.rows_fed, proofs.Samples.fits_ports}
 use Rattle.kp_stalls_run.{specs.inner.Replays.run_at, proofs.Values.stepped}

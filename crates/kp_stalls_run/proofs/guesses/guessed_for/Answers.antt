@@ -2,7 +2,7 @@ use Rattle.std.proofs.Common.{◌∙◌, ◌<◌, ◌≤◌, length, get_or, ap,
 use Rattle.kp_ast.specs.declared.tree.Job.{Job}
 use Rattle.kp_net.specs.Netlist.{cells_of, stalled}
 use Rattle.kp_pipeline.specs.Trimming.{trimmed}
-use Rattle.kp_timing.specs.Sites.{Sited, no_site}
+use Rattle.kp_sites.specs.Sites.{Sited, no_site}
 use Rattle.kp_stalls_run.specs.{Guessed.guessed_word, Runs.state_at}
 use Rattle.kp_synth_registers.specs.Holding.{Holds, inputs_of}
 use Rattle.kp_synth_tables.{proofs.Limits.few, specs.Keys.guesses_of, specs.Keys.is_alive, specs.Keys.keys_of}

@@ -7,7 +7,7 @@ use Rattle.kp_stage.specs.Start.{start_of}
 use Rattle.kp_machine.specs.Machine.{inputs_at, inputs_from, machine_of, sequential, start_hints, state_of}
 use Rattle.kp_stalls.specs.{declared.cause.Cause.Cause, declared.cause.Line.Line, Claims.IsCause, Claims.read_site, Claims.run_rows}
 use Rattle.kp_stalls.specs.Occupants.{occupants_of, report, value_before}
-use Rattle.kp_timing.specs.Sites.{sited}
+use Rattle.kp_sites.specs.Sites.{sited}
 use Rattle.kp_stalls_run.specs.{Guessed.guessed_word, Claims.IsTrueOf, Claims.moment_in, Runs.given_in, Runs.line_with, Runs.run_lines, Runs.settled}
 use Rattle.kp_stalls_run.proofs.Naming.{named, value_named}
 use Rattle.kp_stalls_run.proofs.Reporting.{IsReportedIn, all_reported, input_at, many_inputs, row_at}

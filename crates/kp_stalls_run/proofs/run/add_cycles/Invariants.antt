@@ -3,7 +3,7 @@ use Rattle.kp_machine.specs.Machine.{values_in}
 use Rattle.kp_pipeline.specs.Rows.{counts}
 use Rattle.kp_run.specs.Columns.{row_taken}
 use Rattle.kp_sched.specs.{Monitors.HasSeen, Rows.bit_of, Rows.rows_seen}
-use Rattle.kp_timing.specs.Sites.{sited}
+use Rattle.kp_sites.specs.Sites.{sited}
 use Rattle.kp_stalls.specs.{Occupants.report, Cycles.lines_from, Windows.Follows}
 use Rattle.kp_stalls_run.specs.Runs.{settled}
 use Rattle.kp_stalls_run.proofs.run.add_cycles.Given as goal

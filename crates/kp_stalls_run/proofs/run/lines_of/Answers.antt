@@ -1,6 +1,6 @@
 use Rattle.std.proofs.Common.{◌∙◌, ◌≤◌, List, length, get_or, ap, arith}
 use Rattle.kp_bits.specs.Word.{Word}
-use Rattle.kp_frontend.proofs.Given.{starts}
+use Rattle.kp_image.proofs.Given.{starts}
 use Rattle.kp_run.proofs.Machines.{stages_fit}
 use Rattle.kp_sched.specs.Rows.{bit_of}
 use Rattle.kp_stalls_run.proofs.Taking.{lines_taken, room_fits, samples_fit}

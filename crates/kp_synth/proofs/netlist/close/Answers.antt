@@ -1,7 +1,7 @@
 use Rattle.std.proofs.Common.{◌∙◌, ap, sym, subst}
 use Rattle.kp_net.specs.{declared.netlist.Parts.Parts, Names.IsNamed, Netlist.Net, Parts.PartsOk}
 use Rattle.kp_synth_registers.proofs.Growth.{grown_added}
-use Rattle.kp_synth_close.specs.Shows.{Shows}
+use Rattle.kp_synth_next.specs.Shows.{Shows}
 use Rattle.kp_synth.{specs.inner.Built.Spelled, proofs.Assembled.Source, proofs.Assembled.parts_ok, proofs.Assembled.shows, proofs.Assembled.is_named}
 use Rattle.kp_synth.proofs.netlist.close.Goals.{In_ok-parts}
 use Rattle.kp_synth.proofs.netlist.close.Goals as goal

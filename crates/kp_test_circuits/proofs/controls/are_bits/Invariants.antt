@@ -1,4 +1,4 @@
-use Rattle.kp_net_gates.specs.Misses.{BitsOk}
+use Rattle.kp_engine.specs.Misses.{BitsOk}
 use Rattle.kp_test_circuits.proofs.controls.are_bits.Given as goal
 
 abbrev pub invariant-loop-i : goal.invariant-loop-i

@@ -1,5 +1,5 @@
 use Rattle.std.proofs.Common.{◌≡◌, ℕ, ◌-◌, ◌<◌, ◌≤◌, length, get_or}
-use Rattle.kp_timing.specs.Reports.{nothing_recorded}
+use Rattle.kp_sites.specs.Reports.{nothing_recorded}
 use Rattle.kp_timing.proofs.timeline.flights.Given as goal
 
 abbrev pub invariant-loop-alloc : goal.invariant-loop-alloc

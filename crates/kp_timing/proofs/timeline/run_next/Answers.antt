@@ -1,6 +1,7 @@
 use Rattle.std.proofs.{Common.get_or, Common.sym, Common.subst, Common.arith, lemmas.List.get_or_default}
 use Rattle.kp_seq.specs.{Running.state, Recorded.Recorded}
-use Rattle.kp_timing.{specs.Reports.nothing_recorded, proofs.Sizes.FitsIn, proofs.Sizes.record_fits}
+use Rattle.kp_sites.specs.Reports.{nothing_recorded}
+use Rattle.kp_sites.proofs.Sizes.{FitsIn, record_fits}
 use Rattle.kp_timing.proofs.timeline.run_next.Goals as goal
 
 pub take-requires : goal.take-requires

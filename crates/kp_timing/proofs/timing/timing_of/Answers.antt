@@ -1,7 +1,7 @@
 use Rattle.std.proofs.Common.{◌∙◌, ap, subst, sym}
 use Rattle.kp_ast.specs.declared.tree.Job.{Job}
 use Rattle.kp_stage.specs.{declared.start.Start.Start, Start.start_of, Start.stall_word}
-use Rattle.kp_frontend.proofs.Given.{starts}
+use Rattle.kp_image.proofs.Given.{starts}
 use Rattle.kp_timing.{specs.Timed.IsOpened, proofs.Plain.has_timeline}
 use Rattle.kp_timing.proofs.timing.timing_of.Goals as goal
 

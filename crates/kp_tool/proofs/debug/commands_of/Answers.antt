@@ -2,7 +2,8 @@ use Rattle.std.proofs.Common.{◌≡◌, ◌∙◌, ℕ, List, Ok, Err, IfOk, ap
 use Rattle.std.specs.{declared.result.Result.Result, Global.Vec}
 use Rattle.kp_base.specs.{Check.Gives, declared.refusal.Refused.Refused}
 use Rattle.kp_ast.specs.declared.tree.{Decl.Decl, Job.Job}
-use Rattle.kp_debug_report.specs.{declared.command.Command.Command, Scripts.script_of, Inspecting.AreOfJob}
+use Rattle.kp_debug_script.specs.{declared.command.Command.Command, Scripts.script_of}
+use Rattle.kp_debug.specs.Inspecting.{AreOfJob}
 use Rattle.kp_tool.proofs.debug.commands_of.Goals as goal
 
 of_job : {T : Type 0} (value : T → List Command) (r : Result T Refused) (input : List ℕ) (job : Job) (rest : ℕ)

@@ -1,4 +1,4 @@
-use Rattle.kp_frontend.proofs.Given.{starts}
+use Rattle.kp_image.proofs.Given.{starts}
 use Rattle.kp_tool.proofs.debug.machine_of.Goals as goal
 
 pub synth-requires-clause-suits : goal.synth-requires-clause-suits

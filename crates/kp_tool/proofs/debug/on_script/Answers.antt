@@ -3,8 +3,9 @@ use Rattle.std.{proofs.lemmas.Result.err_from_is_err_and, specs.declared.option.
 use Rattle.kp_base.specs.{Check.Gives, declared.refusal.Refusal.Refusal, declared.refusal.Refused.Refused}
 use Rattle.kp_base.specs.declared.refusal.Refused.TheVariants.{Rule, NoMemory}
 use Rattle.kp_ast.specs.declared.tree.Job.{Job}
-use Rattle.kp_debug_report.specs.{declared.command.Command.Command, Scripts.script_of, Inspecting.Inspected, Inspecting.printed, Inspecting.whole_run}
-use Rattle.kp_tool_report.specs.Texts.{refusal_line}
+use Rattle.kp_debug_script.specs.{declared.command.Command.Command, Scripts.script_of}
+use Rattle.kp_debug.specs.Inspecting.{Inspected, printed, whole_run}
+use Rattle.kp_report.specs.Texts.{refusal_line}
 use Rattle.kp_tool.specs.{Scripted.DueOfScript, Scripted.DueOfScriptHead, Ends.Ends, inner.Failures.failure_of, declared.failure.Failure.Failure}
 use Rattle.kp_tool.proofs.Ends.{said}
 use Rattle.kp_tool.proofs.debug.on_script.Goals as goal

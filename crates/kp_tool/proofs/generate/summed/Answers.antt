@@ -1,6 +1,6 @@
 use Rattle.std.proofs.Common.{◌∙◌, ap}
-use Rattle.kp_frontend.proofs.Given.{starts}
-use Rattle.kp_tool_report.specs.Line.{totals_line}
+use Rattle.kp_image.proofs.Given.{starts}
+use Rattle.kp_report.specs.Line.{totals_line}
 use Rattle.kp_tool.proofs.Summed.{summed_is_due}
 use Rattle.kp_tool.proofs.generate.summed.Goals as goal
 

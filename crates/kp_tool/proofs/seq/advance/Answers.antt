@@ -1,5 +1,5 @@
 use Rattle.std.proofs.Common.{◌∙◌, refl, ap}
-use Rattle.kp_frontend.specs.Feeds.{row_in}
+use Rattle.kp_image.specs.Feeds.{row_in}
 use Rattle.kp_seq.specs.Running.{state}
 use Rattle.kp_run.proofs.Machines.{one_step}
 use Rattle.kp_tool.proofs.Running.{at_first}

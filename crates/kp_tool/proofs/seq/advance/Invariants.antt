@@ -1,6 +1,6 @@
 use Rattle.std.proofs.Common.{◌≡◌}
 use Rattle.kp_pipeline.specs.Sequential.{seq}
-use Rattle.kp_frontend.specs.Feeds.{row_in}
+use Rattle.kp_image.specs.Feeds.{row_in}
 use Rattle.kp_machine.specs.Machine.{machine_of, values_in}
 use Rattle.kp_seq.specs.Running.{state}
 use Rattle.kp_tool.proofs.seq.advance.Given as goal

@@ -2,7 +2,8 @@ use Rattle.std.proofs.Common.{ℕ, List, ◌≡◌, ap, sym, subst}
 use Rattle.kp_bits.specs.Word.{Word}
 use Rattle.kp_ast.specs.declared.tree.Job.{Job}
 use Rattle.kp_stage.specs.Start.{AreSamples, input}
-use Rattle.kp_frontend.{specs.Feeds.row_in, proofs.Given.starts, proofs.Given.rows_fit}
+use Rattle.kp_image.specs.Feeds.{row_in}
+use Rattle.kp_image.proofs.Given.{starts, rows_fit}
 use Rattle.kp_tool.proofs.Running.{run_is_sequential}
 use Rattle.kp_tool.proofs.seq.run_of.Goals as goal
 

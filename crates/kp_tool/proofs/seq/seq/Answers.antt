@@ -1,6 +1,6 @@
 use Rattle.std.proofs.Common.{refl}
 use Rattle.kp_tool.{specs.Saying.Says, proofs.Ends.said}
-use Rattle.kp_tool_report.specs.States.{sequential_text}
+use Rattle.kp_report.specs.States.{sequential_text}
 use Rattle.kp_tool.proofs.seq.seq.Goals as goal
 
 pub returns : goal.returns

@@ -1,9 +1,9 @@
 use Rattle.std.proofs.Common.{◌≡◌, sym, subst}
 use Rattle.kp_ast.specs.declared.tree.Job.{Job}
-use Rattle.kp_frontend.proofs.Given.{starts}
+use Rattle.kp_image.proofs.Given.{starts}
 use Rattle.kp_sched.specs.Rows.{rows_seen}
 use Rattle.kp_run.specs.Boards.{due_behind}
-use Rattle.kp_tool_report.{specs.Runs.run_text, specs.Runs.sim_text, proofs.Sims.run_is_sim}
+use Rattle.kp_report.{specs.Runs.run_text, specs.Runs.sim_text, proofs.Sims.run_is_sim}
 use Rattle.kp_tool.proofs.IfOks.{if_ok_both}
 use Rattle.kp_tool.proofs.sim.simulated.Goals as goal
 

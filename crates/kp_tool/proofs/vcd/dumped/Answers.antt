@@ -1,5 +1,5 @@
 use Rattle.std.proofs.{Common.ap, lemmas.Result.IfOk-weaker}
-use Rattle.kp_frontend.proofs.Given.{starts}
+use Rattle.kp_image.proofs.Given.{starts}
 use Rattle.kp_vcd.specs.Text.{dump_text}
 use Rattle.kp_tool.proofs.vcd.dumped.Goals as goal
 

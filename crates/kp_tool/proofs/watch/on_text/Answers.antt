@@ -2,7 +2,7 @@ use Rattle.std.proofs.{Common.ℕ, Common.List, Common.Ok, Common.Err, Common.re
 use Rattle.kp_base.specs.declared.refusal.Refusal.{Refusal}
 use Rattle.kp_ast.specs.declared.tree.Job.{Job}
 use Rattle.kp_net.specs.Netlist.{Net}
-use Rattle.kp_tool_report.specs.Texts.{refusal_line}
+use Rattle.kp_report.specs.Texts.{refusal_line}
 use Rattle.kp_tool.specs.Watched.{DueOfHead, DueOfRun, of_other, of_job}
 use Rattle.kp_tool.{specs.Compared.ReadsModule, specs.Compared.misread, specs.Compared.not_jobs, specs.Compared.jobs, proofs.Ends.said}
 use Rattle.kp_tool.proofs.Modules.{misread_end, module_jobs, module_outputs}

@@ -2,7 +2,7 @@ use Rattle.std.proofs.Common.{◌≡◌, ◌∙◌, ℕ, List, length, refl, ap,
 use Rattle.std.proofs.lemmas.Result.{err_from_is_err_and}
 use Rattle.kp_bits.specs.Word.{Word}
 use Rattle.kp_cycle.specs.Steps.{Running}
-use Rattle.kp_frontend.proofs.Given.{starts}
+use Rattle.kp_image.proofs.Given.{starts}
 use Rattle.kp_run.proofs.Given.{as_feeds}
 use Rattle.kp_implements.specs.Shows.{Shows}
 use Rattle.kp_diagram_text.specs.Charts.{figure_of, rows_of}

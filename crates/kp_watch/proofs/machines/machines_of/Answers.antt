@@ -1,6 +1,6 @@
 use Rattle.std.proofs.Common.{◌≡◌, ◌∙◌, ◌+◌, ◌++◌, ◌∷◌, [], ap, arith, length, length-append}
 use Rattle.kp_ast.specs.declared.tree.Job.{Job}
-use Rattle.kp_frontend.proofs.Given.{starts}
+use Rattle.kp_image.proofs.Given.{starts}
 use Rattle.kp_seq.specs.Running.{Running, state}
 use Rattle.kp_watch.proofs.Lanes.{opened_more, have_begun}
 use Rattle.kp_watch.proofs.machines.machines_of.Goals as goal

@@ -1,7 +1,8 @@
 use Rattle.std.proofs.Common.{◌∙◌, ap, sym, subst, length}
 use Rattle.kp_machine.specs.Machine.{values_in}
 use Rattle.kp_seq.specs.Running.{state}
-use Rattle.kp_timing.{specs.Reports.HasRoom, proofs.Sizes.record_fits}
+use Rattle.kp_sites.specs.Reports.{HasRoom}
+use Rattle.kp_sites.proofs.Sizes.{record_fits}
 use Rattle.kp_stalls.proofs.flight.Flight.run.Goals as goal
 
 pub take-requires : goal.take-requires

@@ -2,7 +2,7 @@ use Rattle.std.proofs.Common.{◌+◌, ◌%◌, List, sym, subst, refl}
 use Rattle.kp_machine.specs.Machine.{values_in}
 use Rattle.kp_seq.specs.Running.{state}
 use Rattle.kp_stalls.{specs.Occupants.Report, specs.Occupants.report_of, specs.Windows.IsKept, proofs.Windows.follows_step, proofs.Windows.kept_next}
-use Rattle.kp_timing.proofs.Sizes.{set_back}
+use Rattle.kp_sites.proofs.Sizes.{set_back}
 use Rattle.kp_stalls.proofs.window.Window.step.Goals as goal
 
 pub invariant_of-self : goal.invariant_of-self

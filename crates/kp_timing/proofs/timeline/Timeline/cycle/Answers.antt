@@ -2,8 +2,8 @@ use Rattle.std.proofs.Common.{◌≡◌, ◌∙◌, ◌+◌, ◌<◌, ◌^◌, [
 use Rattle.kp_ast.specs.declared.tree.Job.{Job}
 use Rattle.kp_stage.specs.Counts.{summary_of}
 use Rattle.kp_machine.{specs.Slots.samples_of, proofs.Stages.stages_inside}
-use Rattle.kp_timing.specs.{Reports.HasRoom, declared.deciding.Found.Found, Timed.Timed, Timed.IsCycle, inner.Kept.Advances}
-use Rattle.kp_timing.specs.inner.Deciding.{record_in, moves_by}
+use Rattle.kp_sites.specs.Reports.{HasRoom}
+use Rattle.kp_timing.specs.{declared.movement.Found.Found, Timed.Timed, Timed.IsCycle, inner.Kept.Advances, inner.Deciding.record_in, inner.Deciding.moves_by}
 use Rattle.kp_timing.proofs.Keeping.{f, no_samples_declared, kept_next, hold_next, moves_same, waits_same, waits_past, row_shown, stages_are}
 use Rattle.kp_timing.proofs.timeline.Timeline.cycle.Goals as goal
 

@@ -1,7 +1,8 @@
 use Rattle.std.proofs.Common.{◌∙◌, ◌<◌, ◌^◌, List, ap, sym, subst, arith}
 use Rattle.kp_stage.specs.declared.counts.Summary.{Summary}
 use Rattle.kp_seq.specs.Recorded.{Recorded}
-use Rattle.kp_timing.{proofs.Sizes.set_back, specs.inner.Kept.AreSites, specs.inner.Kept.IsKept}
+use Rattle.kp_sites.proofs.Sizes.{set_back}
+use Rattle.kp_timing.specs.inner.Kept.{AreSites, IsKept}
 use Rattle.kp_timing.proofs.Keeping.{CanRun, can_run, first_hold, kept_opened, stages_are}
 use Rattle.kp_timing.proofs.timeline.Timeline.open.Goals as goal
 

@@ -1,5 +1,0 @@
-use Rattle.std.proofs.Common.{length}
-use Rattle.kp_build.proofs.joined.+joined_by_steps.Given as goal
-
-abbrev pub decreases-joined_by_steps : goal.decreases-joined_by_steps
-decreases-joined_by_steps l = length l.parts.now

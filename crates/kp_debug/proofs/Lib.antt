@@ -1,0 +1,9 @@
+pub mod Searching
+pub mod Gathering
+pub mod Places
+pub mod Standing
+pub mod Alike
+pub mod Scripts
+pub mod Feeding
+pub mod Passing
+pub mod AtCycle

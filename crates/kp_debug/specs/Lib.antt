@@ -1,0 +1,3 @@
+pub mod Inspecting
+pub mod Sessions
+pub mod inner

@@ -1,5 +1,0 @@
-use Rattle.kp_debug_report.specs.inner.Standing.{IsSearched}
-use Rattle.kp_debug_report.proofs.commands.search.Given as goal
-
-abbrev pub invariant-loop : goal.invariant-loop
-invariant-loop l = IsSearched l.job.design.job l.initial.session l.target l.value l.left l.counter l.session

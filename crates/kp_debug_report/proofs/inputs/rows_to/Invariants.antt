@@ -1,7 +1,0 @@
-use Rattle.std.proofs.Common.{◌≡◌}
-use Rattle.kp_frontend.specs.Feeds.{row_in}
-use Rattle.kp_debug_report.specs.inner.Lists.{rows_to}
-use Rattle.kp_debug_report.proofs.inputs.rows_to.Given as goal
-
-abbrev pub invariant-loop-cycle : goal.invariant-loop-cycle
-invariant-loop-cycle l = l.rows.items ≡ rows_to (row_in l.inputs) l.cycle

@@ -1,4 +1,0 @@
-pub mod Inspecting
-pub mod Sessions
-pub mod inner
-pub mod Scripts

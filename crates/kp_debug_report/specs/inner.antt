@@ -1,5 +1,0 @@
--- For private contracts and proofs only: a reader need not trust it.
-pub mod Kept
-pub mod Lists
-pub mod Standing
-pub mod Reading

@@ -1,0 +1,2 @@
+-- Definitions for private contracts and proofs only: no public clause depends on them.
+pub mod Reading

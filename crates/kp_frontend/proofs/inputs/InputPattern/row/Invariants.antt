@@ -1,6 +1,0 @@
-use Rattle.std.proofs.Common.{◌≡◌, ◌++◌, drop}
-use Rattle.kp_frontend.specs.Feeds.{row_in}
-use Rattle.kp_frontend.proofs.inputs.InputPattern.row.Given as goal
-
-abbrev pub invariant-loop-feed : goal.invariant-loop-feed
-invariant-loop-feed l = l.row.items ++ row_in (drop l.feed-index l.self) l.cycle ≡ row_in l.self l.cycle

@@ -1,0 +1,5 @@
+pub mod Declared
+pub mod Feeding
+pub mod Given
+pub mod Loops
+pub mod Patterns

@@ -1,0 +1,5 @@
+pub mod Sections
+pub mod Cycles
+pub mod Spans
+pub mod Feeds
+pub mod inner

@@ -1,5 +1,0 @@
-use Rattle.std.proofs.Common.{length}
-use Rattle.kp_net_gates.proofs.tree.+first_hit.Given as goal
-
-abbrev pub decreases-first_hit : goal.decreases-first_hit
-decreases-first_hit l = length l.rows.now

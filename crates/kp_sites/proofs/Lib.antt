@@ -1,0 +1,4 @@
+pub mod Writers
+pub mod Results
+pub mod Asking
+pub mod Sizes

@@ -1,9 +1,0 @@
-use Rattle.std.proofs.Common.{List, sym, subst}
-use Rattle.kp_synth_registers.specs.declared.outcome.Outcome.{Outcome}
-use Rattle.kp_synth.{specs.inner.Descending.SayFrom, specs.Stages.own_room, proofs.Spoken.say_from_kept}
-use Rattle.kp_synth.proofs.all.first.Goals as goal
-
-pub returns-clause-says : goal.returns-clause-says
-returns-clause-says c =
-    subst (λ (os : List Outcome). SayFrom c.args.layout.now c.stage_in.new.pool 0 os) (sym c.in_ok-put_first.ensures)
-    (c.in_ok-out.ensures.says, say_from_kept c.args.layout.now c.args.pool.now c.stage_in.new.pool (own_room c.args.layout.now 0) 1 c.args.outs.now.items c.in_ok-out.ensures.added.kept c.requires.says)

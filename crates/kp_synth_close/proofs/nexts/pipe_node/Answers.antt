@@ -1,5 +1,0 @@
-use Rattle.kp_synth_close.proofs.Transport.{gives_out}
-use Rattle.kp_synth_close.proofs.nexts.pipe_node.Goals as goal
-
-pub returns-clause-next : goal.returns-clause-next
-returns-clause-next c = gives_out _ _ _ _ c.next_pipe.ensures.gives

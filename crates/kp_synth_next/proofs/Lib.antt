@@ -1,0 +1,13 @@
+pub mod Guesses
+pub mod Steps
+pub mod Closing
+pub mod Whole
+pub mod Arms
+pub mod Made
+pub mod Bits
+pub mod Squashes
+pub mod Writes
+pub mod Transport
+pub mod Joined
+pub mod Bounding
+pub mod Bare

@@ -1,9 +1,0 @@
-use Rattle.std.proofs.Common.{◌≡◌, ℕ, ◌<◌, None, length, get_or}
-use Rattle.kp_timing.specs.Timed.{hold_of}
-use Rattle.kp_timing.proofs.writing.held.Given as goal
-
-abbrev pub invariant-loop-k : goal.invariant-loop-k
-invariant-loop-k l = record {
-  room : length l.hold ≡ 12;
-  same : (j : ℕ) → j < l.k → get_or l.hold j None ≡ hold_of l.timeline j;
-}
