@@ -1,8 +1,8 @@
 // A region of words and its operations.
-ghost use Rattle.std.specs.Prelude.{◌≡◌, ◌+◌, ◌<◌, ◌≤◌, ◌↔◌, length, slice_index, IfOk, OnOk, OnErr, IsErr};
+ghost use Rattle.std.specs.Prelude.{◌≡◌, ◌+◌, ◌<◌, ◌≤◌, ◌↔◌, ◌⊎◌, length, slice_index, slice_range, IfOk, OnOk, OnErr, IsErr};
 ghost use Rattle.std.specs.Borrow.{sem};
 ghost use Rattle.kp_region.specs.Lending.{LendsWords};
-ghost use Rattle.kp_region.specs.Words.{IsSound, IsWithin, IsDisjoint, fresh, next_span, span_words, carved, written, copied, released};
+ghost use Rattle.kp_region.specs.Words.{IsSound, IsWithin, IsDisjoint, fresh, laid_over, next_span, span_words, carved, written, copied, released};
 
 use crate::span::Span;
 use kp_base::NoMemory;
@@ -124,9 +124,12 @@ impl Region {
         ensures copied { self.new ≡ copied self.old from to }
         ensures sound { IsSound self.new }
     {
-        let start = from.start as usize;
-        let end = start + from.len as usize;
-        self.words.copy_within(start..end, to.start as usize);
+        copy_part(
+            self.words.as_mut_slice(),
+            from.start as usize,
+            to.start as usize,
+            from.len as usize,
+        );
     }
 
     /// The present number of used words.
@@ -144,5 +147,21 @@ impl Region {
         ensures sound { IsSound self.new }
     {
         self.used = m.used;
+    }
+}
+
+// Copies this many words to another index; no word is in both places. Two slices are copied as a block, parts of one word by word.
+fn copy_part(words: &mut [u64], from: usize, to: usize, len: usize)
+    requires from_inside { from + len ≤ length words.old }
+    requires to_inside { to + len ≤ length words.old }
+    requires disjoint { (from + len ≤ to) ⊎ (to + len ≤ from) }
+    ensures { words.new ≡ laid_over words.old to (slice_range words.old from (from + len)) }
+{
+    if from < to {
+        let (front, back) = words.split_at_mut(to);
+        back[..len].copy_from_slice(&front[from..from + len]);
+    } else {
+        let (front, back) = words.split_at_mut(from);
+        front[to..to + len].copy_from_slice(&back[..len]);
     }
 }
