@@ -1,6 +1,7 @@
 pub mod Fitting
 pub mod Extending
 pub mod Rows
+mod Entries
 pub mod Names
 pub mod Giving
 pub mod Lists

@@ -5,10 +5,10 @@ use Rattle.std.specs.{Option.option_map, List.zip}
 use Rattle.kp_bits.specs.Word.{Word}
 use Rattle.kp_ast.specs.{Expressions.is_same_name, Expressions.look_up, Expressions.arguments_of, declared.tree.Param.Param, declared.tree.Decl.Decl}
 use Rattle.kp_ast.specs.Checked.{checked_calls_of}
-use Rattle.kp_stage.proofs.Noted.{look_up-with_entry}
 use Rattle.kp_net.specs.{declared.node.NodeId.NodeId, Nodes.Cells, Nodes.word_at, Growth.Held, Growth.Kept, Growth.Grown}
 use Rattle.kp_build.specs.Names.{Scope, Nodes, node_of, with_node, word_of, known_at, AreInside}
 use Rattle.kp_build.specs.inner.Showing.{AllInside, words_at}
+use Rattle.kp_build.proofs.Entries.{lookup-with_entry}
 
 -- while the pool grows, names keep their words
 same_words : (p q : Held) (k : ℕ) (c : Cells) (o : Option NodeId) → Kept p q k → ((n : NodeId) → o ≡ Some n → n.0 < length p.nodes)
@@ -27,7 +27,7 @@ still_inside p q k env g h x n e = let m = h x n e in let l = g.kept.longer in o
 
 -- a name that gets a node, seen by a look-up
 pub node_with : (names : Nodes) (n : List ℕ) (x : NodeId) (q : List ℕ) → node_of (with_node names n x) q ≡ cond (is_same_name q n) (Some x) (node_of names q)
-node_with names n x q = look_up-with_entry n x q names
+node_with names n x q = lookup-with_entry n x q names
 
 -- the parameters of a call, with the nodes of the arguments
 abbrev pub given : List Param → List NodeId → Nodes

@@ -25,4 +25,3 @@ pub use control::{Control, RowNodes};
 pub use next_values::next_nodes;
 pub use outputs::row_nodes;
 pub use rollback::steer;
-pub use write_ports::write_ports;

@@ -262,7 +262,7 @@ fn target_port(
 }
 
 /// The write ports of all targets. Error: out of memory.
-pub fn write_ports(
+pub(crate) fn write_ports(
     alloc: Global,
     pool: &mut Pool,
     layout: &Layout<'_>,

@@ -83,13 +83,7 @@ pub fn write_caution(
     let warning = caution.warning;
     let line = format!(in alloc; "{warning}\n")?;
     write_gap(out)?;
-    write_head(
-        out,
-        file,
-        caution.place,
-        "warning W",
-        warning.number(),
-    )?;
+    write_head(out, file, caution.place, "warning W", warning.number())?;
     out.extend_from_slice(line.as_bytes())?;
     write_excerpt(alloc, out, text, caution.place, &warning.helps())?;
     Ok(())
