@@ -14,7 +14,7 @@ programs = kp kpview kpcore
 lock     = out/build.lock
 
 # The scripts of checks/ that pass or fail.
-all_checks = names.py cited_lemmas.py isa.py version.sh manual.py editors.sh pictures.sh page.sh memory.sh verilog.sh waves.sh hardware.sh dist.sh build.sh edits.sh
+all_checks = names.py cited_lemmas.py isa.py riscv.sh version.sh manual.py editors.sh pictures.sh page.sh memory.sh verilog.sh waves.sh hardware.sh dist.sh build.sh edits.sh
 all_benches = asm seq sim watch synth nodes read hostile
 
 .PHONY: all $(programs) $(programs:%=built-%) check checks bench pictures install uninstall dist clean help
