@@ -4,7 +4,6 @@ ghost use Rattle.kp_view_findings.specs.Messages.{AppendsCaution, AppendsExcerpt
 ghost use Rattle.kp_view_message.specs.Texts.{message_text};
 
 use crate::finding::{Caution, Finding};
-use itoa::Buffer;
 use kp_base::{NoMemory, Place};
 use kp_view_excerpt::Excerpt;
 use kp_view_help::Help;
@@ -41,13 +40,14 @@ pub fn write_finding(
 {
     let number = finding.message.rule();
     out.push(b'\n')?;
-    write_head(out, file, finding.place, "error E", number)?;
+    write_head(alloc, out, file, finding.place, "error E", number)?;
     write_message(alloc, out, text, finding.place, finding.message)?;
     Ok(())
 }
 
 // The name of the file, the place, and what is reported there, with its number.
 fn write_head(
+    alloc: Global,
     out: &mut Vec<u8>,
     file: &[u8],
     place: Place,
@@ -57,16 +57,9 @@ fn write_head(
     ensures { OnOk result (out.new.items ≡ out.old.items ++ head_text file.now place class.now number) }
 {
     let Place { line, col } = place;
-    let mut digits = Buffer::new();
+    let head = format!(in alloc; ":{line}:{col}: {class}{number}: ")?;
     out.extend_from_slice(file)?;
-    out.push(b':')?;
-    out.extend_from_slice(digits.format(line).as_bytes())?;
-    out.push(b':')?;
-    out.extend_from_slice(digits.format(col).as_bytes())?;
-    out.extend_from_slice(b": ")?;
-    out.extend_from_slice(class.as_bytes())?;
-    out.extend_from_slice(digits.format(number).as_bytes())?;
-    out.extend_from_slice(b": ")?;
+    out.extend_from_slice(head.as_bytes())?;
     Ok(())
 }
 
@@ -83,7 +76,14 @@ pub fn write_caution(
     let warning = caution.warning;
     let line = format!(in alloc; "{warning}\n")?;
     write_gap(out)?;
-    write_head(out, file, caution.place, "warning W", warning.number())?;
+    write_head(
+        alloc,
+        out,
+        file,
+        caution.place,
+        "warning W",
+        warning.number(),
+    )?;
     out.extend_from_slice(line.as_bytes())?;
     write_excerpt(alloc, out, text, caution.place, &warning.helps())?;
     Ok(())
