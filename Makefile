@@ -6,7 +6,8 @@
 # make pictures draws the pictures of docs/pictures/ anew
 # make install  installs the built programs, manual pages, completions, editor files, documents and examples: PREFIX=/usr/local DESTDIR=
 # make uninstall  removes what make install put there, with the same PREFIX and DESTDIR
-# make dist     packs what would be installed: out/dist/kp-VERSION.tar.gz, and its sum in out/dist/SHA256SUMS
+# make dist     packs what would be installed: out/dist/kp-VERSION-linux-x86_64.tar.gz, and its sum in out/dist/SHA256SUMS
+# make deb      packs the same for Debian and its kin: out/deb/kp_VERSION_amd64.deb
 # make clean    removes what was built and proved here
 # make help     prints these lines
 
@@ -14,10 +15,11 @@ programs = kp kpview kpcore
 lock     = out/build.lock
 
 # The scripts of checks/ that pass or fail.
-all_checks = names.py cited_lemmas.py isa.py riscv.sh version.sh manual.py editors.sh pictures.sh page.sh memory.sh verilog.sh waves.sh hardware.sh dist.sh build.sh edits.sh
+all_checks = names.py cited_lemmas.py isa.py riscv.sh version.sh manual.py editors.sh pictures.sh page.sh memory.sh verilog.sh waves.sh hardware.sh front.sh \
+             dist.sh deb.sh build.sh edits.sh
 all_benches = asm seq sim watch synth nodes read hostile
 
-.PHONY: all $(programs) $(programs:%=built-%) check checks bench pictures install uninstall dist clean help
+.PHONY: all $(programs) $(programs:%=built-%) check checks bench pictures install uninstall dist deb clean help
 
 all: $(programs)
 
@@ -65,22 +67,25 @@ KPCORE_BINARY = crates/kpcore/out/kpcore
 version = $(shell cat VERSION)
 root    = $(DESTDIR)$(PREFIX)
 # The folders that others use too, and those of kp alone
-shared  = bin share/man/man1 share/man/man5 share/bash-completion/completions share/zsh/site-functions share/fish/vendor_completions.d \
-          $(addprefix share/vim/vimfiles/,compiler ftdetect ftplugin syntax)
-own     = share/doc/kp share/kp
-vim     = compiler/kp.vim compiler/kpview.vim ftdetect/kp.vim ftplugin/kp.vim syntax/kp.vim
+shared  = bin libexec share/man/man1 share/man/man5 share/bash-completion/completions share/zsh/site-functions share/fish/vendor_completions.d \
+          $(addprefix share/vim/vimfiles/,$(sort $(dir $(vim))))
+own     = libexec/kp share/doc/kp share/kp
+vim     = $(patsubst editors/vim/%,%,$(wildcard editors/vim/*/*.vim))
+vscode  = $(notdir $(wildcard editors/vscode/*))
 files   = share/man/man5/kp.5 $(foreach it,$(programs),bin/$(it) share/man/man1/$(it).1 share/bash-completion/completions/$(it) \
           share/zsh/site-functions/_$(it) share/fish/vendor_completions.d/$(it).fish) $(addprefix share/vim/vimfiles/,$(vim))
 absolute = $(if $(filter /%,$(PREFIX)),,$(error PREFIX has to be an absolute path, and is `$(PREFIX)`))
 needs = $(absolute)$(foreach it,$(KP_BINARY) $(KPVIEW_BINARY) $(KPCORE_BINARY),$(if $(wildcard $(it)),,$(error $(it) isn't there: run make first, which builds it)))
 trees   = find docs examples \( -name out -o -name __pycache__ \) -prune -o -type f -print
 
-# share/kp has links to the programs, so that the commands of the documents run there as they are printed.
+# bin/kp is the script kp of this folder, which runs the program libexec/kp/kp. share/kp has links to the programs, so that the commands of the documents run
+# there as they are printed.
 install:
 	$(needs)
 	@umask 022 && \
 	install -d $(patsubst %,"$(root)/%",$(shared) $(own)) && \
-	install -m 755 "$(KP_BINARY)" "$(root)/bin/kp" && \
+	install -m 755 kp "$(root)/bin/kp" && \
+	install -m 755 "$(KP_BINARY)" "$(root)/libexec/kp/kp" && \
 	install -m 755 "$(KPVIEW_BINARY)" "$(root)/bin/kpview" && \
 	install -m 755 "$(KPCORE_BINARY)" "$(root)/bin/kpcore" && \
 	for it in kp.1 kp.5 kpview.1 kpcore.1; do \
@@ -94,7 +99,9 @@ install:
 	done && \
 	for it in $(vim); do install -m 644 editors/vim/$$it "$(root)/share/vim/vimfiles/$$it" || exit 1; done && \
 	install -m 644 README.md CHANGELOG.md CONTRIBUTING.md VERSION $(wildcard LICENSE*) "$(root)/share/doc/kp" && \
-	install -m 644 editors/kp.tmLanguage.json "$(root)/share/kp/kp.tmLanguage.json" && \
+	install -m 644 VERSION "$(root)/share/kp/VERSION" && \
+	install -d "$(root)/share/kp/vscode" && \
+	for it in $(vscode); do install -m 644 editors/vscode/$$it "$(root)/share/kp/vscode/$$it" || exit 1; done && \
 	$(trees) | while read -r it; do \
 	    case $$it in docs/*) to="$(root)/share/doc/kp/$$it" ;; *) to="$(root)/share/kp/$$it" ;; esac && \
 	    mode=644 && { [ ! -x "$$it" ] || mode=755; } && \
@@ -115,15 +122,25 @@ uninstall:
 
 # Two calls write the same bytes: names are sorted, and owners, modes and times are fixed.
 SOURCE_DATE_EPOCH ?= 1767225600
+packed = kp-$(version)-linux-x86_64
+made   = $(MAKE) -s --no-print-directory install KP_BINARY="$(KP_BINARY)" KPVIEW_BINARY="$(KPVIEW_BINARY)" KPCORE_BINARY="$(KPCORE_BINARY)"
 dist:
 	$(needs)
 	@rm -rf out/dist && mkdir -p out/dist/root
-	@$(MAKE) -s --no-print-directory install PREFIX="$(PREFIX)" DESTDIR="$(CURDIR)/out/dist/root" KP_BINARY="$(KP_BINARY)" \
-	    KPVIEW_BINARY="$(KPVIEW_BINARY)" KPCORE_BINARY="$(KPCORE_BINARY)"
-	@cd out/dist && mv "root$(PREFIX)" kp-$(version) && rm -rf root && \
+	@$(made) PREFIX="$(PREFIX)" DESTDIR="$(CURDIR)/out/dist/root"
+	@cd out/dist && mv "root$(PREFIX)" $(packed) && rm -rf root && \
 	tar --format=ustar --sort=name --owner=0 --group=0 --numeric-owner --mode=u=rwX,go=rX --mtime=@$(SOURCE_DATE_EPOCH) \
-	    -cf kp-$(version).tar kp-$(version) && \
-	gzip -9n kp-$(version).tar && rm -rf kp-$(version) && sha256sum kp-$(version).tar.gz > SHA256SUMS && cat SHA256SUMS
+	    -cf $(packed).tar $(packed) && \
+	gzip -9n $(packed).tar && rm -rf $(packed) && sha256sum $(packed).tar.gz > SHA256SUMS && cat SHA256SUMS
+
+# DEBFULLNAME and DEBEMAIL are the name and the address of who makes the package, as for other tools of Debian.
+DEBFULLNAME ?= kp
+DEBEMAIL    ?= $(shell id -un)@$(shell hostname)
+deb:
+	$(needs)
+	@rm -rf out/deb && mkdir -p out/deb/root
+	@$(made) PREFIX=/usr DESTDIR="$(CURDIR)/out/deb/root"
+	@SOURCE_DATE_EPOCH=$(SOURCE_DATE_EPOCH) .ci/deb out/deb "$(version)" "$(DEBFULLNAME) <$(DEBEMAIL)>"
 
 clean:
 	rm -rf out crates/*/out

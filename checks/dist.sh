@@ -6,7 +6,7 @@
 # Two calls of `make dist` write the same bytes, though the second has another umask and older files; names are sorted, and the owner is 0. VERSION is
 # the newest heading of CHANGELOG.md. The commands in the manual page and the completions are those that `kp` accepts; the keywords and rules in the
 # manual pages and the editor files are those of docs/. Shells, mandoc and man, where they are installed, accept their files without a message. Where no
-# program is built, a stub is installed. KP, KPVIEW and KPCORE name other programs. The last line is `N checked, M wrong`, and the status is 0 where M is 0.
+# program is built, a stub is installed. bin/kp is the script `kp` of this folder and runs the program. KP, KPVIEW and KPCORE name other programs. The last line is `N checked, M wrong`, and the status is 0 where M is 0.
 [ -n "${KP:-}" ] || [ -x "$(dirname "$0")/../crates/kp/out/kp" ] || KP=:
 . "$(dirname "$0")/common.sh"
 if [ "$kp" = : ]; then
@@ -60,8 +60,9 @@ quiet install make "$work/made"
 made install DESTDIR="$root" PREFIX=/opt/some
 quiet again make "$work/made"
 {
-    cmp "$kp" "$at/bin/kp"
-    cmp "$kp" "$at/share/kp/kp"
+    cmp kp "$at/bin/kp"
+    cmp kp "$at/share/kp/kp"
+    cmp "$kp" "$at/libexec/kp/kp"
     cmp "$kpview" "$at/bin/kpview"
     cmp "$kpview" "$at/share/kp/kpview"
     cmp "$kpcore" "$at/bin/kpcore"
@@ -78,14 +79,18 @@ quiet again make "$work/made"
         cmp completions/$it.fish "$at/share/fish/vendor_completions.d/$it.fish"
     done
     (cd editors/vim && find . -type f) | while read -r it; do cmp "editors/vim/$it" "$at/share/vim/vimfiles/$it"; done
-    cmp editors/kp.tmLanguage.json "$at/share/kp/kp.tmLanguage.json"
+    (cd editors/vscode && find . -type f) | while read -r it; do cmp "editors/vscode/$it" "$at/share/kp/vscode/$it"; done
+    cmp VERSION "$at/share/kp/VERSION"
     grep -n '@[A-Z]*@' "$at"/share/man/man?/kp*.?
     grep -L "version $(cat VERSION)" "$at"/share/man/man?/kp*.? | sed 's/$/: has no version/'
     for it in kp kpview kpcore; do
         grep -q /opt/some/share "$at/share/man/man1/$it.1" || echo "$it.1 doesn't name the prefix"
     done
     find "$root" -type d ! -perm 755 -o -type f ! -perm 644 ! -perm 755
-    find "$at/bin" -type f ! -perm 755
+    find "$at/bin" "$at/libexec" -type f ! -perm 755
+    [ "$("$at/bin/kp" --version)" = "kp $(cat VERSION)" ] || echo "bin/kp --version prints another version"
+    "$kp" > "$work/one"
+    "$at/bin/kp" 2> /dev/null | cmp - "$work/one"
 } > "$work/said" 2>&1
 quiet files install "$work/said"
 mkdir "$work/pages"
@@ -109,7 +114,8 @@ rejects unbuilt 'run make' install DESTDIR="$root" KP_BINARY="$work/none" KPVIEW
 rejects prefix absolute install DESTDIR="$root/" PREFIX=opt KP_BINARY="$kp" KPVIEW_BINARY="$kpview" KPCORE_BINARY="$kpcore"
 
 # The same bytes twice
-archive=kp-$(cat VERSION).tar.gz
+name=kp-$(cat VERSION)-linux-x86_64
+archive=$name.tar.gz
 for it in 1 2; do
     mkdir "$work/tree$it" && tar -cf - --exclude=out --exclude=crates --exclude=.git . | tar -xf - -C "$work/tree$it"
     (
@@ -124,7 +130,10 @@ quiet dist make "$work/said"
 quiet SHA256SUMS sha256sum "$work/said"
 tar -tzf "$work/tree1/out/dist/$archive" > "$work/names"
 {
-    grep -qx "kp-$(cat VERSION)/bin/kp" "$work/names" || echo "has no bin/kp"
+    for it in bin/kp libexec/kp/kp bin/kpview bin/kpcore; do grep -qx "$name/$it" "$work/names" || echo "has no $it"; done
+    mkdir "$work/unpacked" && tar -xzf "$work/tree1/out/dist/$archive" -C "$work/unpacked"
+    [ "$("$work/unpacked/$name/share/kp/kp" --version)" = "kp $(cat VERSION)" ] || echo "share/kp/kp --version prints another version"
+    "$work/unpacked/$name/bin/kp" 2> /dev/null | cmp - "$work/one"
     tr / '\001' < "$work/names" | LC_ALL=C sort -c 2>&1 | sed 's/.*/names are unsorted/'
     tar --numeric-owner -tvzf "$work/tree1/out/dist/$archive" | grep -v '^[^ ]* 0/0 ' | sed 's/^/has another owner: /'
 } > "$work/said"
@@ -134,7 +143,7 @@ quiet archive tar "$work/said"
 commands=$(sed -n 's/.*codes "\([a-z]*\)".*/\1/p' $(grep -l '^abbrev pub plain_command' crates/*/specs/*.antt) | grep -v help)
 same commands kp.1 "$(sed -n '/^\.Sh SYNOPSIS/,/^\.Sh DESC/s/^\.Cm \([a-z]*\).*/\1/p' man/kp.1)" "$commands"
 same commands list "$(sed -n '/^The commands are/,/^\.Sh/s/^\.It Cm \([a-z]*\).*/\1/p' man/kp.1)" "$commands"
-same commands bash "$(sed -n "s/.*:0) .*-W '\([a-z ]*\)'.*/\1/p" completions/kp.bash)" "$commands"
+same commands bash "$(sed -n "s/.*:0) .*-W '\([a-z ]*\) --help --version'.*/\1/p" completions/kp.bash)" "$commands"
 same commands zsh "$(sed -n "s/^  '\([a-z]*\):.*/\1/p" completions/_kp)" "$commands"
 same commands fish "$(sed -n "s/.*'__kp_argument 1' -k -a \([a-z]*\) .*/\1/p" completions/kp.fish)" "$commands"
 
@@ -142,7 +151,8 @@ same commands fish "$(sed -n "s/.*'__kp_argument 1' -k -a \([a-z]*\) .*/\1/p" co
 keywords=$(sed -n '/The keywords$/,/`inputs`\.$/p' "$language" | tail -n +2 | grep -o '`[a-z]*`' | tr -d '`')
 same keywords kp.5 "$(sed -n '/^\.It keywords/,/^\.It/s/^\.Cm //p' man/kp.5)" "$keywords"
 same keywords vim "$(sed -n '/Todo/d; s/^syntax keyword kp[A-Za-z]* //p' editors/vim/syntax/kp.vim)" "$keywords"
-same keywords textmate "$(sed -n 's/.*"\\\\b(\([a-z|]*\))\\\\b".*/\1/p' editors/kp.tmLanguage.json | tr '|' ' ')" "$keywords"
+same keywords textmate "$(sed -n 's/.*"\\\\b(\([a-z|]*\))\\\\b".*/\1/p' editors/vscode/kp.tmLanguage.json | tr '|' ' ')" "$keywords"
+same commands usage "$(sed -n 's/^  \([a-z]*\) .*/\1/p' kp)" "$commands"
 same rules kp.5 "$(sed -n 's/^\.It \(E[0-9]*\)$/\1/p' man/kp.5)" "$(sed -n '/^| rule | violated/,/^$/s/^| \(E[0-9]*\) .*/\1/p' "$language")"
 same rules kp.1 "$(sed -n 's/^\.It \([AV][0-9]*\)$/\1/p' man/kp.1)" \
     "$(sed -n '/^| rule | violated/,/^$/s/^| \([AV][0-9]*\) .*/\1/p' docs/VERILOG.md docs/DLX.md) V6"
@@ -157,5 +167,6 @@ for it in kp kpview kpcore; do bash -n completions/$it.bash; done > "$work/said"
 quiet completion bash "$work/said"
 if has zsh; then for it in kp kpview kpcore; do zsh -n completions/_$it; done > "$work/said" 2>&1; quiet completion zsh "$work/said"; fi
 if has fish; then for it in kp kpview kpcore; do fish --no-execute completions/$it.fish; done > "$work/said" 2>&1; quiet completion fish "$work/said"; fi
-if has python3; then python3 -m json.tool editors/kp.tmLanguage.json 2>&1 > /dev/null | cat > "$work/said"; quiet textmate python3 "$work/said"; fi
+if has python3; then for it in editors/vscode/*.json; do python3 -m json.tool "$it" 2>&1 > /dev/null; done > "$work/said"; quiet vscode python3 "$work/said"; fi
+if has shellcheck; then shellcheck -S error kp kpview kpcore try .ci/deb > "$work/said" 2>&1; quiet scripts shellcheck "$work/said"; fi
 summary

@@ -9,7 +9,7 @@ that no block follows isn't run.
 Each row of the rules in docs/LANGUAGE.md is an example too: the job at the top of the page with other lines, or a job of examples/. It has to be
 rejected as the row says.
 
-KP names another program than ./kp, and KPVIEW another than ./kpview. The last line is `N commands, M differ`, and the status is 0 where M is 0.
+KP names another program than ./kp, and KPVIEW another than ./kpview. Without them, and where the two aren't built, it is skipped. The last line is `N commands, M differ`, and the status is 0 where M is 0.
 """
 import os
 import re
@@ -141,5 +141,13 @@ def main(pages):
     return differ > 0
 
 
+def unbuilt():
+    """The programs of these two that neither the environment names nor this folder has."""
+    return [it for it in ("kp", "kpview") if it.upper() not in os.environ and not os.access(f"{TOP}/crates/{it}/out/{it}", os.X_OK)]
+
+
 if __name__ == "__main__":
+    if unbuilt():
+        print(f"not built: {', '.join(unbuilt())}")
+        sys.exit(77)
     sys.exit(main(sys.argv[1:] or ["README.md", "docs/TUTORIAL.md", "docs/LANGUAGE.md", "docs/COOKBOOK.md", "docs/KPVIEW.md"]))

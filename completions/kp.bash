@@ -22,7 +22,7 @@ _kp() {
     fi
     compopt +o default 2>/dev/null
     case $command:$count in
-        :0) COMPREPLY=($(compgen -W 'check seq sim pipe vcd timing debug read watch equiv asm gen' -- "$cur")) ;;
+        :0) COMPREPLY=($(compgen -W 'check seq sim pipe vcd timing debug read watch equiv asm gen --help --version' -- "$cur")) ;;
         seq:1 | sim:1 | vcd:1 | timing:1 | watch:1 | gen:2) COMPREPLY=($(compgen -W '10 100 1000 10000 100000' -- "$cur")) ;;
         gen:1) COMPREPLY=($(compgen -W '0 1 2 3 4 5 6 7 8 9' -- "$cur")) ;;
     esac

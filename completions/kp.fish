@@ -9,6 +9,8 @@ function __kp_argument -a place
 end
 
 complete -c kp -f
+complete -c kp -n '__kp_argument 1' -s h -l help -d 'Print the list of the commands'
+complete -c kp -n '__kp_argument 1' -s V -l version -d 'Print the version'
 complete -c kp -n '__kp_argument 1' -k -a gen -d 'Run N cycles of the generated job number G, and read no input'
 complete -c kp -n '__kp_argument 1' -k -a asm -d 'Assemble a DLX program to an image section'
 complete -c kp -n '__kp_argument 1' -k -a equiv -d 'Compare the two Verilog modules after the job, part by part'
