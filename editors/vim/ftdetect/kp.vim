@@ -1,1 +1,2 @@
-autocmd BufNewFile,BufRead *.kp setfiletype kp
+autocmd BufNewFile,BufRead *.kp,*.ports setfiletype kp
+autocmd BufNewFile,BufRead *.dlx setfiletype kpdlx

@@ -16,6 +16,12 @@ syntax match kpLiteral "\<\d\+'[oO][0-7][0-7_]*[0-9A-Za-z_']\@!"
 syntax match kpLiteral "\<\d\+'[dD]\d[0-9_]*[0-9A-Za-z_']\@!"
 syntax match kpLiteral "\<\d\+'[hH]\x[0-9A-Fa-f_]*[0-9A-Za-z_']\@!"
 
+" Lines for kpcore, after `end`
+syntax match kpPort "^\s*\%(show\|peek\|load\|probe\|next\|commit\)\ze\%(\s\|$\)"
+
+" A fold for each stage and each section
+syntax region kpBlock matchgroup=kpOperator start="{\ze\s*\%(//.*\)\?$" end="^\s*}" transparent fold
+
 syntax match kpOperator "[-+*&|^~?<>]\|==\|->"
 syntax match kpComment "//.*$" contains=kpTodo,@Spell
 syntax keyword kpTodo contained TODO FIXME XXX
@@ -25,6 +31,7 @@ highlight default link kpDeclaration Type
 highlight default link kpStatement Statement
 highlight default link kpClause Keyword
 highlight default link kpFunction Function
+highlight default link kpPort Keyword
 highlight default link kpNumber Number
 highlight default link kpLiteral Number
 highlight default link kpWrong Error
