@@ -15,7 +15,7 @@ programs = kp kpview kpcore
 lock     = out/build.lock
 
 # The scripts of checks/ that pass or fail.
-all_checks = names.py cited_lemmas.py isa.py riscv.sh version.sh manual.py editors.sh pictures.sh page.sh memory.sh verilog.sh waves.sh hardware.sh front.sh \
+all_checks = names.py cited_lemmas.py isa.py riscv.sh version.sh manual.py editors.sh pictures.sh page.sh memory.sh verilog.sh waves.sh hardware.sh front.sh labs.sh \
              dist.sh deb.sh build.sh edits.sh
 all_benches = asm seq sim watch synth nodes read hostile
 
