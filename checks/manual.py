@@ -4,7 +4,7 @@
 In README.md, TUTORIAL.md, LANGUAGE.md, COOKBOOK.md and KPVIEW.md, or in the given pages, it runs each command `./kp WORDS < examples/FILE`,
 `examples/with-program JOB PROGRAM | ./kp WORDS` and `./kpview WORDS examples/FILE`. A command has to print the indented block that follows it, or, where it is a line `$ ./kp ..` of a
 block, the rest of that block: the lines of the block are consecutive lines of the output, but where a line of dots is in place of others. A command
-that no block follows isn't run.
+that no block follows isn't run. `explain` prints to standard error.
 
 Each row of the rules in docs/LANGUAGE.md is an example too: the job at the top of the page with other lines, or a job of examples/. It has to be
 rejected as the row says.
@@ -25,7 +25,8 @@ ROW = re.compile(r"^\| (E\d+) \| [^|]* \| (.*) \| ([^|]*`refused (E\d+ \d+:\d+)`
 
 
 def run(words, text, program=KP):
-    ran = subprocess.run([program, *words], input=text, cwd=TOP if program == KPVIEW else None, stdout=subprocess.PIPE)
+    said = subprocess.STDOUT if words[0] == "explain" else None
+    ran = subprocess.run([program, *words], input=text, cwd=TOP if program == KPVIEW else None, stdout=subprocess.PIPE, stderr=said)
     return ran.stdout.decode().rstrip("\n").split("\n")
 
 
