@@ -4,7 +4,7 @@
 # make checks   the checks beside the gate: commands of the manual, other tools on the Verilog, refused memory, two builds of the programs ..; a line for each
 # make bench    the measurements of time and memory in benches/
 # make pictures draws the pictures of docs/pictures/ anew
-# make install  installs the built programs, manual pages, completions, editor files, documents and examples: PREFIX=/usr/local DESTDIR=
+# make install  installs the built programs, the scripts of tools/, manual pages, completions, editor files, documents and examples: PREFIX=/usr/local DESTDIR=
 # make uninstall  removes what make install put there, with the same PREFIX and DESTDIR
 # make dist     packs what would be installed: out/dist/kp-VERSION-linux-x86_64.tar.gz, and its sum in out/dist/SHA256SUMS
 # make deb      packs the same for Debian and its kin: out/deb/kp_VERSION_amd64.deb
@@ -12,11 +12,12 @@
 # make help     prints these lines
 
 programs = kp kpview kpcore
+scripts  = yosys2kp kpasm kpvary
 lock     = out/build.lock
 
 # The scripts of checks/ that pass or fail.
 all_checks = names.py cited_lemmas.py isa.py riscv.sh version.sh manual.py editors.sh pictures.sh page.sh memory.sh verilog.sh waves.sh hardware.sh front.sh labs.sh \
-             dist.sh deb.sh build.sh edits.sh
+             kpasm.py yosys2kp.py byhand.py dist.sh deb.sh build.sh edits.sh
 all_benches = asm seq sim watch synth nodes read hostile
 
 .PHONY: all $(programs) $(programs:%=built-%) check checks bench pictures install uninstall dist deb clean help
@@ -73,13 +74,13 @@ own     = libexec/kp share/doc/kp share/kp
 vim     = $(patsubst editors/vim/%,%,$(wildcard editors/vim/*/*.vim))
 vscode  = $(notdir $(wildcard editors/vscode/*))
 files   = share/man/man5/kp.5 $(foreach it,$(programs),bin/$(it) share/man/man1/$(it).1 share/bash-completion/completions/$(it) \
-          share/zsh/site-functions/_$(it) share/fish/vendor_completions.d/$(it).fish) $(addprefix share/vim/vimfiles/,$(vim))
+          share/zsh/site-functions/_$(it) share/fish/vendor_completions.d/$(it).fish) $(addprefix bin/,$(scripts)) $(addprefix share/vim/vimfiles/,$(vim))
 absolute = $(if $(filter /%,$(PREFIX)),,$(error PREFIX has to be an absolute path, and is `$(PREFIX)`))
 needs = $(absolute)$(foreach it,$(KP_BINARY) $(KPVIEW_BINARY) $(KPCORE_BINARY),$(if $(wildcard $(it)),,$(error $(it) isn't there: run make first, which builds it)))
-trees   = find docs examples \( -name out -o -name __pycache__ \) -prune -o -type f -print
+trees   = find docs examples tools \( -name out -o -name __pycache__ \) -prune -o -type f -print
 
 # bin/kp is the script kp of this folder, which runs the program libexec/kp/kp. share/kp has links to the programs, so that the commands of the documents run
-# there as they are printed.
+# there as they are printed, and bin/ links to the scripts of share/kp/tools.
 install:
 	$(needs)
 	@umask 022 && \
@@ -109,7 +110,8 @@ install:
 	done && \
 	ln -sf ../../bin/kp "$(root)/share/kp/kp" && \
 	ln -sf ../../bin/kpview "$(root)/share/kp/kpview" && \
-	ln -sf ../../bin/kpcore "$(root)/share/kp/kpcore"
+	ln -sf ../../bin/kpcore "$(root)/share/kp/kpcore" && \
+	for it in $(scripts); do ln -sf ../share/kp/tools/$$it "$(root)/bin/$$it" || exit 1; done
 
 # Folders that others use too are removed below DESTDIR alone, where they are empty.
 uninstall:

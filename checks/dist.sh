@@ -68,7 +68,7 @@ quiet again make "$work/made"
     cmp "$kpcore" "$at/bin/kpcore"
     cmp "$kpcore" "$at/share/kp/kpcore"
     for it in $(git ls-files docs 2> /dev/null || find docs -type f); do cmp "$it" "$at/share/doc/kp/$it"; done
-    for it in $(git ls-files examples 2> /dev/null || find examples -type f); do
+    for it in $(git ls-files examples tools 2> /dev/null || find examples tools -type f); do
         cmp "$it" "$at/share/kp/$it"
         [ -x "$it" ] && ! [ -x "$at/share/kp/$it" ] && echo "$it can't be executed"
     done
@@ -86,6 +86,10 @@ quiet again make "$work/made"
     for it in kp kpview kpcore; do
         grep -q /opt/some/share "$at/share/man/man1/$it.1" || echo "$it.1 doesn't name the prefix"
     done
+    for it in yosys2kp kpasm kpvary; do
+        "$at/bin/$it" --help < /dev/null | grep -q "^usage: $it " || echo "$it doesn't run where it is installed"
+    done
+    find "$root" -name __pycache__
     find "$root" -type d ! -perm 755 -o -type f ! -perm 644 ! -perm 755
     find "$at/bin" "$at/libexec" -type f ! -perm 755
     [ "$("$at/bin/kp" --version)" = "kp $(cat VERSION)" ] || echo "bin/kp --version prints another version"
