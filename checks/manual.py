@@ -74,7 +74,8 @@ def output_after(blocks, at):
     """The first block of output after this place, before the next command."""
     for it in blocks[at + 1 :]:
         if isinstance(it, list):
-            return None if "./" in it[0] or it[0].startswith("examples/") else it
+            is_message = re.match(r"examples/\S+:\d+:\d+: ", it[0])
+            return None if "./" in it[0] or it[0].startswith("examples/") and not is_message else it
         if COMMAND.search(it) or it.startswith("#"):
             return None
     return None
