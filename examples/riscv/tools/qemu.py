@@ -14,6 +14,8 @@ GCC, NM, QEMU = 'riscv64-unknown-elf-gcc', 'riscv64-unknown-elf-nm', 'qemu-riscv
 FLAGS = ('-O2 -mabi=ilp32 -ffreestanding -fno-builtin -nostdlib -Wall -Wextra '
          '-Wl,--no-warn-rwx-segments -Wl,--defsym=STACK=1024').split()
 C_PROGRAMS = 'sort crc sieve matrix string fib divide interp kernels digits'.split()
+MOST_INSTRUCTIONS = 100_000        # of `kp seq`
+LONGEST_TRACE = 14 << 20           # bytes of QEMU's trace of as many instructions, and some more
 STORED = ({name: [f'{name}.c'] for name in C_PROGRAMS} | {f'{name}.m': [f'{name}.c'] for name in ('matrix', 'digits')}
           | {'each': ['7', '--size', '3'], 'each.m': ['8', '--size', '3', '--m']})
 
@@ -56,9 +58,9 @@ def registers(program, stop, work):
 
 
 def trace(program, stop, work):
-    """The addresses of the instructions up to the stop, which is the last."""
+    """The addresses of the instructions up to the stop, which is the last. A run that is far longer than MOST_INSTRUCTIONS fails."""
     log = f'{work}/log'
-    output([QEMU, one_by_one(), '-d', 'exec,nochain', '-D', log, program], timeout=60)
+    output(['prlimit', f'--fsize={LONGEST_TRACE}', QEMU, one_by_one(), '-d', 'exec,nochain', '-D', log, program], timeout=60)
     with open(log, encoding='ascii') as it:
         steps = [int(re.match(r'[^[]*\[\w+/(\w+)/', line)[1], 16) for line in it if line.startswith('Trace')]
     assert steps.count(stop) == 1

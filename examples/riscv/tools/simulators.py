@@ -34,12 +34,13 @@ def agrees(program, pc, work):
     return found == execution.values(program.expected)
 
 
-def simulate(tool, command, program, work):
-    """(whether the run agrees, a line of text)."""
-    printed, seconds = execution.run([*command, f'+wanted={program.instructions}'], cwd=work, stderr=subprocess.DEVNULL)
+def simulate(tool, command, program, work, seed=None):
+    """(whether the run agrees, a line of text). With a seed the stages are stalled at random."""
+    stalls = [] if seed is None else [f'+seed={seed}']
+    printed, seconds = execution.run([*command, f'+wanted={program.instructions}', *stalls], cwd=work, stderr=subprocess.DEVNULL)
     cycles, pc = re.search(r'^cycles (\d+) PC (\S+)', printed, re.M).groups()
     same = agrees(program, pc, work)
-    return same, f"{tool} {'same' if same else 'DIFFERENT'}, {cycles} cycles, {seconds:.2f} s"
+    return same, f"{tool} {'same' if same else 'DIFFERENT'}, {cycles} cycles{' with random stalls' * bool(stalls)}, {seconds:.2f} s"
 
 
 def missing(tool):
@@ -56,12 +57,12 @@ class Icarus:
     def __init__(self, machine, work):
         self.machine, self.work = machine, work
 
-    def run(self, program):
+    def run(self, program, seed=None):
         job = execution.machine_text(self.machine).rpartition('end')[0] + program.image + 'end\n'
         write(f'{self.work}/p.v', execution.run([execution.kp(), 'pipe'], job)[0])
         execution.run(['iverilog', '-g2005', f'-DTOP=m_{self.machine}', f'-DSTAGES={execution.MACHINES[self.machine]}', '-DCLOCK',
                        '-o', f'{self.work}/vvp', f'{VERILOG}/bench.v', f'{self.work}/p.v'])
-        return simulate('icarus', ['vvp', '-n', f'{self.work}/vvp'], program, self.work)
+        return simulate('icarus', ['vvp', '-n', f'{self.work}/vvp'], program, self.work, seed)
 
 
 class Verilator:
@@ -74,10 +75,10 @@ class Verilator:
                        '--Mdir', f'{work}/obj', f'-DTOP=m_{machine}', f'-DSTAGES={execution.MACHINES[machine]}',
                        f'{VERILOG}/bench.v', f'{work}/m.v', f'{VERILOG}/bench.cpp'], stderr=subprocess.DEVNULL)
 
-    def run(self, program):
+    def run(self, program, seed=None):
         write_hex(f'{self.work}/im.hex', execution.words(program.image, 'IM'))
         write_hex(f'{self.work}/dm.hex', execution.words(program.image, 'DM'))
-        return simulate('verilator', [f'{self.work}/obj/Vbench', '+load'], program, self.work)
+        return simulate('verilator', [f'{self.work}/obj/Vbench', '+load'], program, self.work, seed)
 
 
 class Outside:
