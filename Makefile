@@ -2,7 +2,7 @@
 # make kp       the first alone, crates/kp/out/kp; make kpview and make kpcore the others, crates/kpview/out/kpview and crates/kpcore/out/kpcore
 # make check    the gate: all proofs, the edits that proofs must reject, and all stored runs, as .ci/run does
 # make checks   the checks beside the gate: commands of the manual, other tools on the Verilog, refused memory, two builds of the programs ..; a line for each
-# make bench    the measurements of time and memory in benches/
+# make bench    the measurements of time and memory in benches/, in a table; OLD=PROGRAM names the program kp of another version, to compare with
 # make pictures draws the pictures of docs/pictures/ anew
 # make install  installs the built programs, the scripts of tools/, manual pages, completions, editor files, documents and examples: PREFIX=/usr/local DESTDIR=
 # make uninstall  removes what make install put there, with the same PREFIX and DESTDIR
@@ -17,8 +17,7 @@ lock     = out/build.lock
 
 # The scripts of checks/ that pass or fail.
 all_checks = names.py cited_lemmas.py isa.py riscv.sh version.sh manual.py editors.sh pictures.sh page.sh memory.sh verilog.sh waves.sh hardware.sh front.sh labs.sh \
-             kpasm.py yosys2kp.py byhand.py dist.sh deb.sh build.sh edits.sh
-all_benches = asm seq sim watch synth nodes read hostile
+             explain.py kpasm.py yosys2kp.py byhand.py formal.py torture.sh dist.sh deb.sh build.sh edits.sh
 
 .PHONY: all $(programs) $(programs:%=built-%) check checks bench pictures install uninstall dist deb clean help
 
@@ -51,7 +50,7 @@ checks: $(if $(KP),,kp) $(if $(KPVIEW),,kpview) $(if $(KPCORE),,kpcore)
 	@checks/each $(all_checks)
 
 bench: $(if $(KP),,kp)
-	@for it in $(all_benches); do echo "== $$it"; sh benches/$$it.sh || exit 1; done
+	@python3 benches/table.py
 
 # KPVIEW names another program than the one that is built here.
 pictures: $(if $(KPVIEW),,kpview)
