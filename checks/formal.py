@@ -11,7 +11,7 @@ A proof says nothing where the compared circuit is empty, or a property is missi
 within 10 cycles.
 
 Needs Yosys. KP and KPCORE name other programs than ./kp and ./kpcore; without kpcore mini5 is left out. The last line is `N checked, M wrong`, and the status is 0 where
-M is 0, and 77 without Yosys."""
+M is 0, and 77 where nothing could be checked."""
 import os
 import re
 import shutil
@@ -140,7 +140,7 @@ def main(names):
                 checked, wrong = checked + 1, wrong + (found != wanted)
                 print(f"{name:6} {what:44} {'WRONG ' * (found != wanted)}{found}", flush=True)
     print(f'{checked} checked, {wrong} wrong{missing}')
-    return 1 if wrong else 0
+    return 1 if wrong else 0 if checked else 77
 
 
 sys.exit(main(sys.argv[1:]))
