@@ -1,9 +1,9 @@
 #!/usr/bin/env python3
 """Which names of the pages aren't in the sources: python3 checks/names.py [PAGE ..]
 
-Looks in docs/PROVED.md, docs/PROOFS.md, docs/BELIEVE.md, docs/ARCHITECTURE.md, docs/CHANGING.md, docs/DECISIONS.md and docs/PARSING.md, or in
+Looks in docs/PROVED.md, docs/PROOFS.md, docs/BELIEVE.md, docs/ARCHITECTURE.md, docs/CHANGING.md, docs/DECISIONS.md, docs/PARSING.md and docs/BYPASS.md, or in
 the given pages, at each name of a crate, and at each identifier, lemma (`File.lemma`), path and edit that must fail in backticks. Prints those
-that no source has, with their lines; the status is 0 where there are none. Names with placeholders, as `r_R` or `f_F`, are left out.
+that no source has, with their lines; the status is 0 where there are none. Names with placeholders, as `r_R` or `f_F`, and wires, as `n26`, are left out.
 """
 import os
 import re
@@ -11,10 +11,10 @@ import sys
 from itertools import chain
 
 TOP = os.path.dirname(os.path.dirname(os.path.abspath(__file__)))
-PAGES = [f"docs/{it}.md" for it in ("PROVED", "PROOFS", "BELIEVE", "ARCHITECTURE", "CHANGING", "DECISIONS", "PARSING")]
+PAGES = [f"docs/{it}.md" for it in ("PROVED", "PROOFS", "BELIEVE", "ARCHITECTURE", "CHANGING", "DECISIONS", "PARSING", "BYPASS")]
 NAME = re.compile(r"[A-Za-z_][\w'-]*(?:(?:\.|::)[A-Za-z_][\w'-]*)*")
 WORD = re.compile(r"[A-Za-z_](?:[\w'-]*\w'*)?")
-FREE = re.compile(r"[rfsq]_\w|kp_\w+_|File|lemma|X|antt|decreases-loop-x")
+FREE = re.compile(r"[rfsq]_\w|n\d+|kp_\w+_|File|lemma|X|antt|decreases-loop-x")
 
 
 def sources():
