@@ -1,21 +1,32 @@
 #!/usr/bin/env python3
-"""Which definitions a statement reaches: python3 checks/reach.py [CRATE.specs.FILE.NAME ..]
+"""Which definitions a statement reaches.
 
-Goes from the given definitions (or those of the headline) to all definitions of specs/ that they name, directly or through others, and
-prints for each file how many of its lines these have, without comments and blank lines, and their names. docs/BELIEVE.md is checked
-against it. Definitions are found by their layout: a definition begins at the left edge, and its names come in by `use` lines.
+    python3 checks/reach.py                    compares docs/BELIEVE.md with the sources
+    python3 checks/reach.py --write            writes the numbers of lines into docs/BELIEVE.md
+    python3 checks/reach.py --list [ROOT ..]   the definitions of specs/ that the roots name, directly or through others: for each file how many
+                                               of its lines these have, without comments and blank lines, and their names
+
+A root is a definition, as kp_tool.specs.Headline.IsMoving, or clauses of a function, as kp_tool/tool:pipe_is_legal,pipe_moves (all clauses without
+names after the colon); without roots it is those of the headline. On the page a comment `<!-- reach: ROOT .. -->` has the roots of the rows up
+to the next one; `partly:` before them says that other rows have what else they reach. The number in a row is the lines of those definitions in
+its files that the roots reach and the roots of earlier rows don't. A definition begins at the left edge, and its names come in by `use` lines; an operator is found by its symbol.
 """
 import os
 import re
 import sys
 
 TOP = os.path.dirname(os.path.dirname(os.path.abspath(__file__)))
-HEADLINE = [f"kp_tool.specs.Headline.{it}" for it in ("IsVerilogWith", "IsRunWith", "IsMoving", "HasNoNeedlessStall", "HasNoNeedlessStallFrom")] + ["kp_sched.specs.Runs.IsLegal", "kp_implements.specs.Legal.IsLegalFrom"]
+PAGE = f"{TOP}/docs/BELIEVE.md"
+HEADLINE = ["kp_tool/tool:pipe_is_legal,pipe_moves,pipe_has_no_needless_stall,sim_is_legal,sim_moves,sim_has_no_needless_stall"]
 GROUP = re.compile(r"\buse (Rattle\.[^\s{]+?)\.\{([^}]*)\}")
 USE = re.compile(r"^use Rattle\.([^\s{]+?)(?:\.\{([^}]*)\})?(?: as (\S+))?$", re.M)
 FIELD = re.compile(r"^ +(?:pub )?\S+ :(?= )")
 HEAD = re.compile(r"^(?:abbrev |unfoldable )?(?:pub )?(?:(?:record|data) (\S+)|(\S+) :(?= ))")
-NAME = re.compile(r"[A-Za-z_][\w'\-]*(?:\.\w+)?")
+NAME = re.compile(r"[A-Za-z_][\w'\-]*(?:\.\w+)?|[^\s\w(){}\[\],;.'\"◌]+")
+CLAUSE = re.compile(r"^\s*(?:requires|ensures)\s*(\w*)\s*\{", re.M)
+REACH = re.compile(r"<!-- reach: (.*?) -->")
+ROW = re.compile(r"^\| (.*?) \| ([\d,]+) \| ")
+FILES = re.compile(r"(kp_\w+)|`(\w+)`")
 
 
 def spread(text):
@@ -41,18 +52,19 @@ class File:
             if names:
                 for name in names.split(","):
                     before, _, after = name.strip().partition(" as ")
-                    self.names[after or before] = (path, before)
+                    self.names[(after or before).strip("◌")] = (path, before.strip("◌"))
             elif alias:
                 self.modules[alias] = path
         current = None
         for line in USE.sub("", text).split("\n"):
             line = re.sub(r"\s*--.*", "", line)
-            if not line:
+            if not line or line.startswith("infix"):
                 continue
             if not line.startswith(" "):
                 head = HEAD.match(line)
-                first = line.removeprefix("pub ").split()[0]
-                current = (head and (head[1] or head[2])) or (first if first in self.definitions else current)
+                words = line.removeprefix("pub ").split()
+                known = next((it for it in words[:2] if it in self.definitions), None)
+                current = (head[1] or head[2]).strip("◌") if head else known or current
             if current:
                 self.definitions.setdefault(current, []).append(line)
 
@@ -71,7 +83,7 @@ def files():
 
 
 def named_in(file, module, lines):
-    """The definitions, of this module or of others, whose names stand in the lines."""
+    """The definitions, of this module or of others, whose names occur in the lines."""
     for name in (it for line in lines for it in NAME.findall(FIELD.sub("", line))):
         first, _, second = name.partition(".")
         if first in file.definitions:
@@ -82,8 +94,46 @@ def named_in(file, module, lines):
             yield file.modules[first], second
 
 
-def reached(found, starts):
-    seen, left = [], list(starts)
+def closing(text, at):
+    """The position after the brace that closes the one before `at`."""
+    depth = 1
+    while depth:
+        depth += {"{": 1, "}": -1}.get(text[at], 0)
+        at += 1
+    return at
+
+
+def clauses(crate, function, wanted):
+    """The definitions that the clauses of a function name."""
+    for folder, _, names in os.walk(f"{TOP}/crates/{crate}/src"):
+        for name in names:
+            with open(os.path.join(folder, name), encoding="utf-8") as it:
+                text = re.sub(r"//.*", "", it.read())
+            start = re.search(rf"\bfn {function}\b", text)
+            if not start:
+                continue
+            until = re.compile(r"^\{|^    \{", re.M).search(text, start.end())
+            head = text[start.start() : until.start() if until else len(text)]
+            imports = File(spread("\n".join(it.removeprefix("ghost ").rstrip(";") for it in text.split("\n") if it.startswith("ghost use"))))
+            for clause in CLAUSE.finditer(head):
+                if not wanted or clause[1] in wanted:
+                    yield from named_in(imports, "", [head[clause.end() : closing(head, clause.end())]])
+            return
+    sys.exit(f"reach: {crate} has no function {function}")
+
+
+def starts(roots):
+    for root in roots:
+        crate, slash, rest = root.partition("/")
+        if slash:
+            function, _, names = rest.partition(":")
+            yield from clauses(crate, function, [it for it in names.split(",") if it])
+        else:
+            yield tuple(root.rsplit(".", 1))
+
+
+def reached(found, roots):
+    seen, left = [], list(starts(roots))
     while left:
         module, name = left.pop(0)
         if (module, name) in seen or module not in found or name not in found[module].definitions:
@@ -93,11 +143,67 @@ def reached(found, starts):
     return seen
 
 
+def modules_of(cell):
+    """The files that a row of the page names: `kp_tool `Headline`, `Due`` is two."""
+    crate, modules = "", []
+    for word, file in FILES.findall(cell):
+        crate = word or crate
+        modules += [f"{crate}.specs.{file}"] if file else []
+    return modules
+
+
+def page(found, write):
+    """Compares the rows of the page with the sources, and returns its text with the right numbers."""
+    with open(PAGE, encoding="utf-8") as it:
+        lines = it.read().split("\n")
+    wrong, before, here, part, rows, partly = [], set(), [], "", {}, False
+
+    def end_part():
+        counted = {module for _, modules, _ in rows.values() for module in modules}
+        for module in sorted({it for it, _ in here if it not in counted and not partly}):
+            names = " ".join(sorted(name for it, name in here if it == module))
+            wrong.append(f"{part}: {module.replace('.specs.', ' ')} is in no row: {names}")
+        before.update(it for it in here if not partly or it[0] in counted)
+        for number, (cell, modules, said) in rows.items():
+            size = sum(len(found[it].definitions[name]) for it, name in here if it in modules)
+            twin = [it for it in rows if it != number and set(rows[it][1]) & set(modules)]
+            said_by_all = said + sum(rows[it][2] for it in twin)
+            for module in modules:
+                if module not in found:
+                    wrong.append(f"{part}: there is no {module.replace('.specs.', ' ')}")
+            if size != said_by_all:
+                wrong.append(f"{part}: {cell}: {said_by_all} lines in the page, {size} in the sources")
+                if not twin:
+                    lines[number] = lines[number].replace(f"| {said} |", f"| {size} |", 1)
+
+    for number, line in enumerate(lines):
+        if REACH.match(line):
+            if rows:
+                end_part()
+            part, rows = next(it[3:] for it in reversed(lines[:number]) if it.startswith("## ")), {}
+            roots = REACH.match(line)[1].split()
+            partly = roots[0] == "partly:"
+            here = [it for it in reached(found, roots[partly:]) if it not in before]
+        elif ROW.match(line):
+            row = ROW.match(line)
+            rows[number] = (row[1], modules_of(row[1]), int(row[2].replace(",", "")))
+    if rows:
+        end_part()
+    if write:
+        with open(PAGE, "w", encoding="utf-8") as it:
+            it.write("\n".join(lines))
+    return wrong
+
+
 def main():
     found = files()
+    if sys.argv[1:2] != ["--list"]:
+        wrong = page(found, sys.argv[1:] == ["--write"])
+        print("\n".join([*wrong, f"{len(wrong)} differences between docs/BELIEVE.md and the sources"]))
+        sys.exit(bool(wrong))
     with open(f"{TOP}/crates.txt", encoding="utf-8") as it:
         order = [line.split(":")[0].split()[0] for line in it if line.strip() and not line.startswith("#")]
-    seen = reached(found, [tuple(it.rsplit(".", 1)) for it in sys.argv[1:] or HEADLINE])
+    seen = reached(found, sys.argv[2:] or HEADLINE)
     total = 0
     for module in sorted({module for module, _ in seen}, key=lambda it: (order.index(it.split(".")[0]), it)):
         names = sorted(name for it, name in seen if it == module)
