@@ -2,7 +2,7 @@
 """docs/PROVED.md, which is made from the sources: python3 checks/proved.py compares it with them, python3 checks/proved.py --write writes it.
 
 For each crate, in the order of crates.txt but the top calls first: the first paragraph of its `//!` comment, the clauses of its top call with the comments
-above them, and its laws: the public functions that do nothing, whose contracts state a theorem, with their comments.
+above them, and its laws: the public functions that return and change nothing, whose contracts state a theorem, with their comments.
 """
 import os
 import re
@@ -16,7 +16,7 @@ HEAD = """# What is proved, crate by crate
 
 This page is made from the comments of the sources, by `python3 checks/proved.py --write`. `README.md` has the main promises, and `BELIEVE.md` the
 definitions that one has to read to believe them. A promise is a clause of the contract of a public call. First the top calls of the programs, clause
-by clause; then the crates, lowest first, with their laws: a law is a public function that does nothing, whose contract states the theorem.
+by clause; then the crates, lowest first, with their laws: a law is a public function that returns and changes nothing, whose contract states the theorem.
 Every other public function has a contract too, beside its code. Every function is also proved to return, with no index out of bounds, no overflow and
 no failed `unwrap`.
 
@@ -93,9 +93,10 @@ def clauses(text, at):
 def laws(crate):
     for name, text in files_of(crate):
         for found in FUNCTION.finditer(text):
-            body = re.compile(r"^\{.*$", re.M).search(text, found.end())
+            signature = re.compile(r"^    (?:requires|ensures)\b|^\{", re.M).split(text[found.end() :], maxsplit=1)[0]
             comment = sentence(comment_above(text, found.start()))
-            if comment and body and body[0] == "{}":
+            states = text[found.end() + len(signature) :].startswith(("    requires", "    ensures"))
+            if comment and states and "->" not in signature and "&mut" not in signature:
                 yield f"- `{found[1]}`: {comment}"
 
 
