@@ -15,4 +15,5 @@ mod token;
 mod words;
 
 pub use image::image_text;
+pub use mnemonic::{Mnemonic, Piece};
 pub use words::assemble;

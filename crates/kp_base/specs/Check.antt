@@ -9,58 +9,58 @@ use Rattle.kp_base.specs.declared.refusal.Refused.TheVariants.{Rule, NoMemory}
 abbrev pub Answer : Type 0
 Answer = Option Refusal
 
--- the outcome that follows if no rule is violated, or the violated rule
-abbrev pub after : {X : Type 0} → Answer → Result X Refusal → Result X Refusal
+-- the outcome that follows if no rule is violated, or what was found
+abbrev pub after : {F X : Type 0} → Option F → Result X F → Result X F
 after None next = next
-after (Some refusal) next = Err refusal
+after (Some finding) next = Err finding
 
 -- a step, and then the step computed from its value
-abbrev pub bind : {X Y : Type 0} → Result X Refusal → (X → Result Y Refusal) → Result Y Refusal
+abbrev pub bind : {F X Y : Type 0} → Result X F → (X → Result Y F) → Result Y F
 bind (Ok x) next = next x
-bind (Err refusal) next = Err refusal
+bind (Err finding) next = Err finding
 
--- `asked` has the answers in order, `value` is the result if none of them is a violated rule (later answers after a
+-- `F` says what is found: a violated rule, or a finding with its facts. `asked` has the answers in order, `value` is the result if none of them is a violated rule (later answers after a
 -- violated rule don't matter), and `found` is the outcome step by step
-pub record Check (X : Type 0) : Type 0 where
+pub record Check (F X : Type 0) : Type 0 where
   pub value : X
-  pub asked : List Answer
-  pub found : Result X Refusal
+  pub asked : List (Option F)
+  pub found : Result X F
   pub same : found ≡ after (first asked) (Ok value)
 
 -- no question
-abbrev pub ok : {X : Type 0} → X → Check X
+abbrev pub ok : {F X : Type 0} → X → Check F X
 ok x = record { value = x; asked = []; found = Ok x; same = refl }
 
 -- the rule is violated if the test fails
-abbrev pub answer : Bool → Refusal → Answer
-answer holds refusal = if holds then None else Some refusal
+abbrev pub answer : {F : Type 0} → Bool → F → Option F
+answer holds finding = if holds then None else Some finding
 
-abbrev pub unless : {X : Type 0} → Bool → Refusal → Result X Refusal → Result X Refusal
-unless holds refusal next = if holds then next else Err refusal
+abbrev pub unless : {F X : Type 0} → Bool → F → Result X F → Result X F
+unless holds finding next = if holds then next else Err finding
 
-pub unless_same : {X : Type 0} (holds : Bool) (refusal : Refusal) (c : Check X) → unless holds refusal c.found ≡ after (first (answer holds refusal ∷ c.asked)) (Ok c.value)
-unless_same true refusal c = c.same
-unless_same false refusal c = refl
+pub unless_same : {F X : Type 0} (holds : Bool) (finding : F) (c : Check F X) → unless holds finding c.found ≡ after (first (answer holds finding ∷ c.asked)) (Ok c.value)
+unless_same true finding c = c.same
+unless_same false finding c = refl
 
 -- a rule that must hold, and the check that follows
-abbrev pub wants : {X : Type 0} → Bool → Refusal → Check X → Check X
-wants holds refusal c = record {
+abbrev pub wants : {F X : Type 0} → Bool → F → Check F X → Check F X
+wants holds finding c = record {
   value = c.value;
-  asked = answer holds refusal ∷ c.asked;
-  found = unless holds refusal c.found;
-  same = unless_same holds refusal c;
+  asked = answer holds finding ∷ c.asked;
+  found = unless holds finding c.found;
+  same = unless_same holds finding c;
 }
 
-after_append : {X : Type 0} (xs ys : List Answer) (next : Result X Refusal) → after (first (xs ++ ys)) next ≡ after (first xs) (after (first ys) next)
+after_append : {F X : Type 0} (xs ys : List (Option F)) (next : Result X F) → after (first (xs ++ ys)) next ≡ after (first xs) (after (first ys) next)
 after_append [] ys next = refl
 after_append (None ∷ xs) ys next = after_append xs ys next
-after_append (Some refusal ∷ xs) ys next = refl
+after_append (Some finding ∷ xs) ys next = refl
 
-bind_after : {X Y : Type 0} (broken : Answer) (x : X) (next : X → Result Y Refusal) → bind (after broken (Ok x)) next ≡ after broken (next x)
+bind_after : {F X Y : Type 0} (broken : Option F) (x : X) (next : X → Result Y F) → bind (after broken (Ok x)) next ≡ after broken (next x)
 bind_after None x next = refl
-bind_after (Some refusal) x next = refl
+bind_after (Some finding) x next = refl
 
-pub bind_same : {X Y : Type 0} (c : Check X) (next : X → Check Y) → bind c.found (λ x. (next x).found) ≡ after (first (c.asked ++ (next c.value).asked)) (Ok (next c.value).value)
+pub bind_same : {F X Y : Type 0} (c : Check F X) (next : X → Check F Y) → bind c.found (λ x. (next x).found) ≡ after (first (c.asked ++ (next c.value).asked)) (Ok (next c.value).value)
 bind_same c next =
     ap (λ r. bind r (λ x. (next x).found)) c.same
     ∙ bind_after (first c.asked) c.value (λ x. (next x).found)
@@ -69,7 +69,7 @@ bind_same c next =
 
 -- a check, and then one computed from its value: the questions of the first come before those of the second
 infixl 10 ◌>>=◌
-abbrev pub ◌>>=◌ : {X Y : Type 0} → Check X → (X → Check Y) → Check Y
+abbrev pub ◌>>=◌ : {F X Y : Type 0} → Check F X → (X → Check F Y) → Check F Y
 c >>= next = record {
   value = (next c.value).value;
   asked = c.asked ++ (next c.value).asked;

@@ -4,6 +4,7 @@ pub mod Lines
 pub mod Refusal
 pub mod First
 pub mod Check
+pub mod Findings
 pub mod Causes
 pub mod Bytes
 pub mod Memory

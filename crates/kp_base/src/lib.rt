@@ -2,6 +2,7 @@
 #![tactic(auto)]
 
 mod characters;
+mod finding;
 pub mod laws;
 mod list;
 mod memory;
@@ -15,6 +16,7 @@ mod standard;
 mod writer;
 
 pub use characters::{is_digit, is_letter, is_word, run_length, word_length};
+pub use finding::{Finding, Findings};
 pub use list::List;
 pub use memory::{MemSink, MemSource};
 pub use outside::{Failed, NoMemory, Sink, Source};

@@ -2,7 +2,7 @@
 use Rattle.std.proofs.Common.{◌≡◌, ℕ, List, Option, Result, None, Ok, Err, refl, arith}
 use Rattle.kp_ast.specs.declared.tree.Job.{Job}
 use Rattle.kp_stage.proofs.Unbroken.{first_none}
-use Rattle.kp_width.{specs.Widths.widths_of, proofs.Unbroken.Unbroken}
+use Rattle.kp_width.{specs.Widths.widths_of, proofs.Unbroken.Unbroken, proofs.Listed.unbroken_widths}
 use Rattle.kp_pipeline.specs.{Pipeline.Inputs, Rows.Trace}
 use Rattle.kp_net.specs.Netlist.{Net, Input, State}
 use Rattle.kp_implements.specs.{Shows.Shows, Anew.trace_from, Anew.BeginsAnew, Traces.inputs_seen, Traces.AreQuiet}
@@ -17,7 +17,7 @@ use Rattle.kp_core.proofs.Beginning.{along, shown_along}
 
 names_kept : (job : Job) → broken_in job ≡ None → Unbroken (widths_of job)
 unfolding broken_in
-names_kept job none = (first_none _ _ none).0
+names_kept job none = unbroken_widths job (first_none _ _ none).0
 
 module _ (head : List ℕ) (base : Job) (Ready : (ℕ → ℕ → ℕ) → Type 0) (Follows : (ℕ → ℕ → ℕ) → Trace → Type 0) (p : IsProcessor head base Ready Follows)
     (input text : List ℕ) (is : IsWith head input) where

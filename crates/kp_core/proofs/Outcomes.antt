@@ -1,26 +1,14 @@
 -- From the verdicts of the readers to what is specified.
-use Rattle.std.proofs.Common.{◌≡◌, ◌≤◌, ◌∙◌, ℕ, List, [], length, None, Some, Err, false, ap, sym, subst, inl, inr, refl, arith}
-use Rattle.std.specs.{declared.option.Option.Option, declared.result.Result.Result, Io.KnownBytes.Consumes, Io.KnownBytes.IsAtEnd}
-use Rattle.kp_base.specs.declared.refusal.Refusal.{Refusal}
+use Rattle.std.proofs.Common.{◌≡◌, ◌≤◌, ◌∙◌, ℕ, List, [], length, None, Some, Err, ap, sym, subst, inl, inr, refl, arith}
+use Rattle.std.specs.{declared.option.Option.Option, Io.KnownBytes.Consumes, Io.KnownBytes.IsAtEnd}
 use Rattle.kp_ast.specs.declared.tree.Job.{Job}
 use Rattle.kp_net.specs.Netlist.{Net}
 use Rattle.kp_synth_tables.specs.Keys.{keys_of}
 use Rattle.kp_synth.specs.Carrying.{Carries}
-use Rattle.kp_frontend.specs.Judging.{JudgesHead, JudgesHeadText, most_bytes, too_long, JudgesHead.head_over, JudgesHead.head_within}
+use Rattle.kp_frontend.specs.Judging.{too_long, JudgesHead.head_over, JudgesHead.head_within}
 use Rattle.kp_view_texts.specs.Heads.{rule_head}
-use Rattle.kp_view_explain.specs.Explaining.{ExplainsText, Says, in_script}
-use Rattle.kp_view_explain.specs.declared.words.Subject.TheVariants as subjects
 use Rattle.kp_core.specs.{Messages.BeginsWith, Messages.file_name, Words.Asked, Words.help, Words.write, declared.texts.TheConstants.HELP}
 use Rattle.kp_core.specs.{declared.request.Form.Form, Due.DueOfHead, Due.DueOfVerdict, Due.IsDue}
-
--- a job that violates a rule: the head of an input has one verdict, so the explanation names that rule
-pub explained : (one : (input : List ℕ) (a b : Result (Job × ℕ) Refusal) → JudgesHead input a → JudgesHead input b → a ≡ b)
-    (form : Form) (file text : List ℕ) (refusal : Refusal) (status : ℕ) (said : List ℕ) → length text ≤ most_bytes → JudgesHeadText text (Err refusal)
-    → ExplainsText subjects.Debugged false file text status said → DueOfHead form file text status said
-explained one form file text refusal status said short judged (found, (verdict, judges, is), says) =
-    let same : verdict ≡ Err refusal = one text verdict (Err refusal) (head_within short judges) (head_within short judged) in
-    let known : found ≡ Some refusal = is ∙ ap (in_script text) same in
-    (Err refusal, judged, subst (λ (f : Option Refusal). Says subjects.Debugged false file f status said) known says)
 
 -- a netlist whose registers hold the state of the pipeline has one for each key of the job
 pub all_registers : (net : Net) (job other : Job) → Carries net job → other ≡ job → length net.parts.regs ≡ length (keys_of other)

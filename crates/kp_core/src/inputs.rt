@@ -3,18 +3,17 @@ ghost use Rattle.std.specs.Prelude.{◌≡◌, ◌≤◌, length, Err, IfOk};
 ghost use Rattle.kp_frontend.specs.Judging.{most_bytes, JudgesHeadText};
 ghost use Rattle.kp_core_ports.specs.Ports.{ports_of, AllExist};
 ghost use Rattle.kp_core.specs.Due.{DueOfHead, DueOfLines, IsCoreOf};
-ghost use Rattle.kp_base.specs.declared.refusal.Refusal.{Refusal};
-ghost use Rattle.kp_core.specs.Answers.{text_said};
+ghost use Rattle.kp_core.specs.{Answers.text_said, Messages.BeginsWith};
+ghost use Rattle.kp_view_texts.specs.Heads.{rule_head};
 
 use crate::answer::{Answer, Said};
 use crate::{Form, message_of};
-use kp_base::{NoMemory, Refused};
+use kp_base::{NoMemory, Refusal, Refused};
 use kp_core_ports::{Port, PortsRefused, core_text, names_text, read_ports};
-use kp_frontend::laws::a_head_has_one_verdict;
 use kp_frontend::{Accepted, Head, judge_head};
 use kp_synth::synth;
 use kp_synth_tables::Layout;
-use kp_view_explain::{Explanation, Subject, explain};
+use kp_view_explain::{Explanation, explain_head};
 use kp_vlog::round_trip::a_canonical_text_denotes_its_netlist;
 use std::alloc::Global;
 
@@ -30,19 +29,19 @@ pub fn of_input(alloc: Global, form: Form, file: &[u8], text: &[u8]) -> Result<A
             drop(head);
             Ok(answer)
         }
-        Err(Refused::Rule(_)) => explained(alloc, form, file, text),
+        Err(Refused::Rule(refusal)) => Ok(explained(alloc, file, text, refusal)?),
         Err(Refused::NoMemory) => Err(NoMemory),
     }
 }
 
-// The same for a job that violates a rule.
-fn explained(alloc: Global, form: Form, file: &[u8], text: &[u8]) -> Result<Answer, NoMemory>
-    requires { length text.now ≤ most_bytes }
-    ensures due { IfOk result (λ a. (refusal : Refusal) → JudgesHeadText text.now (Err refusal) → DueOfHead form file.now text.now a.status (text_said a.said)) }
-    ensures low { IfOk result (λ a. a.status ≤ 2) }
+// The same for a job that violates this rule.
+fn explained(alloc: Global, file: &[u8], text: &[u8], refusal: Refusal) -> Result<Answer, NoMemory>
+    requires short { length text.now ≤ most_bytes }
+    requires judged { JudgesHeadText text.now (Err refusal) }
+    ensures status { IfOk result (λ a. a.status ≡ 2) }
+    ensures begins { IfOk result (λ a. BeginsWith (rule_head file.now refusal) (text_said a.said)) }
 {
-    a_head_has_one_verdict();
-    let Explanation { status, text } = explain(alloc, file, Subject::Debugged, false, text)?;
+    let Explanation { status, text } = explain_head(alloc, file, text, refusal)?;
     Ok(Answer {
         status,
         said: Said::Made(text),

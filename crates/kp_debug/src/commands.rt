@@ -199,7 +199,7 @@ fn found_word(hit: bool) -> &'static [u8]
 }
 
 // Writes the current cycle of a session, and the state in it.
-#[tactic(auto, using(kp_base::proofs::Bytes::writes_next, kp_base::proofs::Bytes::part_more, kp_image::proofs::Given::few_words))]
+#[tactic(auto, using(kp_base::proofs::Bytes::writes_next, kp_base::proofs::Bytes::part_more, kp_report::proofs::Files::few_words))]
 fn show<K: Sink>(
     session: &Session<'_>,
     net: &Netlist,

@@ -8,7 +8,7 @@ use Rattle.kp_base.specs.{First.first, Check.Answer, Refusal.e_rule, declared.pl
 use Rattle.kp_ast.specs.declared.tree.Job.{Job}
 use Rattle.kp_lex.specs.{Text.HasOutcome, Text.tail_of, declared.token.Lexed.Lexed}
 use Rattle.kp_parse.specs.Sentence.{IsTree, Breaks}
-use Rattle.kp_width.specs.Widths.{widths_of}
+use Rattle.kp_width.specs.Widths.{width_broken}
 use Rattle.kp_stage.specs.Stages.{broken_of}
 use Rattle.kp_image.specs.Sections.{sections_of}
 
@@ -33,7 +33,7 @@ pub record Describes (text : List ℕ) (job : Job) : Type 0 where
 
 -- the first rule that a tree violates: of names and widths, then of stages, then of its sections
 unfoldable pub broken_in : Job → Answer
-broken_in job = first (first (widths_of job).asked ∷ broken_of job ∷ first (sections_of job).asked ∷ [])
+broken_in job = first (width_broken job ∷ broken_of job ∷ first (sections_of job).asked ∷ [])
 
 -- The verdict on a text that is not too long.
 pub data JudgesText (text : List ℕ) : Result Job Refusal → Type 0 where

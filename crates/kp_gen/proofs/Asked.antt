@@ -1,11 +1,11 @@
 -- The statements of a generated job obey a rule of names if the names in them do.
 use Rattle.std.proofs.Common.{◌≡◌, ◌∙◌, ℕ, ◌+◌, ◌%◌, List, [], ◌∷◌, None, refl, ◌<◌, ◌≤◌, length, arith}
 use Rattle.std.specs.Prelude.{codes}
-use Rattle.kp_base.specs.{First.first, Check.Answer, declared.place.Place.Place}
+use Rattle.kp_base.specs.{First.first, declared.place.Place.Place}
 use Rattle.kp_bits.specs.declared.operator.BinOp.{BinOp}
 use Rattle.kp_ast.specs.declared.tree.{Expr.Expr, Stmt.Stmt, StmtKind.StmtKind}
 use Rattle.kp_ast.proofs.Levels.{fold-Lit, fold-Name, fold-Binary, fold-Slice}
-use Rattle.kp_stage.specs.{declared.rules.Rule.Rule, Facts.Facts}
+use Rattle.kp_stage.specs.{declared.rules.Rule.Rule, Facts.Facts, Findings.Answer}
 use Rattle.kp_stage.specs.Rules.{ask_name, ask_expr, ask_kind, ask_level, ask_values, ask_block, ask_stmt, ask_guesses}
 use Rattle.kp_gen.specs.Generated.{place, name, number, binary, low_byte, read_name, pipe_name, set, file_read, address_put, value_put, file_set, block}
 use Rattle.kp_gen.{specs.declared.draws.Route.Route, proofs.Forms.read, proofs.Forms.put, proofs.Finds.Any, proofs.Finds.all_any}

@@ -1,13 +1,15 @@
 -- The declarations of a generated job violate no rule of names and widths, and declare these names.
-use Rattle.std.proofs.Common.{◌≡◌, ◌∙◌, ℕ, ◌+◌, ◌<◌, ◌≤◌, ◌^◌, List, [], ◌∷◌, ◌++◌, length, ◌-◌, Some, None, Option, Result, Ok, refl, ap, sym, subst, arith, append_assoc}
+use Rattle.std.proofs.Common.{◌≡◌, ◌∙◌, ℕ, ◌+◌, ◌<◌, ◌≤◌, ◌^◌, List, [], ◌∷◌, ◌++◌, length, ◌-◌, Some, None, Option, Result, false, Ok, refl, ap, sym, subst, arith, append_assoc}
 use Rattle.std.{proofs.lemmas.Bool.lt-ltb, proofs.lemmas.List.append-nil, specs.Prelude.◌==◌, specs.Prelude.codes}
-use Rattle.kp_base.specs.{Check.Check, Check.bind, Check.unless, Refusal.e_rule, declared.refusal.Refusal.Refusal}
+use Rattle.kp_base.specs.{Check.Check, Check.bind, Check.unless}
 use Rattle.kp_ast.specs.declared.{tree.Decl.Decl, widths.Entry.Entry, widths.NameKind.NameKind}
 use Rattle.kp_ast.specs.declared.tree.Decl.TheVariants as decls
 use Rattle.kp_ast.specs.declared.widths.Scope.TheVariants as scopes
 use Rattle.kp_ast.specs.declared.widths.NameKind.TheVariants as kinds
-use Rattle.kp_width.specs.Names.{Sense, sense, Names, Scoped, passed, nothing, look_up, used_as, is_register, is_file, is_pipe, declared_text}
-use Rattle.kp_width.specs.Declarations.{address_width, name_of, after_name, declaration_of, declarations_of, functions_in}
+use Rattle.kp_width.specs.{Faults.WidthFinding, Faults.found_at, declared.fault.Position.Position}
+use Rattle.kp_width.specs.declared.fault.WidthFault.TheVariants as faults
+use Rattle.kp_width.specs.Names.{Sense, sense, Names, Scoped, passed, nothing, look_up, bound_width, used_as, declared_text}
+use Rattle.kp_width.specs.Declarations.{address_fault, address_width, name_of, after_name, declaration_of, declarations_of, functions_in}
 use Rattle.kp_gen.proofs.Texts.{registers_at, file_at, address_at, value_at, results_at, with_registers, with_file, with_pipes, with_address, with_value, with_results, all_names, free_registers, free_file, free_pipes, free_address, free_value, register_there, file_there, address_there, file_result_free}
 use Rattle.kp_gen.specs.declared.draws.Route.{Route}
 use Rattle.kp_gen.specs.Generated.{place, named, num, numbered, register_name, result_of, target, for_each, all_decls}
@@ -16,10 +18,10 @@ use Rattle.kp_gen.proofs.Lookups.{spread, other_number, look_first, look_second,
 
 -- between two declarations these names are in scope, and these are the entries
 abbrev pub between : Names → List Entry → Scoped
-between text entries = record { text = text; local = []; here = scopes.Text; entries = entries }
+between text entries = record { text = text; local = []; here = scopes.Text; entries = entries; doubts = false }
 
 -- a part of the check passes, and these names are in scope after it
-pub record Passes (c : Check Scoped) (text : Names) : Type 0 where
+pub record Passes (c : Check WidthFinding Scoped) (text : Names) : Type 0 where
   pub entries : List Entry
   pub found : c.found ≡ Ok (between text entries)
 
@@ -38,7 +40,7 @@ pub register_passes : (ds : List Decl) (i : ℕ) (text : Names) (es : List Entry
     → Passes (declaration_of ds i 0 (between text es) (register j r)) (text ++ (numbered 82 j, sense kinds.Reg 16 i) ∷ [])
 register_passes ds i text es j r h free =
     after_fresh ds i text es (register j r) (sense kinds.Reg 16 i) free
-    (ap (λ b. bind (bind (bind (unless b (e_rule 13 place) (Ok 16)) (λ x. unless (x == 16) (e_rule 10 place) passed.found)) (λ x. Ok 16)) (λ w. Ok (declared_text (between text es) (numbered 82 j) (sense kinds.Reg w i)))) (lt-ltb (j + 1) (2 ^ 16) h))
+    (ap (λ b. bind (bind (bind (unless b (found_at place (faults.LiteralValue (j + 1) 16)) (Ok 16)) (λ x. unless (x == 16) (found_at place (faults.Start x 16)) passed.found)) (λ x. Ok 16)) (λ w. Ok (declared_text (between text es) (numbered 82 j) (sense kinds.Reg w i)))) (lt-ltb (j + 1) (2 ^ 16) h))
 
 pub pipe_passes : (ds : List Decl) (i : ℕ) (text : Names) (es : List Entry) (j : ℕ) (r : Route)
     → look_up text (numbered 80 j) ≡ None
@@ -51,15 +53,15 @@ pub result_passes : (ds : List Decl) (i : ℕ) (text : Names) (es : List Entry) 
     → Passes (declaration_of ds i 0 (between text es) (result_of j r)) (text ++ (numbered 67 j, sense kinds.Target 16 i) ∷ [])
 result_passes ds i text es j r f there free =
     after_fresh ds i text es (result_of j r) (sense kinds.Target 16 i) free
-    (ap (λ (o : Option Sense). bind (bind (bind (used_as is_register place o).found (λ t. unless (t.width == 16) (e_rule 10 place) passed.found)) (λ x. Ok 16)) (λ w. Ok (declared_text (between text es) (numbered 67 j) (sense kinds.Target w i)))) there)
+    (ap (λ (o : Option Sense). bind (bind (bind (used_as scopes.Text (bound_width es (register_name j)) Position.Register place o).found (λ t. unless (t.width == 16) (found_at place (faults.Target 16 t.width t.kind t.from)) passed.found)) (λ x. Ok 16)) (λ w. Ok (declared_text (between text es) (numbered 67 j) (sense kinds.Target w i)))) there)
 
 -- the result of looking up the file and its pipe for the file's result
-abbrev storage_found : ℕ → Names → List Entry → Option Sense → Option Sense → Result Scoped Refusal
+abbrev storage_found : ℕ → Names → List Entry → Option Sense → Option Sense → Result Scoped WidthFinding
 storage_found i text es file pipe =
     bind
     (bind
-    (bind (used_as is_file place file).found
-    (λ t. unless (t.width == 16) (e_rule 10 place) (bind (bind (used_as is_pipe place pipe).found (λ p. unless (p.width == address_width t.kind) (e_rule 14 place) passed.found)) (λ a. passed.found))))
+    (bind (used_as scopes.Text (bound_width es (codes "F")) Position.File place file).found
+    (λ t. unless (t.width == 16) (found_at place (faults.Target 16 t.width t.kind t.from)) (bind (bind (used_as scopes.Text (bound_width es (codes "AF")) Position.Pipe place pipe).found (λ p. unless (p.width == address_width t.kind) (found_at place (address_fault t p)) passed.found)) (λ a. passed.found))))
     (λ x. Ok 16))
     (λ w. Ok (declared_text (between text es) (codes "CF") (sense kinds.Target w i)))
 

@@ -1,6 +1,6 @@
 -- The first answer to a question about the items of a generated job: its declarations, and the statements of stage 0.
 use Rattle.std.proofs.Common.{◌≡◌, ◌∙◌, ℕ, ◌+◌, ◌<◌, ◌≤◌, List, [], ◌∷◌, ◌++◌, length, Option, None, Some, Bool, true, false, refl, ap, arith, append_assoc}
-use Rattle.kp_base.specs.{First.first, Check.answer, declared.refusal.Refusal.Refusal}
+use Rattle.kp_base.specs.{First.first, Check.answer}
 use Rattle.kp_ast.specs.declared.tree.{Decl.Decl, Stmt.Stmt}
 use Rattle.kp_gen.specs.declared.draws.Route.{Route}
 use Rattle.kp_gen.specs.Generated.{result_of, file_read, address_put, value_put, for_each, first_stmts, all_decls}
@@ -26,7 +26,7 @@ pub past : {X : Type 0} (a : Option X) (more : List (Option X)) → a ≡ None �
 past None more e = refl
 past (Some r) more e = cc
 
-pub holding : (b : Bool) (r : Refusal) → b ≡ true → answer b r ≡ None
+pub holding : {F : Type 0} (b : Bool) (r : F) → b ≡ true → answer b r ≡ None
 holding true r e = refl
 holding false r e = cc
 

@@ -1,21 +1,25 @@
 -- A generated job violates no rule of stages, and none of the sections.
-use Rattle.std.proofs.Common.{◌≡◌, ℕ, zero, suc, ◌+◌, ◌-◌, ◌<◌, ◌≤◌, ◌/◌, ◌^◌, List, [], ◌∷◌, length, None, true, refl, ap, arith}
-use Rattle.std.{proofs.Math.Nat.mod-lt, proofs.lemmas.Bool.lt-ltb, specs.Prelude.nat_lt}
-use Rattle.kp_base.specs.{First.first, Check.Answer, Check.answer, Refusal.e_rule}
-use Rattle.kp_stage.specs.{Facts.facts_of, Rules.broken_by, Sizes.sizes_of, Counts.counts_of, Stages.broken_of}
-use Rattle.kp_image.specs.Sections.{sections_of}
+use Rattle.std.proofs.Common.{◌≡◌, ℕ, zero, suc, ◌+◌, ◌-◌, ◌<◌, ◌≤◌, ◌/◌, ◌^◌, List, [], ◌∷◌, length, Option, None, true, refl, ap, arith, ◌∙◌}
+use Rattle.std.{proofs.Math.Nat.mod-lt, proofs.lemmas.Bool.lt-ltb, specs.Prelude.nat_lt, specs.Option.option_map, specs.Option.option_or}
+use Rattle.kp_base.{specs.First.first, proofs.First.first_append_none}
+use Rattle.kp_stage.specs.{Facts.facts_of, Findings.refusal_of, Rules.asked_by, Sizes.sizes_of, Counts.counts_of, Stages.answers_of, Stages.broken_of}
+use Rattle.kp_image.specs.Sections.{asked_by as asked_of_sections, broken_unless, rules_of, sections_of}
+use Rattle.kp_image.specs.declared.fault.SectionFault.TheVariants as faults
 use Rattle.kp_gen.specs.{declared.draws.Route.Route, Draws.next, Draws.drawn, Draws.routes_from, Draws.routes_drawn, Draws.stages_drawn, Draws.registers_drawn}
 use Rattle.kp_gen.{specs.Generated.place, specs.Generated.job_of, specs.Generated.gen_job, proofs.NamesHold.few_registers, proofs.Finds.AllFrom}
 use Rattle.kp_gen.proofs.{Kept.IsFine, Kept.rules_kept, Totals.sizes_kept, Totals.counts_kept}
 
-pub three : (a b c : Answer) → a ≡ None → b ≡ None → c ≡ None → first (a ∷ b ∷ c ∷ []) ≡ None
+pub three : {F : Type 0} (a b c : Option F) → a ≡ None → b ≡ None → c ≡ None → first (a ∷ b ∷ c ∷ []) ≡ None
 three a b c e f g = rw (e, f, g) refl
 
 pub stages_hold : (n : ℕ) (rs : List Route) → 3 ≤ n → n ≤ 12 → length rs ≤ 35 → AllFrom (λ i r. IsFine n r) 0 rs → broken_of (job_of n rs) ≡ None
-unfolding broken_of
+unfolding broken_of answers_of
 stages_hold n rs least most few fine =
-    three (broken_by (facts_of (job_of n rs)) (job_of n rs)) (first (sizes_of (job_of n rs)).asked) (first (counts_of (job_of n rs)).asked)
-    (rules_kept n rs least most few fine) (sizes_kept n rs most few) (counts_kept n rs few)
+    let job = job_of n rs in
+    let numbers = first (sizes_of job).asked ∷ first (counts_of job).asked ∷ [] in
+    ap (option_map refusal_of)
+    (first_append_none (asked_by (facts_of job) job) numbers (rules_kept n rs least most few fine)
+    ∙ three None (first (sizes_of job).asked) (first (counts_of job).asked) refl (sizes_kept n rs most few) (counts_kept n rs few))
 
 -- the choices that are drawn stay within the stages
 routes_fine : (n m count x i : ℕ) → 3 ≤ n → AllFrom (λ i r. IsFine n r) i (routes_from n m count x)
@@ -35,12 +39,12 @@ generated_stages_hold G =
     stages_hold (stages_drawn G) (routes_drawn G) (omega arith) (few_stages G) (few_registers G)
     (routes_fine (stages_drawn G) (registers_drawn G) (registers_drawn G) (next (next G)) 0 (omega arith))
 
-stall_holds : (n : ℕ) → 1 ≤ n → answer (nat_lt (n - 1) n) (e_rule 32 place) ≡ None
+stall_holds : (n : ℕ) → 1 ≤ n → broken_unless (nat_lt (n - 1) n) (faults.NoStage (n - 1) n) place ≡ None
 stall_holds n h = let e : nat_lt (n - 1) n ≡ true = lt-ltb (n - 1) n (omega (arith, h)) in rw e refl
 
 sections_hold : (n : ℕ) (rs : List Route) → 1 ≤ n → first (sections_of (job_of n rs)).asked ≡ None
-unfolding job_of sections_of
-sections_hold n rs h = ap (λ a. first (a ∷ None ∷ [])) (stall_holds n h)
+unfolding job_of sections_of asked_of_sections
+sections_hold n rs h = ap (λ a. first (rules_of (option_or a None ∷ []))) (stall_holds n h)
 
 pub generated_sections_hold : (G : ℕ) → first (sections_of (gen_job G)).asked ≡ None
 generated_sections_hold G = sections_hold (stages_drawn G) (routes_drawn G) (omega arith)

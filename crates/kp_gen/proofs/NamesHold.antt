@@ -31,7 +31,7 @@ names_hold n rs some few all =
     let ds : List Decl = all_decls n rs in
     let d = all_pass ds n rs few in
     let s : Scoped = between (all_names (length rs) few) d.entries in
-    let b = blocks_end ds (length rs) few some s n rs refl refl all in
+    let b = blocks_end ds (length rs) few some s n rs refl refl refl all in
     unbroken (widths_of (job_of n rs)) b.0.entries
     (then (declarations_of ds 0 0 nothing ds) (λ s. blocks_of ds 0 s (all_blocks n rs) >>= (λ t. ok t.entries)) s d.found
     ∙ then (blocks_of ds 0 s (all_blocks n rs)) (λ t. ok t.entries) b.0 b.1)

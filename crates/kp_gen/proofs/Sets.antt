@@ -1,19 +1,19 @@
 -- E21 in a generated job: each set is the first of its result in its stage.
 use Rattle.std.proofs.Common.{◌≡◌, ◌∙◌, ℕ, zero, suc, ◌+◌, ◌-◌, ◌<◌, ◌≤◌, List, [], ◌∷◌, ◌++◌, length, map, Option, None, Some, Bool, true, false, cond, refl, ap, arith}
 use Rattle.std.{proofs.lemmas.Bool.eq-eqb, specs.Prelude.◌==◌, specs.Prelude.codes, specs.Prelude.slice_get, specs.List.range_with_len}
-use Rattle.kp_base.specs.{First.first, Check.answer, Refusal.e_rule}
+use Rattle.kp_base.specs.{First.first, Check.answer}
 use Rattle.kp_ast.specs.{Expressions.is_same_name, declared.tree.Stmt.Stmt, declared.tree.Block.Block}
 use Rattle.kp_stage.specs.{declared.rules.Rule.Rule, Facts.Facts, Facts.sets_in, Facts.stmts_in, Facts.first_set}
 use Rattle.kp_stage.specs.Rules.{ask_stmt, ask_stmts, holds_of}
 use Rattle.kp_gen.specs.declared.draws.Route.{Route}
-use Rattle.kp_gen.specs.Generated.{place, result_name, set, file_set, file_sets, sets_from, later_stmts, later_block, all_blocks}
+use Rattle.kp_gen.specs.Generated.{result_name, set, file_set, file_sets, sets_from, later_stmts, later_block, all_blocks}
 use Rattle.kp_gen.proofs.{Lookups.other_number, Lookups.same_true, Lookups.either, Texts.no_number, Finds.past, Finds.at_some}
 use Rattle.kp_gen.proofs.StageLookups.{is_where, is_nowhere}
 
--- an entry at its own number, by a rule
-pub first_one : (rule : ℕ) (o : Option ℕ) (i : ℕ) → o ≡ Some i → answer (holds_of (λ (j : ℕ). j == i) o) (e_rule rule place) ≡ None
-first_one rule None i e = cc
-first_one rule (Some j) i e = let p : j ≡ i = cc in rw (eq-eqb j i p) refl
+-- an entry at its own number
+pub first_one : {F : Type 0} (f : F) (o : Option ℕ) (i : ℕ) → o ≡ Some i → answer (holds_of (λ (j : ℕ). j == i) o) f ≡ None
+first_one f None i e = cc
+first_one f (Some j) i e = let p : j ≡ i = cc in rw (eq-eqb j i p) refl
 
 module _ (facts : Facts) (m k : ℕ) (few : m ≤ 35) where
   abbrev behind : List ℕ → ℕ → ℕ → List Route → Option ℕ
@@ -26,7 +26,7 @@ module _ (facts : Facts) (m k : ℕ) (few : m ≤ 35) where
   each i j [] e results file =
       either (k == 1)
       (λ h. let here : facts.set_in k (codes "CF") ≡ Some i = file ∙ (rw h refl) in
-      rw h (past (ask_stmt facts Rule.E21 k i file_set.kind) [] (first_one 21 (facts.set_in k (codes "CF")) i here)))
+      rw h (past (ask_stmt facts Rule.E21 k i file_set.kind) [] (first_one _ (facts.set_in k (codes "CF")) i here)))
       (λ h. rw h refl)
   each i j (r ∷ rs) e results file =
       either (r.set == k)
@@ -34,7 +34,7 @@ module _ (facts : Facts) (m k : ℕ) (few : m ≤ 35) where
       let shape : (q : List ℕ) → behind q i j (r ∷ rs) ≡ first (sets_in q i (set j r ∷ tail)) = (λ q. rw h refl) in
       let here : facts.set_in k (result_name j) ≡ Some i =
       results j (omega arith) (omega arith) ∙ shape (result_name j) ∙ at_some _ (sets_in (result_name j) (i + 1) tail) i (is_where (result_name j) (result_name j) i (same_true (result_name j))) in
-      rw h (past (ask_stmt facts Rule.E21 k i (set j r).kind) (ask_stmts facts Rule.E21 k (i + 1) tail) (first_one 21 (facts.set_in k (result_name j)) i here)
+      rw h (past (ask_stmt facts Rule.E21 k i (set j r).kind) (ask_stmts facts Rule.E21 k (i + 1) tail) (first_one _ (facts.set_in k (result_name j)) i here)
       ∙ each (i + 1) (j + 1) rs (omega arith)
       (λ x a b. results x (omega arith) b ∙ shape (result_name x)
       ∙ past _ (sets_in (result_name x) (i + 1) tail) (is_nowhere (result_name x) (result_name j) i (other_number 67 x j (omega arith) (omega arith) (λ y. omega (arith, y, a)))))

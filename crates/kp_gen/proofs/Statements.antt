@@ -1,15 +1,18 @@
 -- The statements of a generated job violate no rule of names and widths.
 use Rattle.std.proofs.Common.{◌≡◌, ◌∙◌, ℕ, zero, suc, ◌+◌, ◌-◌, ◌<◌, ◌≤◌, ◌%◌, List, [], ◌∷◌, ◌++◌, length, map, Some, None, Bool, true, false, Ok, refl, ap, sym, subst, arith, append_assoc}
-use Rattle.std.{proofs.Math.Nat.mod-lt, proofs.lemmas.Bool.eq-eqb, proofs.lemmas.List.append-nil, specs.Prelude.◌==◌, specs.Prelude.codes}
+use Rattle.std.{proofs.Math.Nat.mod-lt, proofs.lemmas.Bool.eq-eqb, proofs.lemmas.Bool.and_parts, proofs.lemmas.List.append-nil, specs.Prelude.◌==◌, specs.Prelude.◌&&◌, specs.Prelude.not, specs.Prelude.codes}
 use Rattle.std.specs.List.{range_with_len, AllByRecursion}
-use Rattle.kp_base.specs.{Check.Check, Check.ok, Check.wants, Check.◌>>=◌, Refusal.e_rule, declared.place.Place.Place}
+use Rattle.kp_base.specs.{Check.Check, Check.ok, Check.wants, Check.◌>>=◌, declared.place.Place.Place}
 use Rattle.kp_ast.specs.{Expressions.is_same_name, declared.tree.Named.Named, declared.tree.Expr.Expr, declared.tree.ReadStmt.ReadStmt, declared.tree.Decl.Decl}
 use Rattle.kp_ast.specs.declared.{tree.Stmt.Stmt, widths.Entry.Entry, widths.NameKind.NameKind}
 use Rattle.kp_bits.specs.declared.operator.BinOp.{BinOp}
 use Rattle.kp_ast.specs.declared.tree.StmtKind.TheVariants as stmts
 use Rattle.kp_ast.specs.declared.widths.Scope.TheVariants as scopes
 use Rattle.kp_ast.specs.declared.widths.NameKind.TheVariants as kinds
-use Rattle.kp_width.specs.Names.{Sense, sense, Names, Scoped, look_up, or_else, find, used, used_as, is_value_in, is_register, is_file, is_pipe, is_result, passed, declared_local}
+use Rattle.kp_width.specs.{Faults.WidthFinding, Faults.found_at, declared.fault.Position.Position, declared.fault.Destination.Destination}
+use Rattle.kp_width.specs.declared.fault.WidthFault.TheVariants as faults
+use Rattle.kp_width.specs.declared.fault.Destination.TheVariants as to
+use Rattle.kp_width.specs.Names.{Sense, sense, Names, Scoped, look_up, or_else, find, takes, bound_width, used, used_as, passed, declared_local}
 use Rattle.kp_width.specs.Expressions.{part_of, width_of, value_of, literal_of, binary_of, slice_of}
 use Rattle.kp_width.specs.Declarations.{kept, address_width}
 use Rattle.kp_width.specs.Statements.{when_of, address_of, read_of, given, statement_of, statements_of, blocks_of}
@@ -21,58 +24,66 @@ use Rattle.kp_gen.proofs.Lookups.{spread, spread_there, spread_none, other_numbe
 
 -- in stage k these names are in scope
 abbrev pub inside : ℕ → Names → Names → List Entry → Scoped
-inside k text local entries = record { text = text; local = local; here = scopes.Stage k; entries = entries }
+inside k text local entries = record { text = text; local = local; here = scopes.Stage k; entries = entries; doubts = false }
 
 module _ (ds : List Decl) (s : Scoped) where
-  abbrev width : Expr → Check ℕ
+  abbrev width : Expr → Check WidthFinding ℕ
   width = width_of ds (length ds) s
 
-  pub used_found : (takes : NameKind → Bool) (n : List ℕ) (x : Sense) → find s n ≡ Some x → takes x.kind ≡ true → (used s takes n place).found ≡ Ok x
-  used_found takes n x there right = ap (λ o. (used_as takes place o).found) there ∙ holds (takes x.kind) (e_rule 7 place) (ok x) right
+  -- a name of this meaning is accepted in a position
+  abbrev pub accepts : Position → Sense → Bool
+  accepts position x = not x.doubtful && takes position s.here x.kind
 
-  pub name_found : (n : List ℕ) (x : Sense) → find s n ≡ Some x → is_value_in s.here x.kind ≡ true → (width (name n)).found ≡ Ok x.width
+  pub used_found : (position : Position) (n : List ℕ) (x : Sense) → find s n ≡ Some x → accepts position x ≡ true → (used s position n place).found ≡ Ok x
+  used_found position n x there right =
+      let both = and_parts (not x.doubtful) (takes position s.here x.kind) right in
+      ap (λ o. (used_as s.here (bound_width s.entries n) position place o).found) there
+      ∙ holds (not x.doubtful) _ (wants (takes position s.here x.kind) (found_at place (faults.WrongKind x.kind x.from position s.here)) (ok x)) both.0
+      ∙ holds (takes position s.here x.kind) _ (ok x) both.1
+
+  pub name_found : (n : List ℕ) (x : Sense) → find s n ≡ Some x → accepts Position.Value x ≡ true → (width (name n)).found ≡ Ok x.width
   name_found n x there right =
-      ap (λ (c : Check ℕ). c.found) (width-Name ds (length ds) s place n)
-      ∙ then (used s (is_value_in s.here) n place) (λ m. ok m.width) x (used_found (is_value_in s.here) n x there right)
+      ap (λ (c : Check WidthFinding ℕ). c.found) (width-Name ds (length ds) s place n)
+      ∙ then (used s Position.Value n place) (λ m. ok m.width) x (used_found Position.Value n x there right)
 
   pub number_found : (w v x : ℕ) → (literal_of (record { width = w; value = v }) place).found ≡ Ok x → (width (number w v)).found ≡ Ok x
-  number_found w v x e = ap (λ (c : Check ℕ). c.found) (width-Lit ds (length ds) s place (record { width = w; value = v })) ∙ e
+  number_found w v x e = ap (λ (c : Check WidthFinding ℕ). c.found) (width-Lit ds (length ds) s place (record { width = w; value = v })) ∙ e
 
-  pub binary_found : (op : BinOp) (a b : Expr) (x y w : ℕ) → (width a).found ≡ Ok x → (width b).found ≡ Ok y → (binary_of op place x y).found ≡ Ok w
+  pub binary_found : (op : BinOp) (a b : Expr) (x y w : ℕ) → (width a).found ≡ Ok x → (width b).found ≡ Ok y → (binary_of op place (part_of ds (length ds) s a).at (part_of ds (length ds) s b).at x y).found ≡ Ok w
       → (width (binary op a b)).found ≡ Ok w
   binary_found op a b x y w e f g =
-      ap (λ (c : Check ℕ). c.found) (width-Binary ds (length ds) s place op a b)
-      ∙ then (width a) (λ p. width b >>= (λ q. binary_of op place p q)) x e
-      ∙ then (width b) (λ q. binary_of op place x q) y f
+      ap (λ (c : Check WidthFinding ℕ). c.found) (width-Binary ds (length ds) s place op a b)
+      ∙ then (width a) (λ p. width b >>= (λ q. binary_of op place (part_of ds (length ds) s a).at (part_of ds (length ds) s b).at p q)) x e
+      ∙ then (width b) (λ q. binary_of op place (part_of ds (length ds) s a).at (part_of ds (length ds) s b).at x q) y f
       ∙ g
 
   pub byte_found : (n : List ℕ) → (width (name n)).found ≡ Ok 16 → (width (low_byte n)).found ≡ Ok 8
   byte_found n e =
-      ap (λ (c : Check ℕ). c.found) (width-Slice ds (length ds) s place (name n) 7 0)
+      ap (λ (c : Check WidthFinding ℕ). c.found) (width-Slice ds (length ds) s place (name n) 7 0)
       ∙ then (width (name n)) (λ w. slice_of 7 0 place w) 16 e
 
   -- a value of this width is assigned to an object of this width
-  value_found : (e : Expr) (w : ℕ) → (width e).found ≡ Ok w → (value_of (part_of ds (length ds) s e) w).found ≡ Ok tt
-  value_found e w f =
+  value_found : (e : Expr) (w : ℕ) (goes : Destination) → (width e).found ≡ Ok w → (value_of (part_of ds (length ds) s e) w goes).found ≡ Ok tt
+  value_found e w goes f =
       let at : Place = (part_of ds (length ds) s e).at in
-      then (width e) (λ x. wants (x == w) (e_rule 10 at) passed) w f ∙ holds (w == w) (e_rule 10 at) passed (eq-eqb w w refl)
+      then (width e) (λ x. wants (x == w) (found_at at (faults.Value x w goes)) passed) w f ∙ holds (w == w) _ passed (eq-eqb w w refl)
 
-  pub given_found : (takes : NameKind → Bool) (n : List ℕ) (e : Expr) (x : Sense) → find s n ≡ Some x → takes x.kind ≡ true → (width e).found ≡ Ok x.width
-      → (given ds s takes (named n) e).found ≡ Ok tt
-  given_found takes n e x there right value =
-      then (used s takes n place) (λ m. value_of (part_of ds (length ds) s e) m.width) x (used_found takes n x there right) ∙ value_found e x.width value
+  pub given_found : (position : Position) (n : List ℕ) (e : Expr) (x : Sense) → find s n ≡ Some x → accepts position x ≡ true → (width e).found ≡ Ok x.width
+      → (given ds s position (named n) e).found ≡ Ok tt
+  given_found position n e x there right value =
+      then (used s position n place) (λ m. value_of (part_of ds (length ds) s e) m.width (to.Named m.kind m.from)) x (used_found position n x there right) ∙ value_found e x.width (to.Named x.kind x.from) value
 
-  pub put_found : (n : List ℕ) (e : Expr) (x : Sense) → find s n ≡ Some x → is_pipe x.kind ≡ true → (width e).found ≡ Ok x.width
+  pub put_found : (n : List ℕ) (e : Expr) (x : Sense) → find s n ≡ Some x → accepts Position.Pipe x ≡ true → (width e).found ≡ Ok x.width
       → (statement_of ds s (stmts.Put (named n) e)).found ≡ Ok s
-  put_found n e x there right value = then (given ds s is_pipe (named n) e) (λ x. ok s) tt (given_found is_pipe n e x there right value)
+  put_found n e x there right value = then (given ds s Position.Pipe (named n) e) (λ x. ok s) tt (given_found Position.Pipe n e x there right value)
 
-  pub set_found : (n : List ℕ) (e : Expr) (x : Sense) → find s n ≡ Some x → is_result x.kind ≡ true → (width e).found ≡ Ok x.width
+  pub set_found : (n : List ℕ) (e : Expr) (x : Sense) → find s n ≡ Some x → accepts Position.Result x ≡ true → (width e).found ≡ Ok x.width
       → (statement_of ds s (stmts.Set (named n) e None)).found ≡ Ok s
   set_found n e x there right value =
-      then (given ds s is_result (named n) e) (λ x. when_of ds s None >>= (λ y. ok s)) tt (given_found is_result n e x there right value)
+      then (given ds s Position.Result (named n) e) (λ x. when_of ds s None >>= (λ y. ok s)) tt (given_found Position.Result n e x there right value)
 
 -- a list of statements passes, and these names of the stage are in scope after it
-pub record Ends (c : Check Scoped) (k : ℕ) (text local : Names) : Type 0 where
+pub record Ends (c : Check WidthFinding Scoped) (k : ℕ) (text local : Names) : Type 0 where
   pub entries : List Entry
   pub found : c.found ≡ Ok (inside k text local entries)
 
@@ -124,7 +135,7 @@ module _ (ds : List Decl) (m : ℕ) (small : m ≤ 35) (some : 4 ≤ m) where
       is_fresh s (numbered 120 j) place (read_of ds s r >>= (λ w. ok (declared_local s (numbered 120 j) (sense kinds.Read w 0))))
       (unknown local es (numbered 120 j) free (free_all m small (numbered 120 j) (λ k h l. refl) refl (λ k h l. refl) refl refl (λ k h l. refl) refl))
       ∙ then (read_of ds s r) (λ w. ok (declared_local s (numbered 120 j) (sense kinds.Read w 0))) 16
-      (then (used s is_register (numbered 82 j) place) (λ t. kept None (λ e. address_of (part_of ds (length ds) s e) (address_width t.kind)) >>= (λ a. when_of ds s None >>= (λ b. kept None (λ e. value_of (part_of ds (length ds) s e) t.width) >>= (λ c. ok t.width)))) (registers_at m small j) (used_found ds s is_register (numbered 82 j) (registers_at m small j) there refl))
+      (then (used s Position.Register (numbered 82 j) place) (λ t. kept None (λ e. address_of (part_of ds (length ds) s e) (address_width t.kind) t.from) >>= (λ a. when_of ds s None >>= (λ b. kept None (λ e. value_of (part_of ds (length ds) s e) t.width (to.Named t.kind t.from)) >>= (λ c. ok t.width)))) (registers_at m small j) (used_found ds s Position.Register (numbered 82 j) (registers_at m small j) there refl))
 
   -- the reads of the registers, in order
   each_read : (local : Names) (es : List Entry) (j : ℕ) (rs : List Route) (rest : List Stmt) (final : Names) → j + length rs ≡ m
@@ -196,13 +207,13 @@ module _ (ds : List Decl) (m : ℕ) (small : m ≤ 35) (some : 4 ≤ m) where
       let there : find s (codes "F") ≡ Some (file_at m small) = in_text 0 with_reads es (codes "F") (file_at m small) (reads_free (codes "F") (λ k h l. refl)) (from_value m small (codes "F") (file_at m small) (file_there m small)) in
       let one : find s (numbered 120 1) ≡ Some (reads_at 1) = in_stage 0 with_reads es (numbered 120 1) (reads_at 1) (spread_there 120 reads_at 0 m 1 (omega arith) (omega arith) (omega arith)) in
       let wide : (width_of ds (length ds) s address).found ≡ Ok 8 = byte_found ds s (numbered 120 1) (name_found ds s (numbered 120 1) (reads_at 1) one refl) in
-      let after : Sense → Check ℕ = λ t. kept (Some address) (λ e. address_of (part_of ds (length ds) s e) (address_width t.kind)) >>= (λ a. when_of ds s None >>= (λ b. kept None (λ e. value_of (part_of ds (length ds) s e) t.width) >>= (λ c. ok t.width))) in
+      let after : Sense → Check WidthFinding ℕ = λ t. kept (Some address) (λ e. address_of (part_of ds (length ds) s e) (address_width t.kind) t.from) >>= (λ a. when_of ds s None >>= (λ b. kept None (λ e. value_of (part_of ds (length ds) s e) t.width (to.Named t.kind t.from)) >>= (λ c. ok t.width))) in
       is_fresh s (codes "f") place (read_of ds s r >>= (λ w. ok (declared_local s (codes "f") (sense kinds.Read w 0))))
       (unknown with_reads es (codes "f") (reads_free (codes "f") (λ k h l. refl)) (free_all m small (codes "f") (λ k h l. refl) refl (λ k h l. refl) refl refl (λ k h l. refl) refl))
       ∙ then (read_of ds s r) (λ w. ok (declared_local s (codes "f") (sense kinds.Read w 0))) 16
-      (then (used s is_file (codes "F") place) after (file_at m small) (used_found ds s is_file (codes "F") (file_at m small) there refl)
-      ∙ then (address_of (part_of ds (length ds) s address) 8) (λ a. when_of ds s None >>= (λ b. kept None (λ e. value_of (part_of ds (length ds) s e) 16) >>= (λ c. ok 16))) tt
-      (then (width_of ds (length ds) s address) (λ x. wants (x == 8) (e_rule 14 (part_of ds (length ds) s address).at) passed) 8 wide))
+      (then (used s Position.File (codes "F") place) after (file_at m small) (used_found ds s Position.File (codes "F") (file_at m small) there refl)
+      ∙ then (address_of (part_of ds (length ds) s address) 8 (file_at m small).from) (λ a. when_of ds s None >>= (λ b. kept None (λ e. value_of (part_of ds (length ds) s e) 16 (to.Named (kinds.File 8) (file_at m small).from)) >>= (λ c. ok 16))) tt
+      (then (width_of ds (length ds) s address) (λ x. wants (x == 8) (found_at (part_of ds (length ds) s address).at (faults.Address x 8 (file_at m small).from)) passed) 8 wide))
 
   in_parts : (rs : List Route) (es : List Entry) → length rs ≡ m
       → Ends (statements_of ds (inside 0 T [] es) (for_each read 0 rs ++ (file_read ∷ for_each (put (length rs)) 0 rs ++ address_put ∷ value_put ∷ []))) 0 T with_f
@@ -264,9 +275,12 @@ module _ (ds : List Decl) (m : ℕ) (small : m ≤ 35) (some : 4 ≤ m) where
       let more = later_end (k + 1) c k [] es rs e all in
       (more.0, then (statements_of ds (inside k T [] es) (later_stmts rs k)) (λ t. blocks_of ds (k + 1) t (map (later_block rs) (range_with_len (k + 1) c))) (inside k T [] es) (sets_end k es 0 rs (omega (arith, e)) all) ∙ more.1)
 
-  pub blocks_end : (s : Scoped) (n : ℕ) (rs : List Route) → s.text ≡ T → length rs ≡ m → AllByRecursion (λ r. r.other < m) rs
+  pub blocks_end : (s : Scoped) (n : ℕ) (rs : List Route) → s.text ≡ T → s.doubts ≡ false → length rs ≡ m → AllByRecursion (λ r. r.other < m) rs
       → (t : Scoped) × ((blocks_of ds 0 s (all_blocks n rs)).found ≡ Ok t)
-  blocks_end s n rs text e all =
+  blocks_end s n rs text clean e all =
       let ends : Ends (statements_of ds (inside 0 s.text [] s.entries) (first_stmts rs)) 0 T with_f = subst (λ x. Ends (statements_of ds (inside 0 x [] s.entries) (first_stmts rs)) 0 T with_f) (sym text) (first_ends rs s.entries e) in
-      let more = later_end 1 (n - 1) 0 with_f ends.entries rs e all in
-      (more.0, then (statements_of ds (inside 0 s.text [] s.entries) (first_stmts rs)) (λ t. blocks_of ds 1 t (map (later_block rs) (range_with_len 1 (n - 1)))) (inside 0 T with_f ends.entries) ends.found ∙ more.1)
+      let more = later_end 1 (n - 1) 0 with_f ends.entries rs e all in (
+        more.0,
+        ap (λ doubts. (blocks_of ds 0 (record { text = s.text; local = s.local; here = s.here; entries = s.entries; doubts = doubts }) (all_blocks n rs)).found) clean
+            ∙ then (statements_of ds (inside 0 s.text [] s.entries) (first_stmts rs)) (λ t. blocks_of ds 1 t (map (later_block rs) (range_with_len 1 (n - 1)))) (inside 0 T with_f ends.entries) ends.found ∙ more.1,
+      )

@@ -2,13 +2,13 @@
 use Rattle.std.proofs.Common.{◌≡◌, ◌∙◌, ℕ, zero, suc, ◌+◌, ◌-◌, ◌*◌, ◌≤◌, ◌%◌, List, [], ◌∷◌, ◌++◌, length, map, None, true, refl, ap, arith}
 use Rattle.std.proofs.lemmas.{Bool.le-leb, List.length-append, List.Sums.sum_by-cons, List.Sums.sum_by-append}
 use Rattle.std.specs.{Prelude.◌==◌, Prelude.nat_le, Prelude.codes, Prelude.sum_by, List.range_with_len}
-use Rattle.kp_base.{specs.First.first, specs.Check.Check, specs.Check.Answer, specs.Check.answer, specs.Refusal.e_rule, proofs.First.first_append_none}
+use Rattle.kp_base.{specs.First.first, specs.Check.Check, specs.declared.finding.Finding.Finding, proofs.First.first_append_none}
 use Rattle.kp_bits.specs.declared.operator.BinOp.{BinOp}
 use Rattle.kp_ast.specs.{Size.size, Size.size_of_kind as size_of_form, Size.size_of_level, Size.bodies_of, declared.tree.Expr.Expr, declared.tree.Decl.Decl}
 use Rattle.kp_ast.{specs.declared.tree.Stmt.Stmt, proofs.Levels.fold-Lit, proofs.Levels.fold-Name, proofs.Levels.fold-Binary, proofs.Levels.fold-Slice}
-use Rattle.kp_width.specs.Declarations.{functions_in, name_of}
-use Rattle.kp_stage.specs.Counts.{regs_in, files_in, pipes_in, results_in, hints_in, samples_in, reads_in, guesses_in, is_within, nothing_counted, with_decl, with_stmt, place_of_read, decls_counted, stmts_counted, blocks_counted, counts_of}
-use Rattle.kp_stage.specs.Sizes.{size_of_stmt, stmts_sized, blocks_sized, sizes_of}
+use Rattle.kp_width.specs.Declarations.{functions_in}
+use Rattle.kp_stage.specs.Counts.{regs_in, files_in, pipes_in, results_in, hints_in, samples_in, reads_in, guesses_in, is_within, nothing_counted, with_decl, with_stmt, decls_counted, stmts_counted, blocks_counted, counts_of}
+use Rattle.kp_stage.specs.{Sizes.size_of_stmt, Sizes.stmts_sized, Sizes.blocks_sized, Sizes.sizes_of, Findings.Answer, declared.fault.StageFault.StageFault}
 use Rattle.kp_gen.specs.Generated.{place, name, number, binary, low_byte, read_name, pipe_name, result_of, set, file_read, address_put, value_put, file_set, file_sets, for_each, sets_from, first_stmts, later_stmts, later_block, all_decls, all_blocks, job_of}
 use Rattle.kp_gen.specs.declared.draws.Route.{Route}
 use Rattle.kp_gen.proofs.Forms.{register, pipe, read, put, file, pipe_AF, pipe_VF, file_result}
@@ -90,7 +90,7 @@ module _ (ds : List Decl) where
   small_file_set = omega (arith, of_binary BinOp.Add (name (pipe_name 0)) (name (codes "VF")), of_name (pipe_name 0), of_name (codes "VF"))
 
   -- the sum over these statements is at most `most`, and no check is violated
-  record Sized (most : ℕ) (c : Check ℕ) : Type 0 where
+  record Sized (most : ℕ) (c : Check (Finding StageFault) ℕ) : Type 0 where
     pub none : first c.asked ≡ None
     pub bound : c.value ≤ most
 
@@ -104,8 +104,8 @@ module _ (ds : List Decl) where
       let more = stmts_fit (total + size_of_stmt ds s) ss all.1 (omega (arith, one, h)) in
       let limit = more.bound in
       record {
-        none = past (answer (nat_le (total + size_of_stmt ds s) 100000) (e_rule 28 s.at)) (stmts_sized ds (total + size_of_stmt ds s) ss).asked
-            (holding (nat_le (total + size_of_stmt ds s) 100000) (e_rule 28 s.at) (le-leb (total + size_of_stmt ds s) 100000 (omega (arith, one, h)))) ∙ more.none;
+        none = past _ (stmts_sized ds (total + size_of_stmt ds s) ss).asked
+            (holding (nat_le (total + size_of_stmt ds s) 100000) _ (le-leb (total + size_of_stmt ds s) 100000 (omega (arith, one, h)))) ∙ more.none;
         bound = omega (arith, one, limit);
       }
 
@@ -179,8 +179,8 @@ decls_fit c [] h = (refl, record { room = h; reads_counted = refl; guesses_count
 decls_fit c (d ∷ ds) h =
     let room = one_more c d ds h in
     let more = decls_fit (with_decl c d) ds room in (
-      past (answer (is_within (with_decl c d)) (e_rule 29 (name_of d).at)) (decls_counted (with_decl c d) ds).asked
-          (holding (is_within (with_decl c d)) (e_rule 29 (name_of d).at) (within (with_decl c d) ds room)) ∙ more.0,
+      past _ (decls_counted (with_decl c d) ds).asked
+          (holding (is_within (with_decl c d)) _ (within (with_decl c d) ds room)) ∙ more.0,
       more.1,
     )
 
@@ -199,8 +199,8 @@ stmts_fit_counts c (s ∷ ss) h r g =
     let more = stmts_fit_counts (with_stmt c s) ss room (omega (arith, e, r)) (omega (arith, f, g)) in
     let a = more.1.reads_counted in
     let b = more.1.guesses_counted in (
-      past (answer (is_within (with_stmt c s)) (e_rule 29 (place_of_read s s.kind))) (stmts_counted (with_stmt c s) ss).asked
-          (holding (is_within (with_stmt c s)) (e_rule 29 (place_of_read s s.kind)) (within (with_stmt c s) [] room)) ∙ more.0,
+      past _ (stmts_counted (with_stmt c s) ss).asked
+          (holding (is_within (with_stmt c s)) _ (within (with_stmt c s) [] room)) ∙ more.0,
       record { room = more.1.room; reads_counted = omega (arith, e, a); guesses_counted = omega (arith, f, b) },
     )
 

@@ -1,10 +1,10 @@
 -- A generated job obeys a rule of stages if no form of declaration and of statement in it violates the rule.
 use Rattle.std.proofs.Common.{◌≡◌, ◌∙◌, ℕ, zero, suc, ◌+◌, ◌-◌, ◌<◌, ◌≤◌, List, [], ◌∷◌, ◌++◌, length, map, None, Some, refl, sym, subst, arith, append_assoc, Option, Bool, true, false}
 use Rattle.std.{specs.Prelude.codes, specs.Prelude.◌==◌, specs.List.range_with_len, proofs.lemmas.Bool.eqb-true}
-use Rattle.kp_base.specs.{First.first, Check.answer, Check.Answer, declared.refusal.Refusal.Refusal}
+use Rattle.kp_base.{specs.First.first, proofs.First.first_append_none}
 use Rattle.kp_ast.specs.declared.tree.{Decl.Decl, Stmt.Stmt, StmtKind.StmtKind, Named.Named, Num.Num, Expr.Expr, ReadStmt.ReadStmt}
-use Rattle.kp_stage.specs.{declared.rules.Rule.Rule, Facts.Facts}
-use Rattle.kp_stage.specs.Rules.{ask_head, ask_decl, ask_decls, ask_block, ask_stmt, ask_stmts, ask_in_block, ask_blocks, broken_at}
+use Rattle.kp_stage.specs.{declared.rules.Rule.Rule, Facts.Facts, Findings.Answer}
+use Rattle.kp_stage.specs.Rules.{ask_head, ask_decl, ask_decls, ask_block, ask_stmt, ask_stmts, ask_in_block, ask_blocks, asked_at}
 use Rattle.kp_gen.specs.Generated.{result_of, set, file_read, address_put, value_put, file_set, file_sets, for_each, sets_from, first_stmts, later_stmts, later_block, block, all_decls, all_blocks, job_of, read_from, read_name, register_name, low_byte}
 use Rattle.kp_gen.specs.declared.draws.Route.{Route}
 use Rattle.kp_gen.proofs.{Forms.register, Forms.pipe, Forms.read, Forms.put, Forms.file, Forms.pipe_AF, Forms.pipe_VF, Forms.file_result, Lookups.either}
@@ -102,27 +102,26 @@ module _ (facts : Facts) (rule : Rule) (Fine : ℕ → Route → Type 0) (n : �
       ∙ past (ask_stmt facts rule 0 ((m + 1) + m) address_put.kind) (ask_stmts facts rule 0 (((m + 1) + m) + 1) (value_put ∷ [])) h.address
       ∙ past (ask_stmt facts rule 0 (((m + 1) + m) + 1) value_put.kind) [] h.value
 
-  in_block : (k : ℕ) (ss : List Stmt) → ask_block facts rule k (block k ss) ≡ None → first (ask_stmts facts rule k 0 ss) ≡ None → ask_in_block facts rule k (block k ss) ≡ None
-  unfolding ask_in_block
+  in_block : (k : ℕ) (ss : List Stmt) → ask_block facts rule k (block k ss) ≡ None → first (ask_stmts facts rule k 0 ss) ≡ None → first (ask_in_block facts rule k (block k ss)) ≡ None
   in_block k ss a b = past (ask_block facts rule k (block k ss)) (ask_stmts facts rule k 0 ss) a ∙ b
 
   later_kept : (k c : ℕ) → k + c ≡ n → 1 ≤ k → KeepStmts → first (ask_blocks facts rule k (map (later_block rs) (range_with_len k c))) ≡ None
   later_kept k zero e some h = refl
   later_kept k (suc c) e some h =
-      past (ask_in_block facts rule k (later_block rs k)) (ask_blocks facts rule (k + 1) (map (later_block rs) (range_with_len (k + 1) c)))
+      first_append_none (ask_in_block facts rule k (later_block rs k)) (ask_blocks facts rule (k + 1) (map (later_block rs) (range_with_len (k + 1) c)))
       (in_block k (later_stmts rs k) (h.numbers k (later_stmts rs k) (omega arith)) (h.later k some (omega arith)))
       ∙ later_kept (k + 1) c (omega arith) (omega arith) h
 
   blocks_kept : 1 ≤ n → KeepStmts → first (ask_blocks facts rule 0 (all_blocks n rs)) ≡ None
   blocks_kept some h =
-      past (ask_in_block facts rule 0 (block 0 (first_stmts rs))) (ask_blocks facts rule 1 (map (later_block rs) (range_with_len 1 (n - 1))))
+      first_append_none (ask_in_block facts rule 0 (block 0 (first_stmts rs))) (ask_blocks facts rule 1 (map (later_block rs) (range_with_len 1 (n - 1))))
       (in_block 0 (first_stmts rs) (h.numbers 0 (first_stmts rs) (omega arith)) (first_kept h))
       ∙ later_kept 1 (n - 1) (omega arith) (omega arith) h
 
   -- so a job obeys the rule
-  pub rule_kept : 1 ≤ n → ask_head rule (job_of n rs) ≡ None → KeepDecls → KeepStmts → broken_at facts (job_of n rs) rule ≡ None
-  unfolding broken_at job_of
+  pub rule_kept : 1 ≤ n → ask_head rule (job_of n rs) ≡ None → KeepDecls → KeepStmts → first (asked_at facts (job_of n rs) rule) ≡ None
+  unfolding job_of
   rule_kept some head ds ss =
-      past (ask_head rule (job_of n rs)) (first (ask_decls facts rule 0 (all_decls n rs)) ∷ first (ask_blocks facts rule 0 (all_blocks n rs)) ∷ []) head
-      ∙ past (first (ask_decls facts rule 0 (all_decls n rs))) (first (ask_blocks facts rule 0 (all_blocks n rs)) ∷ []) (decls_kept ds)
-      ∙ past (first (ask_blocks facts rule 0 (all_blocks n rs))) [] (blocks_kept some ss)
+      past (ask_head rule (job_of n rs)) (ask_decls facts rule 0 (all_decls n rs) ++ ask_blocks facts rule 0 (all_blocks n rs)) head
+      ∙ first_append_none (ask_decls facts rule 0 (all_decls n rs)) (ask_blocks facts rule 0 (all_blocks n rs)) (decls_kept ds)
+      ∙ blocks_kept some ss

@@ -1,17 +1,20 @@
 -- Declarations that violate no rule: their numbers fit, and a register or file is found under its name.
 use Rattle.std.proofs.Common.{◌≡◌, ◌∙◌, ℕ, ◌+◌, ◌^◌, ◌<◌, ◌≤◌, List, [], ◌∷◌, ◌++◌, map, Option, Some, None, Bool, true, false, cond, refl, ap, sym, subst}
 use Rattle.std.proofs.lemmas.{Bool.leb-true, Bool.ltb-true, Bool.eqb-true, Bool.and_parts, List.map-append, List.append_assoc}
-use Rattle.std.{proofs.lemmas.List.Elements.All-nil, proofs.lemmas.List.Elements.All-cons, specs.Prelude.not, specs.Prelude.nat_eq, specs.Prelude.is_some}
+use Rattle.std.{proofs.lemmas.List.Elements.All-nil, proofs.lemmas.List.Elements.All-cons, specs.Prelude.not, specs.Prelude.nat_eq, specs.Prelude.is_some, specs.Prelude.if◌then◌else◌, specs.Prelude.nat_le, specs.Prelude.nat_lt, specs.Prelude.◌&&◌, specs.Prelude.◌==◌, specs.Prelude.Ok, specs.Prelude.Err}
 use Rattle.std.specs.{List.All, Cmp.Lexicographic.pointwise, Cmp.Lexicographic.nat_list_eq_equiv}
 use Rattle.kp_base.{specs.First.first, specs.Check.ok, specs.Check.◌>>=◌, proofs.First.first_append_none}
-use Rattle.kp_bits.specs.Word.{IsWord, word}
+use Rattle.kp_base.specs.declared.place.Place.{Place}
+use Rattle.kp_bits.specs.{Word.IsWord, Word.word, declared.literal.LiteralFault.TheVariants.BadWidth, declared.literal.LiteralFault.TheVariants.TooBig}
 use Rattle.kp_ast.specs.declared.tree.{Lit.Lit, Decl.Decl}
 use Rattle.kp_ast.specs.declared.tree.Decl.TheVariants as decls
 use Rattle.kp_ast.specs.declared.widths.NameKind.TheVariants as kinds
 use Rattle.kp_width.specs.Names.{Names, Sense, sense, Scoped, look_up, or_else, declared_text}
 use Rattle.kp_width.specs.Declarations.{declared, start_of, started_of, function_opened, name_of, after_name, declaration_of, declarations_of, functions_in}
 use Rattle.kp_width.proofs.{Unbroken.Unbroken, Unbroken.bind_unbroken, Unbroken.answer_unbroken, Calls.parameters_text}
-use Rattle.kp_image.specs.Sections.{storage_in, storage_named, storage_of}
+use Rattle.kp_image.specs.Sections.{declared_by, declared_as, declared_in, literal_of, word_found}
+use Rattle.kp_image.specs.declared.check.Declared.{Declared}
+use Rattle.kp_image.proofs.Unbroken.{answer_none}
 
 -- a literal that is right is a word as wide as what it is given to
 pub record IsFit (l : Lit) (w : ℕ) : Type 0 where
@@ -29,6 +32,18 @@ fits l w e =
     let c = answer_unbroken _ _ _ b.1 in
     let wide = and_parts _ _ a.0 in
     fit_at l w (eqb-true _ _ c.0) (leb-true _ _ wide.0) (leb-true _ _ wide.1) (ltb-true _ _ b.0)
+
+-- and so is one that violates no rule in a section
+fit_where : (name : Place) (d : Declared) (l : Lit) (wide fits : Bool) → (nat_le 1 l.literal.width && nat_le l.literal.width 64) ≡ wide → nat_lt l.literal.value (2 ^ l.literal.width) ≡ fits
+    → word_found name d l (if wide then (if fits then Ok (word l.literal.width l.literal.value) else Err TooBig) else Err BadWidth) ≡ None → IsFit l d.width
+fit_where name d l true true wide fits e =
+    let both = and_parts _ _ wide in
+    fit_at l d.width (eqb-true _ _ (answer_none (l.literal.width == d.width) _ e)) (leb-true _ _ both.0) (leb-true _ _ both.1) (ltb-true _ _ fits)
+fit_where name d l true false wide fits e = cc
+fit_where name d l false fits wide below e = cc
+
+pub literal_fits : (name : Place) (d : Declared) (l : Lit) → literal_of name d l ≡ None → IsFit l d.width
+literal_fits name d l e = fit_where name d l _ _ refl refl e
 
 -- what the numbers of a declaration are
 abbrev pub IsRight : Decl → Type 0
@@ -85,45 +100,33 @@ missed (x ∷ es) n m q e =
     let b = missed es n m q a.1 in
     (cond_none _ x.1 _ a.0 b.0, b.1)
 
--- no register or file among these has a name that is not in scope
+-- no declaration among these has a name that is not in scope
 abbrev Hides : List Decl → Names → Type 0
-Hides front text = (q : List ℕ) → look_up text q ≡ None → storage_of front q ≡ None
+Hides front text = (q : List ℕ) → look_up text q ≡ None → declared_in front q ≡ None
 
-not_named : (d : Decl) (q : List ℕ) → pointwise nat_eq q (name_of d).name ≡ false → storage_named q d ≡ None
-not_named (decls.Reg n width start) q e = rw (nat_list_eq_equiv.symm n.name q ∙ e) refl
-not_named (decls.File n width address) q e = rw (nat_list_eq_equiv.symm n.name q ∙ e) refl
-not_named (decls.Sample n width stage) q e = rw (nat_list_eq_equiv.symm n.name q ∙ e) refl
-not_named x q e = refl
+not_named : (d : Decl) (q : List ℕ) → pointwise nat_eq q (name_of d).name ≡ false → declared_as q d ≡ None
+not_named d q e = rw (nat_list_eq_equiv.symm (name_of d).name q ∙ e) refl
 
-storage_past : (front rest : List Decl) (q : List ℕ) → storage_of front q ≡ None → storage_of (front ++ rest) q ≡ storage_of rest q
-storage_past front rest q none = ap first (map-append (storage_named q) front rest) ∙ first_append_none (map (storage_named q) front) (map (storage_named q) rest) none
+declared_past : (front rest : List Decl) (q : List ℕ) → declared_in front q ≡ None → declared_in (front ++ rest) q ≡ declared_in rest q
+declared_past front rest q none = ap first (map-append (declared_as q) front rest) ∙ first_append_none (map (declared_as q) front) (map (declared_as q) rest) none
 
-storage_one : (d : Decl) (q : List ℕ) → storage_named q d ≡ None → storage_of (d ∷ []) q ≡ None
-storage_one d q e = ap (λ o. first (o ∷ [])) e
+declared_one : (d : Decl) (q : List ℕ) → declared_as q d ≡ None → declared_in (d ∷ []) q ≡ None
+declared_one d q e = ap (λ o. first (o ∷ [])) e
 
 hides_more : (front : List Decl) (d : Decl) (old new : Names) → Hides front old → Adds old (name_of d).name new → Hides (front ++ d ∷ []) new
 hides_more front d old new hides (m, e) q none =
     let before = missed old (name_of d).name m q (ap (λ (text : Names). look_up text q) (sym e) ∙ none) in
-    storage_past front (d ∷ []) q (hides q before.0) ∙ storage_one d q (not_named d q before.1)
+    declared_past front (d ∷ []) q (hides q before.0) ∙ declared_one d q (not_named d q before.1)
 
--- a register or file is found under its name
+-- a declaration is found under its name
 abbrev pub IsFound : List Decl → Decl → Type 0
-IsFound all (decls.Reg n width start) = storage_of all n.name ≡ storage_in (decls.Reg n width start)
-IsFound all (decls.File n width address) = storage_of all n.name ≡ storage_in (decls.File n width address)
-IsFound all (decls.Sample n width stage) = storage_of all n.name ≡ storage_in (decls.Sample n width stage)
-IsFound all _ = Unit {0}
+IsFound all d = declared_in all (name_of d).name ≡ Some (declared_by d)
 
 found_here : (d : Decl) (rest : List Decl) → IsFound (d ∷ rest) d
-found_here (decls.Reg n width start) rest = rw (nat_list_eq_equiv.refl n.name) refl
-found_here (decls.File n width address) rest = rw (nat_list_eq_equiv.refl n.name) refl
-found_here (decls.Sample n width stage) rest = rw (nat_list_eq_equiv.refl n.name) refl
-found_here x rest = tt
+found_here d rest = rw (nat_list_eq_equiv.refl (name_of d).name) refl
 
-found_past : (front rest : List Decl) (d : Decl) → storage_of front (name_of d).name ≡ None → IsFound rest d → IsFound (front ++ rest) d
-found_past front rest (decls.Reg n width start) none found = storage_past front rest n.name none ∙ found
-found_past front rest (decls.File n width address) none found = storage_past front rest n.name none ∙ found
-found_past front rest (decls.Sample n width stage) none found = storage_past front rest n.name none ∙ found
-found_past front rest x none found = tt
+found_past : (front rest : List Decl) (d : Decl) → declared_in front (name_of d).name ≡ None → IsFound rest d → IsFound (front ++ rest) d
+found_past front rest d none found = declared_past front rest (name_of d).name none ∙ found
 
 text_none : (a b : Option Sense) → not (is_some (or_else a b)) ≡ true → b ≡ None
 text_none None None e = refl

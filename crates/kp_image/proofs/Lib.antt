@@ -3,3 +3,4 @@ pub mod Feeding
 pub mod Given
 pub mod Loops
 pub mod Patterns
+pub mod Unbroken

@@ -1,3 +1,4 @@
+pub mod Faults
 pub mod Sections
 pub mod Cycles
 pub mod Spans

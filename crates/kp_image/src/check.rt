@@ -1,53 +1,66 @@
-// Rules of the sections.
-ghost use Rattle.std.specs.Prelude.{◌≡◌, [], MatchResult, Some, None, unwrap_or};
-ghost use Rattle.std.specs.List.{All};
-ghost use Rattle.kp_base.specs.First.{first};
-ghost use Rattle.kp_width.specs.Declarations.{start_of};
-ghost use Rattle.kp_image.specs.Sections.{storage_in, storage_named, storage_of, suits, target_of, address_of, values_of, entry_of, entries_of, step_of, stall_of, stalls_checked, sample_of, input_of, inputs_checked, sections_of};
-ghost use Rattle.kp_image.specs.inner.Fits.{HasFewWords};
+// The rules of the sections.
+ghost use Rattle.std.specs.Prelude.{◌≡◌, [], IfOk, OnOk, map, take, unwrap_or};
+ghost use Rattle.kp_base.specs.{First.Answers, First.first, Findings.findings, Findings.with_answers};
+ghost use Rattle.kp_width.specs.Declarations.{name_of};
 ghost use Rattle.kp_stage.specs.Start.{first_address};
+ghost use Rattle.kp_image.specs.Faults.{refusal_of};
+ghost use Rattle.kp_image.specs.Sections.{broken_unless, found, declared_by, declared_in, literal_of, no_word, values_of, address_of, target_of, entry_of, step_of, stall_of, sample_of, input_of, asked_by, sections_of};
 
-use kp_ast::{Decl, Image, Inputs, Job, Lit, Name, Num, Stalls};
-use kp_base::{List, Refusal};
+use crate::fault::SectionFault;
+use kp_ast::{Decl, Image, Inputs, Job, Lit, Name, NameKind, Named, Num, Stalls};
+use kp_base::{Finding, Findings, List, NoMemory, Place, Refusal, Refused};
 use kp_bits::LiteralFault;
-use std::marker::Model;
+use std::alloc::Global;
 
-// The destination of an entry's values.
+// What is declared under a name: its kind, the place of the name, the width of its words, and how many it has.
 #[derive(Clone, Copy)]
-struct Storage {
+pub(crate) struct Declared {
+    kind: NameKind,
+    at: Place,
     width: u64,
     words: u64,
-    addressed: bool,
-    sampled: bool,
 }
 
-impl Model for Storage {
-    ghost use Rattle.kp_image.specs.Sections.{Storage};
-
-    ghost Value = { Storage };
-
-    ghost view = { λ s. record { width = s.width; words = s.words; addressed = s.addressed; sampled = s.sampled } };
-
-    ghost inverse = { λ s. record { width = s.width; words = s.words; addressed = s.addressed; sampled = s.sampled } };
-}
-
-/// The first of the rules E30 to E32, E36, E37, E8, E10 and E13 that a section violates, in text order.
-#[tactic(auto, using(crate::proofs::Patterns::outcome_of_steps))]
-pub(crate) fn check(job: &Job) -> Result<(), Refusal>
-    requires { All HasFewWords job.now.decls }
-    ensures { MatchResult result (λ _. first (sections_of job.now).asked ≡ None) (λ r. first (sections_of job.now).asked ≡ Some r) }
+/// The violations in the sections of a job, up to `most`, in text order: of each entry the first. The only error is out of memory.
+#[tactic(auto, using(kp_base::proofs::Collecting::first_of_all))]
+pub fn section_findings(
+    alloc: Global,
+    job: &Job,
+    most: usize,
+) -> Result<Findings<Finding<SectionFault>>, NoMemory>
+    ensures { IfOk result (λ f. f.found ≡ take most (findings (asked_by job.now))) }
 {
-    by_steps(job)
+    let mut notes = Findings::new(alloc, most);
+    note_sections(&mut notes, job)?;
+    Ok(notes)
 }
 
-#[tactic(auto, unfolding(crate::specs::Sections::sections_of))]
-fn by_steps(job: &Job) -> Result<(), Refusal>
-    requires { All HasFewWords job.now.decls }
-    ensures { result ≡ (sections_of job.now).found }
+// Whether the sections violate no rule, or the first one that they violate.
+#[tactic(auto, using(crate::proofs::Unbroken::verdict))]
+pub(crate) fn check(alloc: Global, job: &Job) -> Result<(), Refused>
+    ensures { Answers result (first (sections_of job.now).asked) (λ _. Unit {0}) }
 {
-    check_entries(job.decls.as_slice(), entries(&job.image))?;
-    check_stalls(job.stages.value, entries(&job.stalls))?;
-    check_inputs(job.decls.as_slice(), entries(&job.inputs))
+    let found = section_findings(alloc, job, 1)?;
+    match found.as_slice().first().copied() {
+        Some(finding) => Err(Refused::Rule(refusal_of(finding))),
+        None => Ok(()),
+    }
+}
+
+fn refusal_of(finding: Finding<SectionFault>) -> Refusal
+    ensures { result ≡ refusal_of finding }
+{
+    Refusal::e(finding.fault.rule(), finding.place)
+}
+
+#[tactic(auto, unfolding(crate::specs::Sections::asked_by), using(kp_base::proofs::Collecting::append))]
+fn note_sections(notes: &mut Findings<Finding<SectionFault>>, job: &Job) -> Result<(), NoMemory>
+    ensures { OnOk result (notes.new ≡ with_answers notes.old (asked_by job.now)) }
+{
+    let decls = job.decls.as_slice();
+    note_image(notes, decls, entries(&job.image))?;
+    note_stalls(notes, job.stages.value, entries(&job.stalls))?;
+    note_inputs(notes, decls, entries(&job.inputs))
 }
 
 // The entries of a section: none if the job doesn't have it.
@@ -70,171 +83,252 @@ pub(crate) fn first_address(e: &Image) -> u64
     }
 }
 
-fn check_entries(decls: &[Decl], entries: &[Image]) -> Result<(), Refusal>
-    requires { All HasFewWords decls.now }
-    ensures { result ≡ (entries_of decls.now entries.now).found }
+fn note_image(
+    notes: &mut Findings<Finding<SectionFault>>,
+    decls: &[Decl],
+    entries: &[Image],
+) -> Result<(), NoMemory>
+    ensures { OnOk result (notes.new ≡ with_answers notes.old (map (entry_of decls.now) entries.now)) }
 {
     for e in entries {
-        check_entry(decls, e)?;
+        notes.note(of_entry(decls, e))?;
+    }
+    Ok(())
+}
+
+fn note_stalls(
+    notes: &mut Findings<Finding<SectionFault>>,
+    stages: u64,
+    entries: &[Stalls],
+) -> Result<(), NoMemory>
+    ensures { OnOk result (notes.new ≡ with_answers notes.old (map (stall_of stages) entries.now)) }
+{
+    for e in entries {
+        notes.note(of_stall(stages, e))?;
+    }
+    Ok(())
+}
+
+fn note_inputs(
+    notes: &mut Findings<Finding<SectionFault>>,
+    decls: &[Decl],
+    entries: &[Inputs],
+) -> Result<(), NoMemory>
+    ensures { OnOk result (notes.new ≡ with_answers notes.old (map (input_of decls.now) entries.now)) }
+{
+    for e in entries {
+        notes.note(of_input(decls, e))?;
     }
     Ok(())
 }
 
 #[tactic(auto, unfolding(crate::specs::Sections::entry_of))]
-fn check_entry(decls: &[Decl], e: &Image) -> Result<(), Refusal>
-    requires { All HasFewWords decls.now }
-    ensures { result ≡ (entry_of decls.now e.now).found }
+fn of_entry(decls: &[Decl], e: &Image) -> Option<Finding<SectionFault>>
+    ensures { result ≡ entry_of decls.now e.now }
 {
-    let storage = target(e, find_storage(decls, &e.name.name))?;
-    check_address(storage.words, e.address)?;
-    check_values(
-        storage.width,
-        storage.words,
-        first_address(e),
-        e.values.as_slice(),
-    )
+    let name = e.name.at;
+    let Some(declared) = declared_in(decls, &e.name.name) else {
+        return found(SectionFault::Unknown, name);
+    };
+    let target = of_target(name, declared, e.address);
+    let address = of_address(name, declared.words, e.address);
+    let values = of_values(name, declared, first_address(e), e.values.as_slice());
+    target.or(address.or(values))
 }
 
-// The register, file or sample with this name.
-fn find_storage(decls: &[Decl], name: &Name) -> Option<Storage>
-    requires { All HasFewWords decls.now }
-    ensures { result ≡ storage_of decls.now name.now }
+// The declaration of a name.
+fn declared_in(decls: &[Decl], name: &Name) -> Option<Declared>
+    ensures { result ≡ declared_in decls.now name.now }
 {
     for decl in decls {
-        if let Some(storage) = storage_named(name, decl) {
-            return Some(storage);
+        if name_of(decl).name == *name {
+            return Some(declared_by(decl));
         }
     }
     None
 }
 
-fn storage_named(name: &Name, decl: &Decl) -> Option<Storage>
-    requires { HasFewWords decl.now }
-    ensures { result ≡ storage_named name.now decl.now }
+fn name_of(decl: &Decl) -> &Named
+    ensures { result.now ≡ name_of decl.now }
 {
     match decl {
-        Decl::Reg(n, width, _) if n.name == *name => Some(Storage {
-            width: width.value,
-            words: 1,
-            addressed: false,
-            sampled: false,
-        }),
-        Decl::File(n, width, address) if n.name == *name => Some(Storage {
-            width: width.value,
-            words: 1 << address.value,
-            addressed: true,
-            sampled: false,
-        }),
-        Decl::Sample(n, width, _) if n.name == *name => Some(Storage {
-            width: width.value,
-            words: 1,
-            addressed: false,
-            sampled: true,
-        }),
-        _ => None,
+        Decl::Reg(name, _, _)
+        | Decl::File(name, _, _)
+        | Decl::Pipe(name, _)
+        | Decl::Hint(name, _, _)
+        | Decl::Sample(name, _, _) => name,
+        Decl::Target(result) => &result.name,
+        Decl::Func(func) => &func.name,
     }
 }
 
-fn target(e: &Image, storage: Option<Storage>) -> Result<Storage, Refusal>
-    ensures { result ≡ (target_of e.now storage).found }
+fn declared_by(decl: &Decl) -> Declared
+    ensures { result ≡ declared_by decl.now }
 {
-    match storage {
-        Some(storage) if !storage.sampled && storage.addressed == e.address.is_some() => Ok(
-            storage,
-        ),
-        _ => Err(Refusal::e(30, e.name.at)),
+    let at = name_of(decl).at;
+    let (kind, width, words) = match decl {
+        Decl::Reg(_, width, _) => (NameKind::Reg, width.value, 1),
+        Decl::File(_, width, address) => {
+            let bits = address.value.min(16);
+            (NameKind::File(bits as u8), width.value, 1 << bits)
+        }
+        Decl::Pipe(_, width) => (NameKind::Pipe, width.value, 1),
+        Decl::Hint(_, width, _) => (NameKind::Hint, width.value, 1),
+        Decl::Target(result) => (NameKind::Target, result.width.value, 1),
+        Decl::Func(func) => (NameKind::Func, func.width.value, 1),
+        Decl::Sample(_, width, _) => (NameKind::Sample, width.value, 1),
+    };
+    Declared {
+        kind,
+        at,
+        width,
+        words,
     }
 }
 
-fn check_address(words: u64, address: Option<Num>) -> Result<(), Refusal>
-    ensures { result ≡ (address_of words address).found }
+fn of_target(name: Place, declared: Declared, address: Option<Num>) -> Option<Finding<SectionFault>>
+    ensures { result ≡ target_of name declared.kind declared.at address }
 {
-    match address {
-        Some(n) if n.value >= words => Err(Refusal::e(31, n.at)),
-        _ => Ok(()),
+    let at = declared.at;
+    match (declared.kind, address) {
+        (NameKind::Reg, None) | (NameKind::File(_), Some(_)) => None,
+        (NameKind::Reg, Some(_)) => found(SectionFault::NeedlessAddress { declared: at }, name),
+        (NameKind::File(_), None) => found(SectionFault::NoAddress { declared: at }, name),
+        (kind, _) => found(SectionFault::Empty { kind, declared: at }, name),
     }
 }
 
-// Checks the literals for the words from one on, where there are this many words of this width.
-fn check_values(width: u64, words: u64, first: u64, values: &[Lit]) -> Result<(), Refusal>
-    ensures { result ≡ (values_of width words first values.now).found }
+fn of_address(name: Place, words: u64, address: Option<Num>) -> Option<Finding<SectionFault>>
+    ensures { result ≡ address_of name words address }
+{
+    let Num { value: address, at } = address?;
+    let fault = SectionFault::AddressBeyond {
+        name,
+        words,
+        address,
+    };
+    broken_unless(address < words, fault, at)
+}
+
+// The literals for the words from one on.
+fn of_values(
+    name: Place,
+    declared: Declared,
+    first: u64,
+    values: &[Lit],
+) -> Option<Finding<SectionFault>>
+    ensures { result ≡ values_of name declared first values.now }
 {
     let mut address = first;
     for lit in values {
-        if address >= words {
-            return Err(Refusal::e(31, lit.at));
+        if address >= declared.words {
+            return found(no_word(name, declared), lit.at);
         }
-        check_literal(lit, width)?;
+        let answer = of_literal(name, declared, lit);
+        if answer.is_some() {
+            return answer;
+        }
         address += 1;
     }
-    Ok(())
+    None
 }
 
-// Checks that a literal is valid, and has the width of its destination.
-fn check_literal(lit: &Lit, width: u64) -> Result<(), Refusal>
-    ensures { result ≡ (start_of lit.now width).found }
+// A literal where there is no word for it.
+fn no_word(name: Place, declared: Declared) -> SectionFault
+    ensures { result ≡ no_word declared.kind name declared.words }
 {
+    match declared.kind {
+        NameKind::Reg => SectionFault::SecondStart { name },
+        _ => SectionFault::WordBeyond {
+            name,
+            words: declared.words,
+        },
+    }
+}
+
+// Checks that a literal is a word, and has the width of its destination.
+fn of_literal(name: Place, declared: Declared, lit: &Lit) -> Option<Finding<SectionFault>>
+    ensures { result ≡ literal_of name declared lit.now }
+{
+    let Declared { kind, width, .. } = declared;
+    let value = lit.literal.value;
     match lit.literal.fit() {
-        Ok(bits) if u64::from(bits.width()) == width => Ok(()),
-        Ok(_) => Err(Refusal::e(10, lit.at)),
-        Err(LiteralFault::TooBig) => Err(Refusal::e(13, lit.at)),
-        Err(_) => Err(Refusal::e(8, lit.at)),
+        Ok(word) => {
+            let found = word.width();
+            let fault = SectionFault::ValueWidth {
+                name,
+                kind,
+                width,
+                found,
+                value,
+            };
+            broken_unless(u64::from(found) == width, fault, lit.at)
+        }
+        Err(LiteralFault::TooBig) => {
+            let width = lit.literal.width;
+            found(SectionFault::LiteralValue { width, value }, lit.at)
+        }
+        Err(_) => {
+            let width = lit.literal.width;
+            found(SectionFault::LiteralWidth { width }, lit.at)
+        }
     }
 }
 
-fn check_stalls(stages: u64, entries: &[Stalls]) -> Result<(), Refusal>
-    ensures { result ≡ (stalls_checked stages entries.now).found }
+fn of_stall(stages: u64, e: &Stalls) -> Option<Finding<SectionFault>>
+    ensures { result ≡ stall_of stages e.now }
 {
-    for e in entries {
-        check_stall(stages, e)?;
-    }
-    Ok(())
+    let Num { value: found, at } = e.stage;
+    let stage = broken_unless(found < stages, SectionFault::NoStage { found, stages }, at);
+    stage.or(of_step(SectionFault::StallStep, e.step))
 }
 
-fn check_stall(stages: u64, e: &Stalls) -> Result<(), Refusal>
-    ensures { result ≡ (stall_of stages e.now).found }
+fn of_step(fault: SectionFault, step: Option<Num>) -> Option<Finding<SectionFault>>
+    ensures { result ≡ step_of fault step }
 {
-    if e.stage.value >= stages {
-        return Err(Refusal::e(32, e.stage.at));
-    }
-    check_step(32, e.step)
-}
-
-// Checks a step, by the rule of this number.
-fn check_step(rule: u8, step: Option<Num>) -> Result<(), Refusal>
-    ensures { result ≡ (step_of rule step).found }
-{
-    match step {
-        Some(n) if n.value == 0 => Err(Refusal::e(rule, n.at)),
-        _ => Ok(()),
-    }
-}
-
-fn check_inputs(decls: &[Decl], entries: &[Inputs]) -> Result<(), Refusal>
-    requires { All HasFewWords decls.now }
-    ensures { result ≡ (inputs_checked decls.now entries.now).found }
-{
-    for e in entries {
-        check_input(decls, e)?;
-    }
-    Ok(())
+    let Num { value, at } = step?;
+    broken_unless(value != 0, fault, at)
 }
 
 #[tactic(auto, unfolding(crate::specs::Sections::input_of))]
-fn check_input(decls: &[Decl], e: &Inputs) -> Result<(), Refusal>
-    requires { All HasFewWords decls.now }
-    ensures { result ≡ (input_of decls.now e.now).found }
+fn of_input(decls: &[Decl], e: &Inputs) -> Option<Finding<SectionFault>>
+    ensures { result ≡ input_of decls.now e.now }
 {
-    let storage = sample(e, find_storage(decls, &e.name.name))?;
-    check_literal(&e.value, storage.width)?;
-    check_step(37, e.step)
+    let name = e.name.at;
+    let Some(declared) = declared_in(decls, &e.name.name) else {
+        return found(SectionFault::UnknownSample, name);
+    };
+    let value = of_literal(name, declared, &e.value);
+    let step = of_step(SectionFault::InputStep, e.step);
+    of_sample(name, declared).or(value.or(step))
 }
 
-fn sample(e: &Inputs, storage: Option<Storage>) -> Result<Storage, Refusal>
-    ensures { result ≡ (sample_of e.now storage).found }
+fn of_sample(name: Place, declared: Declared) -> Option<Finding<SectionFault>>
+    ensures { result ≡ sample_of name declared.kind declared.at }
 {
-    match storage {
-        Some(storage) if storage.sampled => Ok(storage),
-        _ => Err(Refusal::e(36, e.name.at)),
+    match declared.kind {
+        NameKind::Sample => None,
+        kind => found(
+            SectionFault::NoSample {
+                kind,
+                declared: declared.at,
+            },
+            name,
+        ),
     }
+}
+
+fn broken_unless(holds: bool, fault: SectionFault, place: Place) -> Option<Finding<SectionFault>>
+    ensures { result ≡ broken_unless holds fault place }
+{
+    if holds {
+        return None;
+    }
+    found(fault, place)
+}
+
+fn found(fault: SectionFault, place: Place) -> Option<Finding<SectionFault>>
+    ensures { result ≡ found fault place }
+{
+    Some(Finding { place, fault })
 }

@@ -3,7 +3,7 @@ ghost use Rattle.std.specs.Prelude.{◌≡◌, ◌≤◌, ℕ, IfOk, None};
 ghost use Rattle.std.specs.List.{All};
 ghost use Rattle.kp_base.specs.First.{Answers, first};
 ghost use Rattle.kp_stage.specs.Start.{start_of, image_of, stalls_of, stall_word, inputs_of, input, IsStartOf, AreSamples};
-ghost use Rattle.kp_image.specs.{Sections.sections_of, Sections.stalls_checked, inner.Fits.StartFits, Spans.word_in, Feeds.row_in, inner.Kept.InputsFit};
+ghost use Rattle.kp_image.specs.{Sections.sections_of, Sections.stall_of, inner.Fits.StartFits, Spans.word_in, Feeds.row_in, inner.Kept.InputsFit};
 
 use crate::check::{check, entries};
 use crate::inputs::InputPattern;
@@ -36,14 +36,14 @@ impl Drop for Sections {
 
 /// The start state of a design, its stall words and the values of its samples. Errors: the first of the rules E30 to
 /// E32, E36, E37, E8, E10 and E13 that a section violates, in text order; or out of memory.
-#[tactic(auto, using(crate::proofs::Given::few_words, crate::proofs::Given::start_fits, crate::proofs::Given::stalls_right, crate::proofs::Given::inputs_fit, crate::proofs::Given::starts, crate::proofs::Given::few_stages_of))]
+#[tactic(auto, using(crate::proofs::Given::start_fits, crate::proofs::Given::stalls_right, crate::proofs::Given::inputs_fit, crate::proofs::Given::starts, crate::proofs::Given::few_stages_of))]
 pub fn start(alloc: Global, d: &Design) -> Result<Sections, Refused>
     ensures rules { Answers result (first (sections_of d.now.job).asked) (λ s. (s.start ≡ start_of d.now.job) × (word_in s.stalls ≡ stall_word d.now.job) × (row_in s.inputs ≡ input d.now.job)) }
     ensures suits { IfOk result (λ s. IsStartOf d.now.job s.start) }
     ensures rows { IfOk result (λ s. (cycle : ℕ) → AreSamples d.now.job.decls (row_in s.inputs cycle)) }
 {
     let job = d.job();
-    check(job)?;
+    check(alloc, job)?;
     Ok(read_sections(alloc, job)?)
 }
 
@@ -52,7 +52,7 @@ pub fn start(alloc: Global, d: &Design) -> Result<Sections, Refused>
 fn read_sections(alloc: Global, job: &Job) -> Result<Sections, NoMemory>
     requires few { job.now.stages.value ≤ 12 }
     requires start { All (StartFits (image_of job.now)) job.now.decls }
-    requires stalls { first (stalls_checked job.now.stages.value (stalls_of job.now)).asked ≡ None }
+    requires stalls { All (λ e. stall_of job.now.stages.value e ≡ None) (stalls_of job.now) }
     requires inputs { All (InputsFit (inputs_of job.now)) job.now.decls }
     ensures start { IfOk result (λ s. s.start ≡ start_of job.now) }
     ensures stalls { IfOk result (λ s. word_in s.stalls ≡ stall_word job.now) }

@@ -1,9 +1,8 @@
 // The stall pattern: the stages that are stalled externally.
 ghost use Rattle.std.specs.Prelude.{◌≡◌, ℕ, ◌+◌, ◌^◌, ◌≤◌, ◌<◌, IfOk, None, length, map, slice_index_or, false};
 ghost use Rattle.std.specs.List.{All};
-ghost use Rattle.kp_base.specs.First.{first};
 ghost use Rattle.kp_stage.specs.Start.{bits_below};
-ghost use Rattle.kp_image.specs.{Sections.stalls_checked, Sections.stall_of, Spans.span_stalls, Spans.some_stalls, Spans.IsSpan, Spans.word_in};
+ghost use Rattle.kp_image.specs.{Sections.stall_of, Spans.span_stalls, Spans.some_stalls, Spans.IsSpan, Spans.word_in};
 ghost use Rattle.kp_image.specs.inner.Kept.{pattern_of, span_of};
 
 use crate::cycles::Cycles;
@@ -64,7 +63,7 @@ impl StallPattern {
         entries: &[Stalls],
     ) -> Result<StallPattern, NoMemory>
         requires few { stages ≤ 12 }
-        requires right { first (stalls_checked stages entries.now).asked ≡ None }
+        requires right { All (λ e. stall_of stages e ≡ None) entries.now }
         ensures { IfOk result (λ p. p ≡ pattern_of stages entries.now) }
     {
         let spans = spans(alloc, stages, entries)?;
@@ -85,7 +84,7 @@ impl StallPattern {
 
 fn spans(alloc: Global, stages: u64, entries: &[Stalls]) -> Result<Vec<Span>, NoMemory>
     requires few { stages ≤ 12 }
-    requires right { first (stalls_checked stages entries.now).asked ≡ None }
+    requires right { All (λ e. stall_of stages e ≡ None) entries.now }
     ensures { IfOk result (λ spans. spans.items ≡ map span_of entries.now) }
 {
     let mut spans = Vec::new(alloc);
@@ -97,7 +96,7 @@ fn spans(alloc: Global, stages: u64, entries: &[Stalls]) -> Result<Vec<Span>, No
 
 fn span_for(stages: u64, e: &Stalls) -> Span
     requires few { stages ≤ 12 }
-    requires right { first (stall_of stages e.now).asked ≡ None }
+    requires right { stall_of stages e.now ≡ None }
     ensures { result ≡ span_of e.now }
 {
     Span {

@@ -3,7 +3,7 @@
 use Rattle.std.proofs.Common.{◌≡◌, ◌∙◌, ℕ, ◌+◌, ◌≤◌, List, [], ◌∷◌, Some, None, Bool, true, false, cond, not, ◌||◌, refl, ap, sym, subst}
 use Rattle.std.{proofs.lemmas.Bool.cond_both, proofs.lemmas.Bool.or_left, proofs.lemmas.Bool.or_right, specs.Prelude.is_some}
 use Rattle.std.specs.Cmp.Lexicographic.{bytes_decides}
-use Rattle.kp_base.specs.{Refusal.e_rule, Check.ok}
+use Rattle.kp_base.specs.{Check.ok}
 use Rattle.kp_ast.specs.{Expressions.is_same_name, declared.tree.Decl.Decl, declared.widths.NameKind.NameKind}
 use Rattle.kp_ast.specs.declared.tree.Decl.TheVariants as decls
 use Rattle.kp_ast.specs.declared.widths.NameKind.TheVariants as kinds
@@ -52,13 +52,13 @@ is_pipe_or_sample kind = is_pipe kind || is_sample kind
 wide : (ds : List Decl) (i k : ℕ) (s : Scoped) (d : Decl) → is_pipe_or_sample (sense_of i d).kind ≡ true → Unbroken (declaration_of ds i k s d)
     → (1 ≤ (sense_of i d).width) × ((sense_of i d).width ≤ 64)
 wide ds i k s (decls.Pipe n width) e u =
-    let y = (answer_unbroken (not (is_some (find s n.name))) (e_rule 5 n.at) (after_name ds i k s (decls.Pipe n width)).asked u).1 in
+    let y = (answer_unbroken (not (is_some (find s n.name))) _ (after_name ds i k s (decls.Pipe n width)).asked u).1 in
     let z = (bind_unbroken (declared width) (λ w. ok (declared_text s n.name (sense kinds.Pipe w i))) y).0 in
-    bounds width.value (answer_unbroken (is_width width.value) (e_rule 8 width.at) [] z).0
+    bounds width.value (answer_unbroken (is_width width.value) _ [] z).0
 wide ds i k s (decls.Sample n width stage) e u =
-    let y = (answer_unbroken (not (is_some (find s n.name))) (e_rule 5 n.at) (after_name ds i k s (decls.Sample n width stage)).asked u).1 in
+    let y = (answer_unbroken (not (is_some (find s n.name))) _ (after_name ds i k s (decls.Sample n width stage)).asked u).1 in
     let z = (bind_unbroken (declared width) (λ w. ok (declared_text s n.name (sense kinds.Sample w i))) y).0 in
-    bounds width.value (answer_unbroken (is_width width.value) (e_rule 8 width.at) [] z).0
+    bounds width.value (answer_unbroken (is_width width.value) _ [] z).0
 wide ds i k s d e u = cc
 
 module _ (takes : NameKind → Bool) (either : (kind : NameKind) → takes kind ≡ true → is_pipe_or_sample kind ≡ true) where

@@ -2,19 +2,19 @@
 use Rattle.std.proofs.Common.{◌≡◌, ◌∙◌, ℕ, zero, suc, ◌+◌, ◌<◌, ◌≤◌, max, List, [], ◌∷◌, Option, Some, None, true, not, ◌&&◌, ◌||◌, cond, eqb, refl, ap, sym, subst, arith}
 use Rattle.std.proofs.lemmas.Bool.{cond_both, eqb-true, not-true, ltb-false, leb-true, and_parts}
 use Rattle.std.specs.{Prelude.slice_get, Prelude.is_some, Prelude.unwrap_or, Prelude.nat_lt, Prelude.nat_le, List.AllByRecursion}
-use Rattle.kp_base.specs.{First.first, Refusal.e_rule}
+use Rattle.kp_base.specs.First.{first}
 use Rattle.kp_ast.specs.declared.tree.{Expr.Expr, Named.Named, ReadStmt.ReadStmt, ResultDecl.ResultDecl, Stmt.Stmt, StmtKind.StmtKind, Block.Block, Job.Job}
 use Rattle.kp_ast.specs.declared.tree.StmtKind.TheVariants as stmts
 use Rattle.kp_width.{specs.Widths.widths_of, proofs.Unbroken.Unbroken}
 use Rattle.kp_stage.specs.Facts.{At, Facts, facts_of, stmts_in, or_zero, guessed, largest_in, largest}
-use Rattle.kp_stage.specs.{Rules.holds_of, Rules.is_at, Rules.may_guess, Rules.ask_stmt, Rules.ask_stmts, Rules.all_rules, Stages.broken_of}
-use Rattle.kp_stage.proofs.Unbroken.{first_none, answer_none}
+use Rattle.kp_stage.specs.{Rules.holds_of, Rules.is_at, Rules.may_guess, Rules.ask_stmt, Rules.ask_stmts, declared.rules.Rule.Rule, Stages.broken_of}
+use Rattle.kp_stage.proofs.{Unbroken.first_none, Unbroken.answer_none, Unbroken.found_none, Kept.rules_kept, Kept.stmts_kept}
 use Rattle.kp_pipeline.specs.{Machine.Tree, Accepted.Fits, Accepted.EndFits}
 use Rattle.kp_machine.specs.Trees.{Progress, entered, holds, value_of, value_with_hints, with_name, with_put, with_set, with_aim, word_of, word_read, read_of, statement_of, tree_of}
 use Rattle.kp_machine.specs.Slots.{Slot, targets_of, pipes_of, hints_of, number_of, result_named}
 use Rattle.kp_machine.specs.Machine.{machine_of, stage_tree, result_for, write_stage_of, after_put, known_after, known_from_of, is_enabled_by, address_by, enabled_of, address_in}
 use Rattle.kp_machine.proofs.{Names.IsIn, Names.number_determines, Placing.IsPipeIn, Placing.IsPlaced, Placing.result_placed, Placing.own, Placing.stands}
-use Rattle.kp_machine.proofs.{Rules.rules_kept, Rules.stmts_kept, Results.named_stands, Results.written_where, Results.written_by}
+use Rattle.kp_machine.proofs.{Results.named_stands, Results.written_where, Results.written_by}
 
 pub some_from : {X : Type 0} (o : Option X) → is_some o ≡ true → (x : X) × (o ≡ Some x)
 some_from None e = cc
@@ -86,7 +86,7 @@ module _ (job : Job) (names : Unbroken (widths_of job)) (stages : broken_of job 
 
     -- each rule at a statement
     abbrev Asked : ℕ → StmtKind → Type 0
-    Asked j s = (n : ℕ) (rule : _) → slice_get all_rules n ≡ Some rule → ask_stmt facts rule k j s ≡ None
+    Asked j s = (rule : Rule) → ask_stmt facts rule k j s ≡ None
 
     record Keeps (j : ℕ) (s : StmtKind) : Type 0 where
       asked : Asked j s
@@ -96,12 +96,12 @@ module _ (job : Job) (names : Unbroken (widths_of job)) (stages : broken_of job 
     KeepsAll j [] = Unit {0}
     KeepsAll j (s ∷ ss) = Keeps j s.kind × KeepsAll (j + 1) ss
 
-    keeps_all : (j : ℕ) (ss : List Stmt) → ((n : ℕ) (rule : _) → slice_get all_rules n ≡ Some rule → first (ask_stmts facts rule k j ss) ≡ None)
+    keeps_all : (j : ℕ) (ss : List Stmt) → ((rule : Rule) → first (ask_stmts facts rule k j ss) ≡ None)
         → AllByRecursion (λ s. guessed facts.written s.kind ≤ facts.top) ss → KeepsAll j ss
     keeps_all j [] a t = tt
     keeps_all j (s ∷ ss) a t = (
-      record { asked = λ n rule at. (first_none (ask_stmt facts rule k j s.kind) (ask_stmts facts rule k (j + 1) ss) (a n rule at)).0; top = t.0 },
-      keeps_all (j + 1) ss (λ n rule at. (first_none (ask_stmt facts rule k j s.kind) (ask_stmts facts rule k (j + 1) ss) (a n rule at)).1) t.1,
+      record { asked = λ rule. (first_none (ask_stmt facts rule k j s.kind) (ask_stmts facts rule k (j + 1) ss) (a rule)).0; top = t.0 },
+      keeps_all (j + 1) ss (λ rule. (first_none (ask_stmt facts rule k j s.kind) (ask_stmts facts rule k (j + 1) ss) (a rule)).1) t.1,
     )
 
     named : (done : Progress) (name : List ℕ) (v : _) → Fine done → Fine (with_name done name v)
@@ -179,9 +179,9 @@ module _ (job : Job) (names : Unbroken (widths_of job)) (stages : broken_of job 
         → ((v : ℕ) → Fit (rest v)) → Fit (read_of job.decls done r o rest)
     unfolding machine_of
     read_fits j done r None rest is keeps go =
-        (read_in_time r.target.name (answer_none _ (e_rule 18 r.target.at) (keeps.asked 3 _ refl)), go)
+        (read_in_time r.target.name (found_none _ _ (facts.written r.target.name) r.target.at (keeps.asked Rule.E18)), go)
     read_fits j done r (Some e) rest is keeps go =
-        let g = guess_in_time r e is (answer_none (may_guess facts k r) (e_rule 23 r.target.at) (keeps.asked 8 _ refl)) keeps.top in
+        let g = guess_in_time r e is (answer_none (may_guess facts k r) _ (keeps.asked Rule.E23)) keeps.top in
         (g.0, g.1, g.2, go)
 
     statement_fits : (j : ℕ) (done : Progress) (s : StmtKind) (rest : Progress → Tree) → Fine done → Keeps j s
@@ -197,12 +197,12 @@ module _ (job : Job) (names : Unbroken (widths_of job)) (stages : broken_of job 
         go (with_name done n.name (word_of job.decls done e)) (named done n.name (word_of job.decls done e) fine)
     statement_fits j done (stmts.Put n e) rest fine keeps go =
         go (with_put done (number_of pipes n.name) (value_of job.decls done e))
-        (put done j (value_of job.decls done e) n (answer_none _ (e_rule 16 n.at) (keeps.asked 1 _ refl)) fine)
+        (put done j (value_of job.decls done e) n (answer_none _ _ (keeps.asked Rule.E16)) fine)
     statement_fits j done (stmts.Set n e when) rest fine keeps go =
         cond_both (holds job.decls done when)
         (rest (with_set job.decls done (result_named job.decls n.name) (value_of job.decls done e))) (rest done) Fit
         (λ _. go (with_set job.decls done (result_named job.decls n.name) (value_of job.decls done e))
-        (set done (value_of job.decls done e) n (result_named job.decls n.name) refl (answer_none _ (e_rule 20 n.at) (keeps.asked 5 _ refl)) fine))
+        (set done (value_of job.decls done e) n (result_named job.decls n.name) refl (found_none _ _ (facts.stage n.name) n.at (keeps.asked Rule.E20)) fine))
         (λ _. go done fine)
     statement_fits j done (stmts.Aim n e) rest fine keeps go =
         go (with_aim done (number_of (hints_of job.decls) n.name) (value_with_hints job.decls done e))
@@ -246,5 +246,5 @@ module _ (job : Job) (names : Unbroken (widths_of job)) (stages : broken_of job 
     stage_fits samples values =
         tree_fits 0 (stmts_in (slice_get job.blocks k)) (entered job.decls samples values)
         (record { puts = λ n h b. refl; sets = λ t i b. refl })
-        (keeps_all 0 (stmts_in (slice_get job.blocks k)) (λ n rule at. stmts_kept facts job (rules_kept job stages) n rule at k)
+        (keeps_all 0 (stmts_in (slice_get job.blocks k)) (λ rule. stmts_kept facts job (rules_kept job stages) rule k)
         (all_guesses facts.written facts.top 0 job.blocks k (omega arith)))

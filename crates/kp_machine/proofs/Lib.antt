@@ -10,7 +10,6 @@ pub mod Names
 pub mod Placing
 pub mod Proved
 pub mod Results
-pub mod Rules
 pub mod Sampled
 pub mod Sampleless
 pub mod Scopes

@@ -1,12 +1,12 @@
 -- The results of a job that violates no rule: the names of each are declared, and each is the only result of its target.
 use Rattle.std.proofs.Common.{◌≡◌, ℕ, ◌+◌, List, Option, Some, None, true, eqb, refl, subst, arith}
-use Rattle.kp_base.specs.Refusal.{e_rule}
 use Rattle.kp_ast.specs.declared.tree.{Named.Named, ResultDecl.ResultDecl, Job.Job}
 use Rattle.kp_ast.specs.declared.tree.Decl.TheVariants as decls
 use Rattle.kp_width.{specs.Declarations.address_width, specs.Names.nothing, specs.Widths.widths_of, proofs.Unbroken.Unbroken}
-use Rattle.kp_stage.{specs.Facts.Facts, specs.Facts.facts_of, specs.Rules.holds_of, specs.Stages.broken_of, proofs.Unbroken.answer_none}
+use Rattle.kp_stage.{specs.Facts.Facts, specs.Facts.facts_of, specs.Rules.holds_of, specs.declared.rules.Rule.Rule, specs.Stages.broken_of}
+use Rattle.kp_stage.proofs.{Unbroken.answer_none, Kept.rules_kept, Kept.decl_kept}
 use Rattle.kp_machine.{specs.Slots.Slot, specs.Slots.targets_of, specs.Slots.pipes_of, specs.Slots.number_of, specs.Machine.result_for, proofs.Names.IsIn}
-use Rattle.kp_machine.proofs.{Results.Stands, Results.to_stands, Results.first_result, Rules.rules_kept, Rules.decl_kept, Scopes.PipeFits, Scopes.results_fit}
+use Rattle.kp_machine.proofs.{Results.Stands, Results.to_stands, Results.first_result, Scopes.PipeFits, Scopes.results_fit}
 use Rattle.kp_machine.proofs.Text.{text, declared_right, placed, target_slot}
 
 -- a pipe that is named is declared
@@ -50,7 +50,7 @@ module _ (job : Job) (names : Unbroken (widths_of job)) where
   own kept r s =
       let facts : Facts = facts_of job in
       let e : holds_of (λ j. eqb j s.index) (facts.result r.target.name) ≡ true =
-      answer_none _ (e_rule 22 r.target.at) (decl_kept facts job (rules_kept job kept) 7 _ refl s.index (decls.Target r) s.there) in
+      answer_none _ _ (decl_kept facts job (rules_kept job kept) Rule.E22 s.index (decls.Target r) s.there) in
       let z : s.index ≡ 0 + s.index = omega arith in
       first_result targets job.decls 0 s.index r (result_placed r s).target s.there
       (subst (λ n. holds_of (λ j. eqb j n) (facts.result r.target.name) ≡ true) z e)

@@ -1,15 +1,15 @@
 -- A stage uses only its own samples: if two input vectors agree on these, its tree is the same.
 use Rattle.std.proofs.Common.{◌≡◌, ◌∙◌, ℕ, zero, suc, ◌+◌, List, [], ◌∷◌, map, Option, Some, None, Bool, true, false, not, cond, eqb, refl, ap, sym, subst, arith}
-use Rattle.std.{proofs.lemmas.Bool.eqb-true, specs.Prelude.slice_get, specs.Prelude.get_or, specs.Prelude.unwrap_or, specs.Option.option_map}
+use Rattle.std.{proofs.lemmas.Bool.eqb-true, specs.Prelude.slice_get, specs.Prelude.get_or}
 use Rattle.std.specs.List.{list_any}
-use Rattle.kp_base.specs.{First.first, Refusal.e_rule, declared.place.Place.Place}
+use Rattle.kp_base.specs.{First.first, declared.place.Place.Place}
 use Rattle.kp_bits.specs.Word.{Word, word}
 use Rattle.kp_ast.specs.{Expressions.is_same_name, Expressions.look_up, declared.tree.Expr.Expr, declared.tree.Named.Named, declared.tree.Num.Num}
 use Rattle.kp_ast.specs.declared.tree.{Decl.Decl, Stmt.Stmt, Job.Job}
 use Rattle.kp_ast.specs.declared.tree.Decl.TheVariants as decls
 use Rattle.kp_stage.specs.Facts.{Facts, facts_of, sample_at, stmts_in}
-use Rattle.kp_stage.specs.Rules.{holds_of, ask_name, ask_expr, ask_values, ask_guesses, ask_stmt, ask_stmts, all_rules}
-use Rattle.kp_stage.{specs.Uses.exprs_in, specs.Uses.uses, proofs.Unbroken.first_none, proofs.Unbroken.answer_none}
+use Rattle.kp_stage.specs.Rules.{holds_of, ask_name, ask_expr, ask_stmt, ask_stmts}
+use Rattle.kp_stage.{specs.declared.rules.Rule.Rule, specs.Uses.exprs_in, specs.Uses.uses, proofs.Unbroken.first_none, proofs.Unbroken.found_none}
 use Rattle.kp_stage.proofs.Names.{either, name_asked, exprs_asked}
 use Rattle.kp_machine.specs.{Trees.entered, Slots.pipes_of, Slots.samples_of, Slots.sample_stages, Slots.words_from, Slots.words_of, Machine.stage_tree}
 use Rattle.kp_machine.proofs.{Alike.alike_append, Alike.tree_same, Cases.by_test}
@@ -37,36 +37,33 @@ same_words k (decls.Sample m w s ∷ ds) i d q r n agree own =
     ap (at q) y ∙ more ∙ sym (ap (at r) y))
 same_words k (_ ∷ ds) i d q r n agree own = same_words k ds i d q r n agree own
 
-module _ (facts : Facts) (k : ℕ) (rule : _) (is34 : slice_get all_rules 11 ≡ Some rule) where
+module _ (facts : Facts) (k : ℕ) where
   -- a name is no sample of another stage
   abbrev own : List ℕ → Bool
   own n = not (holds_of (λ w. not (eqb w k)) (facts.sample n))
 
-  own_name : (n : List ℕ) (at : Place) → ask_name facts rule k n at ≡ None → own n ≡ true
-  own_name n at e = answer_none (own n) (e_rule 34 at) (ap (λ o. unwrap_or (option_map (λ r. ask_name facts r k n at) o) None) is34 ∙ e)
+  own_name : (n : List ℕ) (at : Place) → ask_name facts Rule.E34 k n at ≡ None → own n ≡ true
+  own_name n at e = found_none _ _ (facts.sample n) at e
 
   -- each name that is used
-  exprs_own : (es : List Expr) (n : List ℕ) → first (map (ask_expr facts rule k) es) ≡ None → list_any (uses n) es ≡ true → own n ≡ true
+  exprs_own : (es : List Expr) (n : List ℕ) → first (map (ask_expr facts Rule.E34 k) es) ≡ None → list_any (uses n) es ≡ true → own n ≡ true
   exprs_own [] n free u = cc
   exprs_own (e ∷ es) n free u =
-      let both = first_none (ask_expr facts rule k e) (map (ask_expr facts rule k) es) free in
-      either (uses n e) (list_any (uses n) es) u (λ y. let a = name_asked facts rule k n e y both.0 in own_name n a.0 a.1) (λ y. exprs_own es n both.1 y)
+      let both = first_none (ask_expr facts Rule.E34 k e) (map (ask_expr facts Rule.E34 k) es) free in
+      either (uses n e) (list_any (uses n) es) u (λ y. let a = name_asked facts Rule.E34 k n e y both.0 in own_name n a.0 a.1) (λ y. exprs_own es n both.1 y)
 
-  stmts_own : (j : ℕ) (ss : List Stmt) (n : List ℕ) → first (ask_stmts facts rule k j ss) ≡ None → list_any (λ (s : Stmt). list_any (uses n) (exprs_in s.kind)) ss ≡ true → own n ≡ true
+  stmts_own : (j : ℕ) (ss : List Stmt) (n : List ℕ) → first (ask_stmts facts Rule.E34 k j ss) ≡ None → list_any (λ (s : Stmt). list_any (uses n) (exprs_in s.kind)) ss ≡ true → own n ≡ true
   stmts_own j [] n free u = cc
   stmts_own j (s ∷ ss) n free u =
-      let both = first_none (ask_stmt facts rule k j s.kind) (ask_stmts facts rule k (j + 1) ss) free in
-      let here : first (ask_values facts rule k s.kind ∷ ask_guesses facts rule k s.kind ∷ []) ≡ None =
-      sym (ap (λ o. unwrap_or (option_map (λ r. first (ask_values facts r k s.kind ∷ ask_guesses facts r k s.kind ∷ [])) o) None) is34)
-      ∙ ap (λ o. unwrap_or (option_map (λ r. ask_stmt facts r k j s.kind) o) None) is34 ∙ both.0 in
-      either (list_any (uses n) (exprs_in s.kind)) _ u (λ y. exprs_own (exprs_in s.kind) n (exprs_asked facts rule k s.kind here) y) (λ y. stmts_own (j + 1) ss n both.1 y)
+      let both = first_none (ask_stmt facts Rule.E34 k j s.kind) (ask_stmts facts Rule.E34 k (j + 1) ss) free in
+      either (list_any (uses n) (exprs_in s.kind)) _ u (λ y. exprs_own (exprs_in s.kind) n (exprs_asked facts Rule.E34 k s.kind both.0) y) (λ y. stmts_own (j + 1) ss n both.1 y)
 
 -- the tree of a stage is one for rows that agree on its own samples
-pub own_samples : (job : Job) (k : ℕ) (rule : _) → slice_get all_rules 11 ≡ Some rule → first (ask_stmts (facts_of job) rule k 0 (stmts_in (slice_get job.blocks k))) ≡ None
+pub own_samples : (job : Job) (k : ℕ) → first (ask_stmts (facts_of job) Rule.E34 k 0 (stmts_in (slice_get job.blocks k))) ≡ None
     → (q r p : ℕ → ℕ) → ((x : ℕ) → get_or (sample_stages job.decls) x job.stages.value ≡ k → q x ≡ r x) → stage_tree job k q p ≡ stage_tree job k r p
 unfolding stage_tree
-own_samples job k rule is34 free q r p agree =
-    let test = own (facts_of job) k rule is34 in
+own_samples job k free q r p agree =
+    let test = own (facts_of job) k in
     let pipes = words_of (pipes_of job.decls) p in
     tree_same test job.decls (entered job.decls q p) (entered job.decls r p) (stmts_in (slice_get job.blocks k))
     (record {
@@ -76,7 +73,7 @@ own_samples job k rule is34 free q r p agree =
       sets = refl;
       aims = refl;
     })
-    (λ n u. stmts_own (facts_of job) k rule is34 0 (stmts_in (slice_get job.blocks k)) n free u)
+    (λ n u. stmts_own (facts_of job) k 0 (stmts_in (slice_get job.blocks k)) n free u)
 
 -- a sample has a declaration with its stage, or it is past them all
 pub sample_stands : {G : Type 0} (ds : List Decl) (x d : ℕ)

@@ -2,14 +2,16 @@
 use Rattle.std.proofs.Common.{◌≡◌, ◌∙◌, ℕ, zero, suc, ◌+◌, ◌<◌, List, [], ◌∷◌, ◌++◌, Option, Some, None, Bool, true, false, cond, not, ◌||◌, nat_eq, length, refl, ap, sym, subst, arith}
 use Rattle.std.proofs.lemmas.Bool.{eqb-true, or_left, or_right}
 use Rattle.std.specs.{Prelude.is_some, Prelude.slice_get, Prelude.◌==◌, Cmp.Lexicographic.pointwise, Cmp.Lexicographic.bytes_decides}
-use Rattle.kp_base.specs.{declared.place.Place.Place, First.first, Refusal.e_rule, Check.ok, Check.◌>>=◌, Check.wants}
+use Rattle.kp_base.specs.{declared.place.Place.Place, First.first, Check.ok, Check.◌>>=◌, Check.wants}
 use Rattle.kp_ast.specs.{Expressions.is_same_name, declared.tree.Named.Named, declared.tree.ResultDecl.ResultDecl, declared.tree.Decl.Decl}
-use Rattle.kp_ast.specs.declared.widths.NameKind.{NameKind}
+use Rattle.kp_ast.specs.declared.widths.{NameKind.NameKind, Scope.Scope}
 use Rattle.kp_ast.specs.declared.tree.Decl.TheVariants as decls
 use Rattle.kp_ast.specs.declared.widths.NameKind.TheVariants as kinds
-use Rattle.kp_width.specs.Names.{Sense, sense, Names, Scoped, look_up, find, used, used_as, passed, or_else, is_register, is_file, is_pipe, is_result, is_hint, declared_text}
-use Rattle.kp_width.specs.Declarations.{kept, declared, storage_of, pipe_of, target_of, result_of, address_width, name_of, after_name, declaration_of, declarations_of, functions_in}
-use Rattle.kp_width.proofs.{Unbroken.Unbroken, Unbroken.bind_unbroken, Unbroken.answer_unbroken, Calls.pushed, Calls.parameters_text}
+use Rattle.kp_width.specs.Names.{Sense, sense, Names, Scoped, look_up, find, takes, used, used_as, passed, or_else, is_register, is_file, is_pipe, is_result, is_hint, declared_text}
+use Rattle.kp_width.specs.{Faults.found_at, declared.fault.Position.Position, declared.fault.WidthFault.WidthFault}
+use Rattle.kp_width.specs.declared.fault.WidthFault.TheVariants as faults
+use Rattle.kp_width.specs.Declarations.{kept, declared, storage_of, address_fault, enable_fault, pipe_of, target_of, result_of, address_width, name_of, after_name, declaration_of, declarations_of, functions_in}
+use Rattle.kp_width.proofs.{Unbroken.Unbroken, Unbroken.bind_unbroken, Unbroken.answer_unbroken, Found.used_parts, Found.storage_takes, Calls.pushed, Calls.parameters_text}
 use Rattle.kp_machine.specs.Slots.{Slot, slot, targets_of, pipes_of, samples_of, number_of, width_of, result_named}
 use Rattle.kp_machine.proofs.{Cases.by_test, Cases.by_option, Names.IsIn}
 use Rattle.kp_machine.specs.Slots as slots
@@ -154,7 +156,7 @@ find_none s n e = parts (look_up s.local n) (look_up s.text n) e
 pub new_name : (ds : List Decl) (i k : ℕ) (s : Scoped) (d : Decl) → Unbroken (declaration_of ds i k s d) → look_up s.text (name_of d).name ≡ None
 new_name ds i k s d u =
     (find_none s (name_of d).name (fresh_none (find s (name_of d).name)
-    (answer_unbroken (not (is_some (find s (name_of d).name))) (e_rule 5 (name_of d).at) (after_name ds i k s d).asked u).0)).1
+    (answer_unbroken (not (is_some (find s (name_of d).name))) _ (after_name ds i k s d).asked u).0)).1
 
 pub text_has : (ds : List Decl) (i k : ℕ) (s : Scoped) (d : Decl) → Unbroken (declaration_of ds i k s d)
     → look_up (declaration_of ds i k s d).value.text (name_of d).name ≡ Some (sense_of i d)
@@ -200,40 +202,41 @@ pub record ResultFits (text : Names) (r : ResultDecl) : Type 0 where
   pub address : PipeFits text (address_width sense.kind) r.address
   pub enable : PipeFits text 1 r.enable
 
-pub found_sense : (takes : NameKind → Bool) (at : Place) (o : Option Sense) → Unbroken (used_as takes at o) → (m : Sense) × (o ≡ Some m) × (takes m.kind ≡ true) × (m ≡ (used_as takes at o).value)
-found_sense takes at None u = cc
-found_sense takes at (Some m) u = (m, refl, (answer_unbroken (takes m.kind) (e_rule 7 at) [] u).0, refl)
+pub found_sense : (here : Scope) (bound : Option ℕ) (position : Position) (at : Place) (o : Option Sense) → Unbroken (used_as here bound position at o)
+    → (m : Sense) × (o ≡ Some m) × (takes position here m.kind ≡ true) × (m ≡ (used_as here bound position at o).value)
+found_sense here bound position at o u = let p = used_parts here bound position at o u in ((used_as here bound position at o).value, p.0, p.1, refl)
 
 module _ (s : Scoped) (local : s.local ≡ []) where
-  in_text : (takes : NameKind → Bool) (q : List ℕ) (at : Place) → Unbroken (used s takes q at) → (m : Sense) × (look_up s.text q ≡ Some m) × (takes m.kind ≡ true) × (m ≡ (used s takes q at).value)
-  in_text takes q at u =
-      let f = found_sense takes at (find s q) u in
+  in_text : (position : Position) (q : List ℕ) (at : Place) → Unbroken (used s position q at)
+      → (m : Sense) × (look_up s.text q ≡ Some m) × (takes position s.here m.kind ≡ true) × (m ≡ (used s position q at).value)
+  in_text position q at u =
+      let f = found_sense s.here _ position at (find s q) u in
       (f.0, sym (ap (λ (l : Names). or_else (look_up l q) (look_up s.text q)) local) ∙ f.1, f.2, f.3)
 
-  pipe_fits : (w number : ℕ) (o : Option Named) → Unbroken (kept o (pipe_of s w number)) → PipeFits s.text w o
-  pipe_fits w number None u = tt
-  pipe_fits w number (Some n) u =
-      let x = bind_unbroken (used s is_pipe n.name n.at) (λ m. wants (m.width == w) (e_rule number n.at) passed) u in
-      let f = in_text is_pipe n.name n.at x.0 in
-      let t = (answer_unbroken ((used s is_pipe n.name n.at).value.width == w) (e_rule number n.at) [] x.1).0 in
+  pipe_fits : (w : ℕ) (fault : Sense → WidthFault) (o : Option Named) → Unbroken (kept o (pipe_of s w fault)) → PipeFits s.text w o
+  pipe_fits w fault None u = tt
+  pipe_fits w fault (Some n) u =
+      let x = bind_unbroken (used s Position.Pipe n.name n.at) (λ m. wants (m.width == w) (found_at n.at (fault m)) passed) u in
+      let f = in_text Position.Pipe n.name n.at x.0 in
+      let t = (answer_unbroken ((used s Position.Pipe n.name n.at).value.width == w) _ [] x.1).0 in
       (f.0, f.1, f.2, ap (λ (m : Sense). m.width) f.3 ∙ eqb-true _ _ t)
 
   result_fits : (r : ResultDecl) → Unbroken (result_of s r) → ResultFits s.text r
   result_fits r u =
       let w = r.width.value in
       let more = (bind_unbroken (declared r.width) (λ x. target_of s r x >>= (λ y. ok x)) u).1 in
-      let parts = bind_unbroken (storage_of s r.target (is_some r.address)) (λ t. wants (t.width == w) (e_rule 10 r.target.at) (kept r.address (pipe_of s (address_width t.kind) 14) >>= (λ a. kept r.enable (pipe_of s 1 11)))) (bind_unbroken (target_of s r w) (λ y. ok w) more).0 in
+      let parts = bind_unbroken (storage_of s r.target (is_some r.address)) (λ t. wants (t.width == w) (found_at r.target.at (faults.Target w t.width t.kind t.from)) (kept r.address (pipe_of s (address_width t.kind) (address_fault t)) >>= (λ a. kept r.enable (pipe_of s 1 enable_fault)))) (bind_unbroken (target_of s r w) (λ y. ok w) more).0 in
       let t = (storage_of s r.target (is_some r.address)).value in
-      let a = answer_unbroken (t.width == w) (e_rule 10 r.target.at) (kept r.address (pipe_of s (address_width t.kind) 14) >>= (λ a. kept r.enable (pipe_of s 1 11))).asked parts.1 in
-      let both = bind_unbroken (kept r.address (pipe_of s (address_width t.kind) 14)) (λ a. kept r.enable (pipe_of s 1 11)) a.1 in
-      let f = in_text (cond (is_some r.address) is_file is_register) r.target.name r.target.at parts.0 in
+      let a = answer_unbroken (t.width == w) _ (kept r.address (pipe_of s (address_width t.kind) (address_fault t)) >>= (λ a. kept r.enable (pipe_of s 1 enable_fault))).asked parts.1 in
+      let both = bind_unbroken (kept r.address (pipe_of s (address_width t.kind) (address_fault t))) (λ a. kept r.enable (pipe_of s 1 enable_fault)) a.1 in
+      let f = in_text (cond (is_some r.address) Position.File Position.Register) r.target.name r.target.at parts.0 in
       record {
         sense = f.0;
         found = f.1;
-        stored = f.2;
+        stored = storage_takes (is_some r.address) s.here f.0.kind f.2;
         width = ap (λ (m : Sense). m.width) f.3 ∙ eqb-true _ _ a.0;
-        address = pipe_fits (address_width f.0.kind) 14 r.address (subst (λ (m : Sense). Unbroken (kept r.address (pipe_of s (address_width m.kind) 14))) (sym f.3) both.0);
-        enable = pipe_fits 1 11 r.enable both.1;
+        address = pipe_fits (address_width f.0.kind) (address_fault f.0) r.address (subst (λ (m : Sense). Unbroken (kept r.address (pipe_of s (address_width m.kind) (address_fault m)))) (sym f.3) both.0);
+        enable = pipe_fits 1 enable_fault r.enable both.1;
       }
 
 -- names that stay in the text keep their results fitting
@@ -259,7 +262,7 @@ results_fit ds i k s (d ∷ rest) local u zero r at =
     let here : d ≡ decls.Target r = cc in
     let now = (bind_unbroken (declaration_of ds i k s d) (λ x. declarations_of ds (i + 1) (k + functions_in d) x rest) u).0 in
     let result : Unbroken (declaration_of ds i k s (decls.Target r)) = subst (λ x. Unbroken (declaration_of ds i k s x)) here now in
-    let fits = (answer_unbroken (not (is_some (find s r.name.name))) (e_rule 5 r.name.at) (after_name ds i k s (decls.Target r)).asked result).1 in
+    let fits = (answer_unbroken (not (is_some (find s r.name.name))) _ (after_name ds i k s (decls.Target r)).asked result).1 in
     result_stays s.text _ (λ q x e. stays ds i k s (d ∷ rest) q x e) r
     (result_fits s local r (bind_unbroken (result_of s r) (λ w. ok (declared_text s r.name.name (sense kinds.Target w i))) fits).0)
 results_fit ds i k s (d ∷ rest) local u (suc j) r at =

@@ -1,7 +1,7 @@
 -- The text of a job whose names and widths are right: what its names name. And the names that the expressions of a stage may use.
 use Rattle.std.proofs.Common.{◌≡◌, ◌∙◌, ℕ, List, Some, None, Bool, true, false, not, refl, ap, sym}
 use Rattle.std.specs.{Option.option_map, Prelude.is_some, Prelude.slice_get, Prelude.unwrap_or}
-use Rattle.kp_base.specs.{Check.Answer, Check.ok, Check.◌>>=◌, Refusal.e_rule, declared.place.Place.Place}
+use Rattle.kp_base.specs.{Check.ok, Check.◌>>=◌, declared.place.Place.Place}
 use Rattle.kp_ast.specs.{Expressions.calls_of, Checked.checked_calls_of, declared.tree.Expr.Expr}
 use Rattle.kp_ast.specs.declared.tree.{ExprKind.TheOpen.ExprKind-F, ExprKind.TheOpen.Expr-F, ExprKind.TheFolds.fold-Expr, ResultDecl.ResultDecl, Job.Job}
 use Rattle.kp_ast.specs.declared.widths.NameKind.{NameKind}
@@ -12,7 +12,7 @@ use Rattle.kp_width.specs.Names.{Sense, Names, Scoped, nothing, look_up, find, o
 use Rattle.kp_width.specs.{Declarations.address_width, Declarations.declarations_of, Statements.blocks_of, Widths.widths_of}
 use Rattle.kp_width.proofs.{Unbroken.Unbroken, Unbroken.bind_unbroken, Found.first_name, Found.name_kind, Found.name_level}
 use Rattle.kp_width.proofs.Calls.{Open, declared_calls_fit}
-use Rattle.kp_stage.{specs.Facts.Facts, specs.Rules.ask_name, specs.Rules.ask_kind, specs.Rules.ask_expr, specs.Rules.all_rules, proofs.Unbroken.answer_none}
+use Rattle.kp_stage.{specs.Facts.Facts, specs.Findings.Answer, specs.Rules.ask_name, specs.Rules.ask_kind, specs.Rules.ask_expr, specs.Rules.all_rules, proofs.Unbroken.answer_none}
 use Rattle.kp_machine.{specs.Slots.targets_of, specs.Slots.number_of, specs.Slots.result_to, proofs.Cases.by_option, proofs.Results.to_stands}
 use Rattle.kp_machine.proofs.Scopes.{Placed, IsSlot, ResultFits, all_placed, results_fit, storage_kind}
 
@@ -62,7 +62,7 @@ found_where s q m e local text = by_option (look_up s.local q)
 -- rule E25: a name is that of no hint
 pub no_hint : (facts : Facts) (rule : _) (k : ℕ) (q : List ℕ) (at : Place) → slice_get all_rules 10 ≡ Some rule → ask_name facts rule k q at ≡ None → not (is_some (facts.hint q)) ≡ true
 no_hint facts rule k q at is e =
-    answer_none (not (is_some (facts.hint q))) (e_rule 25 at) (ap (λ o. unwrap_or (option_map (λ r. ask_name facts r k q at) o) None) is ∙ e)
+    answer_none (not (is_some (facts.hint q))) _ (ap (λ o. unwrap_or (option_map (λ r. ask_name facts r k q at) o) None) is ∙ e)
 
 module _ (job : Job) (unbroken : Unbroken (widths_of job)) where
   abbrev pub text : Names

@@ -1,7 +1,7 @@
 -- The widths of the targets of a job whose names and widths are right.
 use Rattle.std.proofs.Common.{◌≡◌, ℕ, ◌+◌, ◌≤◌, List, [], ◌∷◌, true, ◌&&◌}
 use Rattle.std.{proofs.lemmas.Bool.and_parts, proofs.lemmas.Bool.leb-true, specs.Prelude.nat_le, specs.Prelude.is_some, specs.Prelude.not}
-use Rattle.kp_base.specs.{Refusal.e_rule, Check.ok, Check.◌>>=◌}
+use Rattle.kp_base.specs.{Check.ok, Check.◌>>=◌}
 use Rattle.kp_ast.specs.declared.tree.{Decl.Decl, Job.Job}
 use Rattle.kp_ast.specs.declared.tree.Decl.TheVariants as decls
 use Rattle.kp_ast.specs.declared.widths.NameKind.TheVariants as kinds
@@ -26,18 +26,18 @@ pub all_fine : (ds : List Decl) (i k : ℕ) (s : Scoped) (rest : List Decl) → 
 all_fine ds i k s [] u = tt
 all_fine ds i k s (decls.Reg n width start ∷ rest) u =
     let x = bind_unbroken (declaration_of ds i k s (decls.Reg n width start)) (λ t. declarations_of ds (i + 1) (k + 0) t rest) u in
-    let y = (answer_unbroken (not (is_some (find s n.name))) (e_rule 5 n.at) (after_name ds i k s (decls.Reg n width start)).asked x.0).1 in
+    let y = (answer_unbroken (not (is_some (find s n.name))) _ (after_name ds i k s (decls.Reg n width start)).asked x.0).1 in
     let z = (bind_unbroken (started_of width start) (λ w. ok (declared_text s n.name (sense kinds.Reg w i))) y).0 in
     let d = (bind_unbroken (declared width) (λ w. start_of start w >>= (λ v. ok w)) z).0 in
-    let b = bounds width.value (answer_unbroken (is_width width.value) (e_rule 8 width.at) [] d).0 in
+    let b = bounds width.value (answer_unbroken (is_width width.value) _ [] d).0 in
     (b.0, b.1, all_fine ds (i + 1) (k + 0) _ rest x.1)
 all_fine ds i k s (decls.File n width address ∷ rest) u =
     let x = bind_unbroken (declaration_of ds i k s (decls.File n width address)) (λ t. declarations_of ds (i + 1) (k + 0) t rest) u in
-    let y = (answer_unbroken (not (is_some (find s n.name))) (e_rule 5 n.at) (after_name ds i k s (decls.File n width address)).asked x.0).1 in
+    let y = (answer_unbroken (not (is_some (find s n.name))) _ (after_name ds i k s (decls.File n width address)).asked x.0).1 in
     let z = bind_unbroken (declared width) (λ w. addresses_of address >>= (λ a. ok (declared_text s n.name (sense (kinds.File a) w i)))) y in
-    let b = bounds width.value (answer_unbroken (is_width width.value) (e_rule 8 width.at) [] z.0).0 in
+    let b = bounds width.value (answer_unbroken (is_width width.value) _ [] z.0).0 in
     let v = (bind_unbroken (addresses_of address) (λ a. ok (declared_text s n.name (sense (kinds.File a) width.value i))) z.1).0 in
-    let a = and_parts (nat_le 1 address.value) (nat_le address.value 16) (answer_unbroken (nat_le 1 address.value && nat_le address.value 16) (e_rule 14 address.at) [] v).0 in
+    let a = and_parts (nat_le 1 address.value) (nat_le address.value 16) (answer_unbroken (nat_le 1 address.value && nat_le address.value 16) _ [] v).0 in
     (b.0, b.1, leb-true 1 address.value a.0, all_fine ds (i + 1) (k + 0) _ rest x.1)
 all_fine ds i k s (d ∷ rest) u =
     all_fine ds (i + 1) (k + functions_in d) _ rest

@@ -83,7 +83,7 @@ fn write_later<K: Sink>(
 }
 
 // The number of a cycle, and what changed in it.
-#[tactic(auto, using(kp_base::proofs::Bytes::writes_next, kp_base::proofs::Bytes::part_more, kp_image::proofs::Given::few_words))]
+#[tactic(auto, using(kp_base::proofs::Bytes::writes_next, kp_base::proofs::Bytes::part_more, kp_report::proofs::Files::few_words))]
 fn write_cycle<K: Sink>(
     is_first: bool,
     before: &Sim<'_>,

@@ -1,11 +1,11 @@
 -- Reading, writing and copying words in disjoint spans.
-use Rattle.std.proofs.Common.{◌≡◌, ◌≢◌, ℕ, ◌+◌, ◌-◌, ◌^◌, ◌<◌, ◌≤◌, List, [], ◌∷◌, ◌++◌, length, get_or, set, map, take, drop, replicate, Ok, Err, refl, sym, ap, ◌∙◌, arith, ⊎_elim, inl, inr, length-append, length-drop}
+use Rattle.std.proofs.Common.{◌≡◌, ◌≢◌, ℕ, ◌+◌, ◌-◌, ◌^◌, ◌<◌, ◌≤◌, List, [], ◌∷◌, ◌++◌, length, get_or, set, map, take, drop, replicate, Ok, Err, suc, refl, sym, subst, ap, ◌∙◌, arith, ⊎_elim, inl, inr, length-append, length-drop}
 use Rattle.std.proofs.lemmas.List.{get_or-set_other, length-set, get_or-map, drop-set-add, drop-set-lt, take-set-le, get_or_append_left, length-take-le, length-replicate, length-map, take_at, drop_at, drop-take, drop-drop, take-append-le, take_all, ext_get_or}
 use Rattle.std.proofs.lemmas.{Bool.cases_lt, Bool.cases_eq, Slice.between_is, List.Edits.length-between, Grind.get_or-set_at}
 use Rattle.std.proofs.Math.Seq.{take-set-lt, take-append-add, get_or-append_right}
-use Rattle.std.specs.{List.refill, List.length_refill, Prelude.Result, Prelude.IsOk, Prelude.IsErr}
-use Rattle.kp_region.specs.declared.span.Span.{Span}
-use Rattle.kp_region.specs.Words.{Words, IsSound, IsWithin, IsDisjoint, span_words, next_span, carved, written, copied, overwritten}
+use Rattle.std.specs.{List.refill, List.length_refill, Prelude.Result, Prelude.IsOk, Prelude.IsErr, Prelude.IfOk, Prelude.OnOk}
+use Rattle.kp_region.specs.declared.{span.Span.Span, region.Full.Full}
+use Rattle.kp_region.specs.Words.{Words, IsSound, IsWithin, IsDisjoint, span_words, next_span, carved, written, filled, copied, overwritten}
 use Rattle.kp_region.{specs.Spans.Apart, specs.Spans.no_span, proofs.Laid.laid_below, proofs.Laid.laid_above}
 
 -- a span holds as many words as its length says
@@ -86,32 +86,52 @@ length_carved r n h =
     let rest : List ℕ = drop (r.used + length zeros) r.words in
     omega (arith, length-append (take r.used r.words) (zeros ++ rest), length-append zeros rest, length-replicate n zero, length-take-le r.used r.words (omega (arith, h)), length-drop (r.used + length zeros) r.words)
 
--- a copy of a span over another of its length
-module _ (r : Words) (from to : Span) (sound : IsSound r) (from_within : IsWithin from r) (to_within : IsWithin to r) (same : from.len ≡ to.len) where
-  size : length (span_words r from) ≡ from.len
-  size = span_length r from sound from_within
+-- all words of a span are written
+module _ (r : Words) (to : Span) (ws : List ℕ) (sound : IsSound r) (within : IsWithin to r) (same : length ws ≡ to.len) where
+  room : to.start ≤ length r.words
+  room = omega arith
 
-  pub length_copied : length (copied r from to).words ≡ length r.words
-  length_copied =
-      let mid : List ℕ = span_words r from in
-      let rest : List ℕ = drop (to.start + length mid) r.words in
-      omega (arith, size, length-append (take to.start r.words) (mid ++ rest), length-append mid rest, length-take-le to.start r.words (omega arith), length-drop (to.start + length mid) r.words)
+  pub length_filled : length (filled r to ws).words ≡ length r.words
+  length_filled =
+      let rest : List ℕ = drop (to.start + length ws) r.words in
+      omega (arith, length-append (take to.start r.words) (ws ++ rest), length-append ws rest, length-take-le to.start r.words room, length-drop (to.start + length ws) r.words)
 
-  -- what is disjoint from the target stays, and the target holds what the source does
-  pub copy_stays : (s : Span) → IsDisjoint s to → span_words (copied r from to) s ≡ span_words r s
-  copy_stays s apart =
-      let room : to.start ≤ length r.words = omega arith in
+  -- what is disjoint from it stays, and it holds them
+  pub fill_stays : (s : Span) → IsDisjoint s to → span_words (filled r to ws) s ≡ span_words r s
+  fill_stays s apart =
       ⊎_elim
-      (λ below. laid_below r.words (span_words r from) to.start room s.start (s.start + s.len) below)
-      (λ above. laid_above r.words (span_words r from) to.start room s.start (s.start + s.len) (omega (arith, size)))
+      (λ below. laid_below r.words ws to.start room s.start (s.start + s.len) below)
+      (λ above. laid_above r.words ws to.start room s.start (s.start + s.len) (omega (arith, same)))
       apart
 
+  pub fill_lands : span_words (filled r to ws) to ≡ ws
+  fill_lands =
+      let rest : List ℕ = drop (to.start + length ws) r.words in
+      ap (take (to.start + to.len - to.start)) (drop_at (take to.start r.words) (ws ++ rest) to.start (length-take-le to.start r.words room))
+      ∙ take_at ws rest (to.start + to.len - to.start) (omega (arith, same))
+
+-- spans that hold the same
+pub spans_kept : (r new : Words) (spans : List Span) → ((k : ℕ) → k < length spans → span_words new (get_or spans k no_span) ≡ span_words r (get_or spans k no_span))
+    → map (span_words new) spans ≡ map (span_words r) spans
+spans_kept r new [] e = refl
+spans_kept r new (s ∷ spans) e =
+    let first : span_words new s ≡ span_words r s = e 0 (omega arith) in
+    let rest : map (span_words new) spans ≡ map (span_words r) spans = spans_kept r new spans (λ k l. e (suc k) (omega arith)) in
+    λ i. first i ∷ rest i
+
+-- a copy of a span over another of its length
+module _ (r : Words) (from to : Span) (sound : IsSound r) (from_within : IsWithin from r) (to_within : IsWithin to r) (same : from.len ≡ to.len) where
+  size : length (span_words r from) ≡ to.len
+  size = span_length r from sound from_within ∙ same
+
+  pub length_copied : length (copied r from to).words ≡ length r.words
+  length_copied = length_filled r to (span_words r from) sound to_within size
+
+  pub copy_stays : (s : Span) → IsDisjoint s to → span_words (copied r from to) s ≡ span_words r s
+  copy_stays = fill_stays r to (span_words r from) sound to_within size
+
   pub copy_lands : span_words (copied r from to) to ≡ span_words r from
-  copy_lands =
-      let mid : List ℕ = span_words r from in
-      let rest : List ℕ = drop (to.start + length mid) r.words in
-      ap (take (to.start + to.len - to.start)) (drop_at (take to.start r.words) (mid ++ rest) to.start (length-take-le to.start r.words (omega arith)))
-      ∙ take_at mid rest (to.start + to.len - to.start) (omega (arith, size))
+  copy_lands = fill_lands r to (span_words r from) sound to_within size
 
   -- where the target is the first part of a span, the rest of that one stays
   pub copy_starts : (s : Span) → to.start ≡ s.start → to.len ≤ s.len → span_words (copied r from to) s ≡ span_words r from ++ drop to.len (span_words r s)
@@ -180,3 +200,10 @@ module _ (r : Words) (s : Span) (last : s.start + s.len ≡ length r.words) (ws 
 pub ok_unless : {T E : Type 0} (r : Result T E) → (IsErr r → ⊥) → IsOk r
 ok_unless (Ok x) f = refl
 ok_unless (Err e) f = absurd (f refl)
+
+-- what a call of `carve` returned
+pub span_is : (r : Words) (n : ℕ) (o : Result Span Full) (s : Span) → o ≡ Ok s → IfOk o (λ t. t ≡ next_span r n) → s ≡ next_span r n
+span_is r n o s e h = let P : Result Span Full → Type 0 = λ x. IfOk x (λ t. t ≡ next_span r n) in subst P e h
+
+pub region_is : (r new : Words) (n : ℕ) (o : Result Span Full) (s : Span) → o ≡ Ok s → OnOk o (new ≡ carved r n) → new ≡ carved r n
+region_is r new n o s e h = let P : Result Span Full → Type 0 = λ x. OnOk x (new ≡ carved r n) in subst P e h

@@ -44,13 +44,21 @@ carved r n = record { words = laid_over r.words r.used (replicate n 0); used = r
 abbrev pub written : Words → Span → ℕ → ℕ → Words
 written r s i v = record r { words = slice_set r.words (s.start + i) v }
 
+-- all words of a span are written
+abbrev pub filled : Words → Span → List ℕ → Words
+filled r s ws = record r { words = laid_over r.words s.start ws }
+
 -- a span is copied over another of its length
 abbrev pub copied : Words → Span → Span → Words
-copied r from to = record r { words = laid_over r.words to.start (span_words r from) }
+copied r from to = filled r to (span_words r from)
 
 -- words are written over as many from the start of a span on, and over none past the last
 abbrev pub overwritten : Words → Span → List ℕ → Words
 overwritten r s ws = record r { words = refill (length r.words) r.words (take s.start r.words ++ (ws ++ drop (length ws) (drop s.start r.words))) }
+
+-- all words are written over, as far as there are others
+abbrev pub replaced : Words → List ℕ → Words
+replaced r ws = record r { words = refill (length r.words) r.words ws }
 
 -- only this many words are used, and all words are unchanged
 abbrev pub released : Words → ℕ → Words

@@ -1,8 +1,8 @@
 // A region of words and its operations.
 ghost use Rattle.std.specs.Prelude.{◌≡◌, ◌+◌, ◌<◌, ◌≤◌, ◌↔◌, ◌⊎◌, length, slice_index, slice_range, IfOk, OnOk, OnErr, IsErr};
 ghost use Rattle.std.specs.Borrow.{sem};
-ghost use Rattle.kp_region.specs.Lending.{LendsWords};
-ghost use Rattle.kp_region.specs.Words.{IsSound, IsWithin, IsDisjoint, fresh, laid_over, next_span, span_words, carved, written, copied, released};
+ghost use Rattle.kp_region.specs.Lending.{LendsAll, LendsWords};
+ghost use Rattle.kp_region.specs.Words.{IsSound, IsWithin, IsDisjoint, filled, fresh, laid_over, next_span, span_words, carved, written, copied, released};
 
 use crate::span::Span;
 use kp_base::NoMemory;
@@ -56,6 +56,17 @@ impl Region {
         Ok(Region { words, used: 0 })
     }
 
+    /// A copy of the region, in which each span has the same words. The only error is out of memory.
+    pub fn copied(&self, alloc: Global) -> Result<Region, NoMemory>
+        ensures { IfOk result (λ r. r ≡ self.now) }
+    {
+        let words = Vec::from_slice(alloc, self.words.as_slice())?;
+        Ok(Region {
+            words,
+            used: self.used,
+        })
+    }
+
     /// Carves a new span of the next `n` words. Error: `Full` if fewer words are left.
     pub fn carve(&mut self, n: u32) -> Result<Span, Full>
         ensures span { IfOk result (λ s. s ≡ next_span self.old n) }
@@ -95,6 +106,21 @@ impl Region {
         &self.words[start..start + s.len as usize]
     }
 
+    /// All words of the region.
+    pub fn all(&self) -> &[u64]
+        ensures { result.now ≡ self.now.words }
+    {
+        self.words.as_slice()
+    }
+
+    /// All words of the region, to be changed.
+    pub fn all_mut(&mut self) -> &mut [u64]
+        ensures* writes_back { sem 𝓛 (LendsAll self.entry result) }
+        ensures value { result.now ≡ self.old.words }
+    {
+        self.words.as_mut_slice()
+    }
+
     /// Writes the word of the span at this index.
     pub fn put(&mut self, s: Span, i: u32, v: u64)
         requires within { IsWithin s self.old }
@@ -113,6 +139,17 @@ impl Region {
     {
         let start = s.start as usize;
         self.words.slice_mut(start..start + s.len as usize)
+    }
+
+    /// Writes all words of the span.
+    pub fn fill(&mut self, s: Span, words: &[u64])
+        requires within { IsWithin s self.old }
+        requires as_many { length words.now ≡ s.len }
+        ensures filled { self.new ≡ filled self.old s words.now }
+        ensures sound { IsSound self.new }
+    {
+        let start = s.start as usize;
+        self.words[start..start + s.len as usize].copy_from_slice(words);
     }
 
     /// Copies the words of one span over those of another.

@@ -1,4 +1,5 @@
 pub mod Alike
+pub mod Files
 pub mod Lines
 pub mod Numbers
 pub mod Sims

@@ -1,4 +1,5 @@
 pub mod Texts
+pub mod Differing
 pub mod States
 pub mod Runs
 pub mod inner

@@ -1,5 +1,4 @@
 -- For private contracts and proofs only: a reader need not trust it.
 pub mod Targets
 pub mod Boards
-pub mod Differing
 pub mod Pieces

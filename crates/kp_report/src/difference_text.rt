@@ -6,7 +6,7 @@ ghost use Rattle.kp_machine.specs.Slots.{targets_of};
 ghost use Rattle.kp_machine.specs.Words.{no_slot};
 ghost use Rattle.kp_report.specs.States.{targets_in};
 ghost use Rattle.kp_report.specs.Texts.{word_named, cycle_differing, values_differing};
-ghost use Rattle.kp_report.specs.inner.Differing.{differing_text};
+ghost use Rattle.kp_report.specs.Differing.{differing_text};
 
 use crate::pieces::{Piece, put_pieces};
 use crate::runs::write_rows;

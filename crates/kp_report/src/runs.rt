@@ -44,7 +44,7 @@ fn write_parts<K: Sink>(board: &Board<'_>, sink: &mut K) -> Result<(), SinkFault
 }
 
 // The counts, and the values.
-#[tactic(auto, using(kp_base::proofs::Bytes::writes_next, kp_base::proofs::Bytes::part_more, kp_image::proofs::Given::few_words))]
+#[tactic(auto, using(kp_base::proofs::Bytes::writes_next, kp_base::proofs::Bytes::part_more, crate::proofs::Files::few_words))]
 fn write_rest<K: Sink>(board: &Board<'_>, sink: &mut K) -> Result<(), SinkFault>
     ensures text { Writes (K.held sink.old) (K.held sink.new) (rest_text board.now.cycles.monitor.stages board.now.design.now.job board.now.cycles.rows.items) result }
     ensures cause { HasCause (K.faults sink.old) (K.faults sink.new) result }

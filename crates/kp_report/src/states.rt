@@ -19,7 +19,7 @@ use kp_stage::Design;
 
 /// Writes the number of instructions that a machine of the design has executed, and its state after them: each register and file in the order of
 /// declaration. A fault comes only from the sink, which then has a prefix of the text.
-#[tactic(auto, using(kp_base::proofs::Bytes::writes_next, kp_base::proofs::Bytes::part_more, kp_image::proofs::Given::few_words))]
+#[tactic(auto, using(kp_base::proofs::Bytes::writes_next, kp_base::proofs::Bytes::part_more, crate::proofs::Files::few_words))]
 pub fn write_run_after<K: Sink>(
     count: u32,
     machine: &SeqMachine<'_>,

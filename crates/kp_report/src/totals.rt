@@ -12,7 +12,7 @@ use kp_ast::Decl;
 use kp_run::Board;
 
 /// The totals of a run of a job.
-#[tactic(auto, using(kp_image::proofs::Given::few_words, kp_sched::proofs::Counting::seen_length))]
+#[tactic(auto, using(crate::proofs::Files::few_words, kp_sched::proofs::Counting::seen_length))]
 pub fn totals_of(board: &Board<'_>) -> Totals
     ensures { result ≡ totals_of board.now.design.now.job (rows_seen board.now.design.now.job.stages.value board.now.cycles.rows.items)
         (due_behind board.now.design.now.job board.now.cycles.rows.items) }

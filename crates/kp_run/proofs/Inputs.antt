@@ -1,15 +1,16 @@
 -- The inputs of a netlist of a job are those that its sections specify.
 use Rattle.std.proofs.Common.{◌≡◌, ◌∙◌, ℕ, zero, suc, ◌+◌, ◌%◌, ◌^◌, ◌<◌, ◌≤◌, List, [], ◌∷◌, ◌++◌, map, length, get_or, Bool, true, false, None, refl, ap, sym, arith}
 use Rattle.std.proofs.{Math.Path.fun_ext, Math.Nat.mod-eq_of_lt, Math.Nat.div-eq_of_lt, lemmas.Bool.ltb-true, lemmas.Bool.ltb-false, lemmas.Bool.eqb-true}
-use Rattle.std.proofs.lemmas.{Nat.pow_pos, List.Elements.All-push}
+use Rattle.std.proofs.lemmas.{Nat.pow_pos, List.Elements.All-head, List.Elements.All-push, List.Elements.All-tail}
+use Rattle.std.specs.List.{All}
 use Rattle.std.specs.Prelude.{◌==◌, nat_lt, ◌||◌, ◌&&◌, slice_index}
 use Rattle.kp_base.specs.First.{first}
 use Rattle.kp_bits.{specs.Word.Word, specs.Operators.no_word, proofs.Powers.pow_le}
 use Rattle.kp_ast.specs.declared.tree.{Job.Job, Stalls.Stalls}
-use Rattle.kp_width.{proofs.Unbroken.Unbroken, proofs.Unbroken.bind_unbroken, proofs.Unbroken.answer_unbroken, specs.Widths.widths_of}
+use Rattle.kp_width.specs.Widths.{widths_of}
 use Rattle.kp_stage.specs.Start.{stall_word, stalls_at, is_stalled, bits_below, stalls_of, input, AreSamples}
-use Rattle.kp_image.specs.Sections.{stall_of, stalls_checked, sections_of}
-use Rattle.kp_image.proofs.Given.{stalls_right, rows_fit}
+use Rattle.kp_image.specs.Sections.{stall_of, sections_of}
+use Rattle.kp_image.proofs.{Given.stalls_right, Given.rows_fit, Unbroken.stage_right}
 use Rattle.kp_pipeline.specs.Pipeline.{Inputs}
 use Rattle.kp_machine.specs.Machine.{inputs_at, inputs_from, values_in}
 use Rattle.kp_net.specs.Netlist.{Input}
@@ -39,12 +40,12 @@ other_stage stages s k rest e h = go (s == k) refl
         absurd (omega (arith, low, it, h))
     go false other = refl
 
-none_stalls : (stages : ℕ) (es : List Stalls) → Unbroken (stalls_checked stages es) → (k cycle : ℕ) → stages ≤ k → is_stalled es k cycle ≡ false
+none_stalls : (stages : ℕ) (es : List Stalls) → All (λ e. stall_of stages e ≡ None) es → (k cycle : ℕ) → stages ≤ k → is_stalled es k cycle ≡ false
 none_stalls stages [] u k cycle h = refl
 none_stalls stages (e ∷ es) u k cycle h =
-    let a = bind_unbroken (stall_of stages e) (λ x. stalls_checked stages es) u in
-    let here : stalls_at e k cycle ≡ false = other_stage stages e.stage.value k _ (answer_unbroken _ _ _ a.0).0 h in
-    ap (λ (b : Bool). b || is_stalled es k cycle) here ∙ none_stalls stages es a.1 k cycle h
+    let right = stage_right stages e (All-head (λ e. stall_of stages e ≡ None) e es u) in
+    let here : stalls_at e k cycle ≡ false = other_stage stages e.stage.value k _ right h in
+    ap (λ (b : Bool). b || is_stalled es k cycle) here ∙ none_stalls stages es (All-tail (λ e. stall_of stages e ≡ None) e es u) k cycle h
 
 -- ---- a cycle
 

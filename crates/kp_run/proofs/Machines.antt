@@ -1,12 +1,11 @@
 -- The machines after a run, and which of them has the value of a target.
 use Rattle.std.proofs.Common.{◌≡◌, ◌∙◌, ℕ, zero, suc, ◌+◌, ◌<◌, ◌≤◌, List, [], ◌∷◌, ◌++◌, length, get_or, Bool, true, false, Option, Some, None, refl, ap, sym, arith, below_more}
-use Rattle.std.proofs.lemmas.{Bool.ltb-true, Bool.ltb-false, Bool.leb-true, Bool.and_parts, Bool.lt-ltb, Bool.le-ltb, List.get_or_append_left, List.get_or_push}
-use Rattle.std.specs.{Prelude.is_some, Prelude.nat_lt, Prelude.nat_le, Prelude.◌&&◌, Prelude.if◌then◌else◌, List.All}
-use Rattle.kp_base.specs.{Refusal.e_rule, declared.row.Row.Row}
+use Rattle.std.proofs.lemmas.{Bool.ltb-true, Bool.ltb-false, Bool.lt-ltb, Bool.le-ltb, List.get_or_append_left, List.get_or_push}
+use Rattle.std.specs.{Prelude.is_some, Prelude.nat_lt, Prelude.if◌then◌else◌, List.All}
+use Rattle.kp_base.specs.declared.row.Row.{Row}
 use Rattle.kp_bits.specs.Word.{Word}
 use Rattle.kp_ast.specs.declared.tree.{Job.Job, ResultDecl.ResultDecl}
-use Rattle.kp_stage.{specs.Facts.facts_of, specs.Start.start_of, specs.Stages.broken_of, proofs.Unbroken.first_none, proofs.Unbroken.answer_none}
-use Rattle.kp_machine.proofs.Rules.{head_kept}
+use Rattle.kp_stage.{specs.Facts.facts_of, specs.Start.start_of, specs.Stages.broken_of, proofs.Unbroken.stages_kept, proofs.Kept.rules_kept}
 use Rattle.kp_machine.specs.Machine.{machine_of, result_for, state_of, sequential, values_in, write_stage_of}
 use Rattle.kp_machine.specs.Slots.{targets_of, result_to}
 use Rattle.kp_pipeline.specs.{Accepted.Accepted, Sequential.exec, Sequential.seq, Rows.passed}
@@ -22,12 +21,9 @@ State = ℕ → ℕ → ℕ
 -- ---- the number of stages
 
 pub stages_fit : (job : Job) → broken_of job ≡ None → (2 ≤ job.stages.value) × (job.stages.value ≤ 12)
-unfolding broken_of
 stages_fit job e =
-    let n = job.stages.value in
-    let both = and_parts (nat_le 2 n && nat_le n 12) (nat_le n (length job.blocks)) (answer_none _ (e_rule 15 job.stages.at) (head_kept (facts_of job) job (first_none _ _ e).0 0 _ refl)) in
-    let ends = and_parts (nat_le 2 n) (nat_le n 12) both.0 in
-    (leb-true 2 n ends.0, leb-true n 12 ends.1)
+    let all = stages_kept (facts_of job) job (rules_kept job e) in
+    (all.0, all.1)
 
 -- ---- which machine has the value of a target
 

@@ -2,15 +2,18 @@
 use Rattle.std.proofs.Common.{◌≡◌, ◌∙◌, ℕ, ◌+◌, ◌^◌, ◌<◌, ◌≤◌, List, [], ◌∷◌, ◌++◌, Option, Some, None, Bool, true, false, ◌||◌, cond, length, refl, ap, sym, subst, arith, lit<}
 use Rattle.std.proofs.{lemmas.Bool.eqb-true, lemmas.Bool.le-leb, Math.Pow.pow_mono}
 use Rattle.std.specs.Prelude.{is_some, slice_get, not, nat_le, ◌&&◌, ◌==◌}
-use Rattle.kp_base.specs.{First.first, Check.ok, Check.◌>>=◌, Check.wants, Refusal.e_rule}
+use Rattle.kp_base.specs.{First.first, Check.ok, Check.◌>>=◌, Check.wants}
 use Rattle.kp_ast.specs.declared.tree.{Expr.Expr, ReadStmt.ReadStmt, Stmt.Stmt, StmtKind.StmtKind, Job.Job}
 use Rattle.kp_ast.specs.declared.tree.StmtKind.TheVariants as stmts
 use Rattle.kp_ast.specs.declared.widths.NameKind.TheVariants as kinds
 use Rattle.kp_width.specs.Names.{Sense, sense, Names, Scoped, look_up, find, is_register, is_file, declared_local, passed}
 use Rattle.kp_width.specs.Expressions.{width_of, part_of, value_of}
 use Rattle.kp_width.specs.Declarations.{kept, storage_of, address_width}
+use Rattle.kp_width.specs.{Faults.found_at, declared.fault.Position.Position}
+use Rattle.kp_width.specs.declared.fault.WidthFault.TheVariants as faults
+use Rattle.kp_width.specs.declared.fault.Destination.TheVariants as to
 use Rattle.kp_width.specs.{Statements.when_of, Statements.address_of, Statements.read_of, Statements.statement_of, Statements.statements_of, Widths.widths_of}
-use Rattle.kp_width.proofs.{Unbroken.Unbroken, Unbroken.bind_unbroken, Unbroken.answer_unbroken, Found.none_of_two}
+use Rattle.kp_width.proofs.{Unbroken.Unbroken, Unbroken.bind_unbroken, Unbroken.answer_unbroken, Found.none_of_two, Found.storage_takes}
 use Rattle.kp_stage.specs.{Facts.facts_of, Rules.ask_option, Rules.ask_values, Rules.ask_stmt, Rules.ask_stmts, Rules.all_rules}
 use Rattle.kp_stage.proofs.Unbroken.{first_none}
 use Rattle.kp_pipeline.specs.Sequential.{Instruction}
@@ -33,13 +36,13 @@ low_fits v w l h =
 
 module _ (job : Job) (unbroken : Unbroken (widths_of job)) (t : Laid) (tables : AreTables job t) (rule : _) (is25 : slice_get all_rules 10 ≡ Some rule) (k : ℕ) (s : Scoped) (done : Progress) (u : Under) (now : Named job unbroken t tables rule is25 k s done u) where
   -- an address is as wide as those of its file
-  address_small : (address : Option Expr) (w : ℕ) → w ≤ 16 → ask_option (facts_of job) rule k address ≡ None
-      → Unbroken (kept address (λ e. address_of (part_of job.decls (length job.decls) s e) w)) → trees.address_of job.decls done address < 2 ^ 32
-  address_small None w low free right = lit< tt
-  address_small (Some e) w low free right =
-      let r = bind_unbroken (width_of job.decls (length job.decls) s e) (λ x. wants (x == w) (e_rule 14 (part_of job.decls (length job.decls) s e).at) passed) right in
+  address_small : (address : Option Expr) (w file : ℕ) → w ≤ 16 → ask_option (facts_of job) rule k address ≡ None
+      → Unbroken (kept address (λ e. address_of (part_of job.decls (length job.decls) s e) w file)) → trees.address_of job.decls done address < 2 ^ 32
+  address_small None w file low free right = lit< tt
+  address_small (Some e) w file low free right =
+      let r = bind_unbroken (width_of job.decls (length job.decls) s e) (λ x. wants (x == w) (found_at (part_of job.decls (length job.decls) s e).at (faults.Address x w file)) passed) right in
       let is : (width_of job.decls (length job.decls) s e).value ≡ w =
-      eqb-true _ w (answer_unbroken ((width_of job.decls (length job.decls) s e).value == w) (e_rule 14 (part_of job.decls (length job.decls) s e).at) [] r.1).0 in
+      eqb-true _ w (answer_unbroken ((width_of job.decls (length job.decls) s e).value == w) _ [] r.1).0 in
       let f = value_found job unbroken t tables rule is25 k s done u now e free r.0 in
       low_fits (trees.value_of job.decls done e) w low (subst (λ n. trees.value_of job.decls done e < 2 ^ n) (f.has.width ∙ is) f.has.word.fits)
 
@@ -55,14 +58,14 @@ module _ (job : Job) (unbroken : Unbroken (widths_of job)) (t : Laid) (tables : 
       → (is_wide t r ≡ true) × (narrow_address (asked_in t u r) ≡ where_true (trees.holds job.decls done r.when) (trees.address_of job.decls done r.address))
   read_asked r free right =
       let b = none_of_two (ask_option (facts_of job) rule k r.address) (ask_option (facts_of job) rule k r.when) free in
-      let a = answer_unbroken (not (is_some (find s r.name.name))) (e_rule 5 r.name.at) (read_of job.decls s r >>= (λ w. ok (declared_local s r.name.name (sense kinds.Read w 0)))).asked right in
+      let a = answer_unbroken (not (is_some (find s r.name.name))) _ (read_of job.decls s r >>= (λ w. ok (declared_local s r.name.name (sense kinds.Read w 0)))).asked right in
       let x = (bind_unbroken (read_of job.decls s r) (λ w. ok (declared_local s r.name.name (sense kinds.Read w 0))) a.1).0 in
       let st = storage_of s r.target (is_some r.address) in
-      let y = bind_unbroken st (λ z. kept r.address (λ e. address_of (part_of job.decls (length job.decls) s e) (address_width z.kind)) >>= (λ v. when_of job.decls s r.when >>= (λ p. kept r.guess (λ e. value_of (part_of job.decls (length job.decls) s e) z.width) >>= (λ q. ok z.width)))) x in
-      let z = bind_unbroken (kept r.address (λ e. address_of (part_of job.decls (length job.decls) s e) (address_width st.value.kind))) (λ v. when_of job.decls s r.when >>= (λ p. kept r.guess (λ e. value_of (part_of job.decls (length job.decls) s e) st.value.width) >>= (λ q. ok st.value.width))) y.1 in
-      let w = (bind_unbroken (when_of job.decls s r.when) (λ p. kept r.guess (λ e. value_of (part_of job.decls (length job.decls) s e) st.value.width) >>= (λ q. ok st.value.width)) z.1).0 in
-      let f = found_sense (cond (is_some r.address) is_file is_register) r.target.at (find s r.target.name) y.0 in
-      let kind = storage_kind (is_some r.address) f.0.kind f.2 in
+      let y = bind_unbroken st (λ z. kept r.address (λ e. address_of (part_of job.decls (length job.decls) s e) (address_width z.kind) z.from) >>= (λ v. when_of job.decls s r.when >>= (λ p. kept r.guess (λ e. value_of (part_of job.decls (length job.decls) s e) z.width (to.Named z.kind z.from)) >>= (λ q. ok z.width)))) x in
+      let z = bind_unbroken (kept r.address (λ e. address_of (part_of job.decls (length job.decls) s e) (address_width st.value.kind) st.value.from)) (λ v. when_of job.decls s r.when >>= (λ p. kept r.guess (λ e. value_of (part_of job.decls (length job.decls) s e) st.value.width (to.Named st.value.kind st.value.from)) >>= (λ q. ok st.value.width))) y.1 in
+      let w = (bind_unbroken (when_of job.decls s r.when) (λ p. kept r.guess (λ e. value_of (part_of job.decls (length job.decls) s e) st.value.width (to.Named st.value.kind st.value.from)) >>= (λ q. ok st.value.width)) z.1).0 in
+      let f = found_sense s.here _ (cond (is_some r.address) Position.File Position.Register) r.target.at (find s r.target.name) y.0 in
+      let kind = storage_kind (is_some r.address) f.0.kind (storage_takes (is_some r.address) s.here f.0.kind f.2) in
       let at : IsSlot (targets_of job.decls) r.target.name f.0.width (address_width f.0.kind) = found_where s r.target.name f.0 f.1
       (λ l. local_no (λ kind. is_register kind || is_file kind) refl refl f.0.kind (now.locals r.target.name f.0 l) kind)
       (λ n g. (placed job unbroken r.target.name f.0 (ap (λ (names : Names). look_up names r.target.name) (sym now.of_text) ∙ g)).target kind) in
@@ -79,8 +82,8 @@ module _ (job : Job) (unbroken : Unbroken (widths_of job)) (t : Laid) (tables : 
         wide_enough,
         cut (holds t u r.when) (trees.holds job.decls done r.when) (address_in t u r.address) (trees.address_of job.decls done r.address)
             (holds_same job unbroken t tables rule is25 k s done u now r.when b.1 w)
-            (address_same job unbroken t tables rule is25 k s done u now r.address (address_width st.value.kind) b.0 z.0)
-            (address_small r.address (address_width st.value.kind) low b.0 z.0),
+            (address_same job unbroken t tables rule is25 k s done u now r.address (address_width st.value.kind) st.value.from b.0 z.0)
+            (address_small r.address (address_width st.value.kind) st.value.from low b.0 z.0),
       )
 
 -- the notes after these reads

@@ -2,13 +2,14 @@
 use Rattle.std.proofs.Common.{◌≡◌, ◌∙◌, ℕ, ◌+◌, List, [], ◌∷◌, Option, Some, None, Bool, true, false, cond, not, length, refl, ap, sym, subst}
 use Rattle.std.{proofs.lemmas.List.Quantifiers.position-Some, specs.Option.option_map}
 use Rattle.std.specs.{Prelude.is_some, Prelude.slice_get, Prelude.unwrap_or, Prelude.◌<◌, List.position}
-use Rattle.kp_base.specs.{Check.ok, Check.◌>>=◌, Refusal.e_rule, First.first}
+use Rattle.kp_base.specs.{Check.ok, Check.◌>>=◌, First.first}
 use Rattle.kp_ast.specs.{Expressions.is_same_name, declared.tree.StmtKind.StmtKind, declared.tree.ResultDecl.ResultDecl, declared.tree.Job.Job}
 use Rattle.kp_ast.specs.declared.tree.Stmt.{Stmt}
 use Rattle.kp_ast.specs.Expressions as values
 use Rattle.kp_ast.specs.declared.tree.StmtKind.TheVariants as stmts
 use Rattle.kp_ast.specs.declared.widths.NameKind.TheVariants as kinds
 use Rattle.kp_width.specs.Names.{Sense, sense, Scoped, find, look_up, or_else, is_pipe, is_result, declared_local}
+use Rattle.kp_width.specs.declared.fault.Position.{Position}
 use Rattle.kp_width.specs.{Expressions.width_of, Statements.when_of, Statements.given, Statements.read_of, Statements.statement_of, Statements.statements_of}
 use Rattle.kp_width.{specs.Widths.widths_of, proofs.Unbroken.Unbroken, proofs.Unbroken.bind_unbroken, proofs.Unbroken.answer_unbroken}
 use Rattle.kp_width.proofs.Found.{Found, none_of_two}
@@ -72,7 +73,7 @@ module _ (job : Job) (unbroken : Unbroken (widths_of job)) (t : Laid) (tables : 
       → ((q : List ℕ) → find s q ≡ None → is_some (find (statement_of job.decls s x).value q) ≡ true → HasPlace q)
       → Before (statement_of job.decls s x).value (next job.decls (state_in words) done x) (after_stmt t words u x)
   one_turn s done u (stmts.Read r) h free right key =
-      let new = fresh_none (find s r.name.name) (answer_unbroken (not (is_some (find s r.name.name))) (e_rule 5 r.name.at) (read_of job.decls s r >>= (λ w. ok (declared_local s r.name.name (sense kinds.Read w 0)))).asked right).0 in
+      let new = fresh_none (find s r.name.name) (answer_unbroken (not (is_some (find s r.name.name))) _ (read_of job.decls s r >>= (λ w. ok (declared_local s r.name.name (sense kinds.Read w 0)))).asked right).0 in
       let i = key r.name.name new (declared_there s r.name.name _ new) in
       record {
         named = read_turn job unbroken t tables rule is25 k s done u h.named words fit r i.0 free right (h.named.only r.name.name new) i.1 (place_in u r.name.name h.places i);
@@ -80,7 +81,7 @@ module _ (job : Job) (unbroken : Unbroken (widths_of job)) (t : Laid) (tables : 
         places = (stmt_same t words u (stmts.Read r)).names ∙ h.places;
       }
   one_turn s done u (stmts.Let n e) h free right key =
-      let new = fresh_none (find s n.name) (answer_unbroken (not (is_some (find s n.name))) (e_rule 5 n.at) (width_of job.decls (length job.decls) s e >>= (λ w. ok (declared_local s n.name (sense kinds.Let w 0)))).asked right).0 in
+      let new = fresh_none (find s n.name) (answer_unbroken (not (is_some (find s n.name))) _ (width_of job.decls (length job.decls) s e >>= (λ w. ok (declared_local s n.name (sense kinds.Let w 0)))).asked right).0 in
       let i = key n.name new (declared_there s n.name _ new) in
       record {
         named = let_turn job unbroken t tables rule is25 k s done u h.named n e i.0 free right (h.named.only n.name new) i.1 (place_in u n.name h.places i);
@@ -89,12 +90,12 @@ module _ (job : Job) (unbroken : Unbroken (widths_of job)) (t : Laid) (tables : 
       }
   one_turn s done u (stmts.Put n e) h free right key = record {
     named = record { of_text = h.named.of_text; here = h.named.here; locals = h.named.locals; same = h.named.same; known = h.named.known; only = h.named.only };
-    lists = put_turn job unbroken t tables rule is25 k s done u h.named c h.lists n e free (bind_unbroken (given job.decls s is_pipe n e) (λ y. ok s) right).0;
+    lists = put_turn job unbroken t tables rule is25 k s done u h.named c h.lists n e free (bind_unbroken (given job.decls s Position.Pipe n e) (λ y. ok s) right).0;
     places = h.places;
   }
   one_turn s done u (stmts.Set n e when) h free right key =
       let b = none_of_two (ask_expr (facts_of job) rule k e) (ask_option (facts_of job) rule k when) free in
-      let x = bind_unbroken (given job.decls s is_result n e) (λ y. when_of job.decls s when >>= (λ z. ok s)) right in
+      let x = bind_unbroken (given job.decls s Position.Result n e) (λ y. when_of job.decls s when >>= (λ z. ok s)) right in
       let w = (bind_unbroken (when_of job.decls s when) (λ z. ok s) x.1).0 in
       let v = trees.value_of job.decls done e in
       set_by (holds t u when) (trees.holds job.decls done when) s done (trees.with_set job.decls done (result_named job.decls n.name) v) u (with_result t u (result_named t.decls n.name) (word_in t u e).value)

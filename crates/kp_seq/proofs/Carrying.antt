@@ -54,11 +54,9 @@ carried_run r i f (p ∷ ps) h n l =
     )
 
 -- all of them, from the first pipe on
-pub carried_all : (r s : Raw) (f end : ℕ) (ps : List (Option ℕ)) → IsRun f ps → end ≡ f + length ps → length ps ≡ length r.pipes → end ≤ length r.names
-    → s ≡ with_run r f → s ≡ with_carried r 0 ps
-carried_all r s f end ps h e n l is =
+pub carried_all : (r s : Raw) (f : ℕ) (ps : List (Option ℕ)) → IsRun f ps → length ps ≡ length r.pipes → f + length ps ≤ length r.names → s ≡ with_run r f → s ≡ with_carried r 0 ps
+carried_all r s f ps h n l is =
     let m : length r.pipes ≡ 0 + length ps = omega (arith, n) in
-    let k : f + length ps ≤ length r.names = omega (arith, e, l) in
     is
     ∙ ap (λ k. with_names r (take f r.names ++ (r.pipes ++ drop (f + k) r.names))) (sym n)
-    ∙ sym (carried_run r 0 f ps h m k)
+    ∙ sym (carried_run r 0 f ps h m l)

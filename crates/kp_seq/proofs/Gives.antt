@@ -6,6 +6,8 @@ use Rattle.kp_bits.specs.Word.{Word}
 use Rattle.kp_ast.specs.declared.tree.{Expr.Expr, ResultDecl.ResultDecl, Decl.Decl, Job.Job}
 use Rattle.kp_ast.specs.declared.tree.Named as tree
 use Rattle.kp_width.specs.Names.{Sense, Names, Scoped, nothing, look_up, find, used, is_pipe, is_result}
+use Rattle.kp_width.specs.declared.fault.Position.{Position}
+use Rattle.kp_width.specs.declared.fault.Destination.TheVariants as to
 use Rattle.kp_width.specs.{Expressions.part_of, Expressions.value_of, Declarations.address_width, Statements.given, Widths.widths_of}
 use Rattle.kp_width.proofs.Unbroken.{Unbroken, bind_unbroken}
 use Rattle.kp_stage.specs.{Facts.facts_of, Rules.ask_expr, Rules.all_rules}
@@ -39,18 +41,18 @@ module _ (job : Job) (unbroken : Unbroken (widths_of job)) (t : Laid) (tables : 
   of_text q m e = ap (λ (names : Names). look_up names q) (sym now.of_text) ∙ e
 
   -- a pipe that is put
-  pub put_turn : (n : tree.Named) (e : Expr) → ask_expr (facts_of job) rule k e ≡ None → Unbroken (given job.decls s is_pipe n e)
+  pub put_turn : (n : tree.Named) (e : Expr) → ask_expr (facts_of job) rule k e ≡ None → Unbroken (given job.decls s Position.Pipe n e)
       → Lists job.decls c (with_put done (number_of (pipes_of job.decls) n.name) (trees.value_of job.decls done e)) (with_pipe u (number_of t.pipes n.name) (word_in t u e).value)
   put_turn n e free right =
-      let x = bind_unbroken (used s is_pipe n.name n.at) (λ m. value_of (part_of job.decls (length job.decls) s e) m.width) right in
-      let f = found_sense is_pipe n.at (find s n.name) x.0 in
-      let g = given_fits job unbroken t tables rule is25 k s done u now e (used s is_pipe n.name n.at).value.width free x.1 in
+      let x = bind_unbroken (used s Position.Pipe n.name n.at) (λ m. value_of (part_of job.decls (length job.decls) s e) m.width (to.Named m.kind m.from)) right in
+      let f = found_sense s.here _ Position.Pipe n.at (find s n.name) x.0 in
+      let g = given_fits job unbroken t tables rule is25 k s done u now e (used s Position.Pipe n.name n.at).value.width _ free x.1 in
       let at : IsSlot (pipes_of job.decls) n.name f.0.width 0 = found_where s n.name f.0 f.1
       (λ l. local_no is_pipe refl refl f.0.kind (now.locals n.name f.0 l) f.2)
       (λ none z. (placed job unbroken n.name f.0 (of_text n.name f.0 z)).pipe f.2) in
       let p : ℕ = number_of (pipes_of job.decls) n.name in
       let v : ℕ = trees.value_of job.decls done e in
-      let w : f.0.width ≡ (used s is_pipe n.name n.at).value.width = ap (λ (m : Sense). m.width) f.3 in
+      let w : f.0.width ≡ (used s Position.Pipe n.name n.at).value.width = ap (λ (m : Sense). m.width) f.3 in
       let inside : p < length u.pipes = within p (length (pipes_of job.decls)) (length u.pipes) at.inside lists.pipe_count in
       let fits : v < 2 ^ width_of (pipes_of job.decls) n.name = subst (λ y. v < 2 ^ y) (g.1.width ∙ sym w ∙ sym at.width) g.1.word.fits in
       subst (λ y. Lists job.decls c (with_put done p v) (with_pipe u y (word_in t u e).value)) (sym (ap (λ ss. number_of ss n.name) tables.pipes))
@@ -80,18 +82,18 @@ module _ (job : Job) (unbroken : Unbroken (widths_of job)) (t : Laid) (tables : 
       (p.0, p.1, (address_width fit.sense.kind, subst (λ w. IsSlot (targets_of job.decls) p.0.target.name w (address_width fit.sense.kind)) (fit.width ∙ p.2) at))
 
   -- a result that is set, if its condition holds
-  pub set_turn : (n : tree.Named) (e : Expr) → ask_expr (facts_of job) rule k e ≡ None → Unbroken (given job.decls s is_result n e)
+  pub set_turn : (n : tree.Named) (e : Expr) → ask_expr (facts_of job) rule k e ≡ None → Unbroken (given job.decls s Position.Result n e)
       → Lists job.decls c (with_set job.decls done (result_named job.decls n.name) (trees.value_of job.decls done e)) (with_result t u (result_named t.decls n.name) (word_in t u e).value)
   set_turn n e free right =
-      let x = bind_unbroken (used s is_result n.name n.at) (λ m. value_of (part_of job.decls (length job.decls) s e) m.width) right in
-      let f = found_sense is_result n.at (find s n.name) x.0 in
-      let g = given_fits job unbroken t tables rule is25 k s done u now e (used s is_result n.name n.at).value.width free x.1 in
+      let x = bind_unbroken (used s Position.Result n.name n.at) (λ m. value_of (part_of job.decls (length job.decls) s e) m.width (to.Named m.kind m.from)) right in
+      let f = found_sense s.here _ Position.Result n.at (find s n.name) x.0 in
+      let g = given_fits job unbroken t tables rule is25 k s done u now e (used s Position.Result n.name n.at).value.width _ free x.1 in
       let r = found_where s n.name f.0 f.1
       (λ l. local_no is_result refl refl f.0.kind (now.locals n.name f.0 l) f.2)
       (λ none z. target_is n.name f.0 z f.2) in
       let p : ℕ = number_of (targets_of job.decls) r.0.target.name in
       let v : ℕ = trees.value_of job.decls done e in
-      let w : f.0.width ≡ (used s is_result n.name n.at).value.width = ap (λ (m : Sense). m.width) f.3 in
+      let w : f.0.width ≡ (used s Position.Result n.name n.at).value.width = ap (λ (m : Sense). m.width) f.3 in
       let inside : p < length u.results = within p (length (targets_of job.decls)) (length u.results) r.2.1.inside lists.result_count in
       let fits : v < 2 ^ width_of (targets_of job.decls) r.0.target.name = subst (λ y. v < 2 ^ y) (g.1.width ∙ sym w ∙ sym r.2.1.width) g.1.word.fits in
       let here : Lists job.decls c (with_set job.decls done (Some r.0) v) (with_first u p v) = record {

@@ -23,3 +23,5 @@ pub mod Low
 pub mod Asked
 pub mod Recording
 pub mod Stepping
+pub mod Flight
+pub mod Laying

@@ -2,7 +2,7 @@
 use Rattle.std.proofs.Common.{◌≡◌, ℕ, zero, suc, ◌+◌, ◌≤◌, List, [], ◌∷◌, Some, ◌&&◌, ap, ◌∙◌, arith}
 use Rattle.std.proofs.lemmas.Bool.{and_parts, leb-true}
 use Rattle.std.specs.Prelude.{nat_le, is_some, not, slice_get}
-use Rattle.kp_base.specs.{Refusal.e_rule, Check.ok, Check.◌>>=◌}
+use Rattle.kp_base.specs.{Check.ok, Check.◌>>=◌}
 use Rattle.kp_ast.specs.declared.tree.{Decl.Decl, Job.Job}
 use Rattle.kp_ast.specs.declared.tree.Decl.TheVariants as decls
 use Rattle.kp_ast.specs.declared.widths.NameKind.TheVariants as kinds
@@ -20,10 +20,10 @@ all_low : (ds : List Decl) (i k : ℕ) (s : Scoped) (rest : List Decl) → Unbro
 all_low ds i k s [] u = tt
 all_low ds i k s (decls.File n width address ∷ rest) u =
     let x = bind_unbroken (declaration_of ds i k s (decls.File n width address)) (λ t. declarations_of ds (i + 1) (k + 0) t rest) u in
-    let y = (answer_unbroken (not (is_some (find s n.name))) (e_rule 5 n.at) (after_name ds i k s (decls.File n width address)).asked x.0).1 in
+    let y = (answer_unbroken (not (is_some (find s n.name))) _ (after_name ds i k s (decls.File n width address)).asked x.0).1 in
     let z = bind_unbroken (declared width) (λ w. addresses_of address >>= (λ a. ok (declared_text s n.name (sense (kinds.File a) w i)))) y in
     let v = (bind_unbroken (addresses_of address) (λ a. ok (declared_text s n.name (sense (kinds.File a) width.value i))) z.1).0 in
-    let a = and_parts (nat_le 1 address.value) (nat_le address.value 16) (answer_unbroken (nat_le 1 address.value && nat_le address.value 16) (e_rule 14 address.at) [] v).0 in
+    let a = and_parts (nat_le 1 address.value) (nat_le address.value 16) (answer_unbroken (nat_le 1 address.value && nat_le address.value 16) _ [] v).0 in
     (leb-true address.value 16 a.1, all_low ds (i + 1) (k + 0) _ rest x.1)
 all_low ds i k s (d ∷ rest) u =
     all_low ds (i + 1) (k + functions_in d) _ rest

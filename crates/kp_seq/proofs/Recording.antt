@@ -1,9 +1,9 @@
 -- The implementation records of an instruction what the definition specifies.
-use Rattle.std.proofs.Common.{◌≡◌, ◌∙◌, ℕ, zero, suc, ◌+◌, ◌^◌, ◌<◌, ◌≤◌, List, [], ◌∷◌, Option, Some, None, Bool, true, false, ◌&&◌, length, map, get_or, replicate, refl, ap, sym, subst, arith, lit<}
-use Rattle.std.proofs.lemmas.{Bool.and_parts, Bool.leb-true, Bool.ltb-true, List.length-append, List.length-map, List.length-replicate, List.ext_get_or}
+use Rattle.std.proofs.Common.{◌≡◌, ◌∙◌, ℕ, zero, suc, ◌+◌, ◌^◌, ◌<◌, ◌≤◌, List, [], ◌∷◌, Option, Some, None, Bool, true, false, length, map, get_or, replicate, refl, ap, sym, subst, arith, lit<}
+use Rattle.std.proofs.lemmas.{Bool.ltb-true, List.length-append, List.length-map, List.length-replicate, List.ext_get_or}
 use Rattle.std.proofs.lemmas.{List.Sums.sum_by-cons, Option.get_or_from_slice_get, Option.slice_get_within}
-use Rattle.std.specs.Prelude.{is_some, slice_get, unwrap_or, sum_by, nat_le, nat_lt}
-use Rattle.kp_base.specs.{First.first, Refusal.e_rule}
+use Rattle.std.specs.Prelude.{is_some, slice_get, unwrap_or, sum_by, nat_lt}
+use Rattle.kp_base.specs.First.{first}
 use Rattle.kp_bits.specs.Word.{Word}
 use Rattle.kp_ast.specs.declared.tree.{ResultDecl.ResultDecl, Decl.Decl, Block.Block, Stmt.Stmt, StmtKind.StmtKind, Job.Job}
 use Rattle.kp_ast.specs.declared.tree.Decl.TheVariants as decls
@@ -11,12 +11,13 @@ use Rattle.kp_ast.specs.declared.tree.StmtKind.TheVariants as stmts
 use Rattle.kp_ast.specs.declared.widths.Scope.TheVariants as scopes
 use Rattle.kp_width.specs.{Names.Scoped, Names.nothing, Names.opened, Declarations.address_width, Statements.statements_of, Widths.widths_of}
 use Rattle.kp_width.proofs.Unbroken.{Unbroken}
-use Rattle.kp_stage.specs.{Counts.summary_of, Counts.reads_of, Counts.reads_in, Facts.facts_of, Facts.stmts_in, Rules.ask_stmts, Rules.all_rules}
-use Rattle.kp_stage.{specs.Stages.broken_of, specs.Start.AreSamples, proofs.Unbroken.answer_none}
+use Rattle.kp_stage.specs.{Counts.summary_of, Counts.reads_of, Counts.reads_in, Facts.facts_of, Facts.stmts_in, Rules.ask_stmts, Rules.all_rules, declared.rules.Rule.Rule}
+use Rattle.kp_stage.{specs.Stages.broken_of, specs.Start.AreSamples}
+use Rattle.kp_stage.proofs.{Unbroken.answer_none, Unbroken.few_stages, Kept.rules_kept, Kept.decl_kept, Kept.stmts_kept}
 use Rattle.kp_pipeline.specs.{Sequential.Instruction, Sequential.first_value, Sequential.before_stage, Timeline.first_stage}
 use Rattle.kp_machine.specs.{Slots.Slot, Slots.targets_of, Slots.pipes_of, Slots.number_of, Trees.Progress}
 use Rattle.kp_machine.{specs.Machine.machine_of, specs.Machine.values_in, specs.Machine.is_enabled_by, proofs.Results.Stands}
-use Rattle.kp_machine.proofs.{Rules.rules_kept, Rules.head_kept, Rules.decl_kept, Rules.stmts_kept, Scopes.results_fit, Stages.stages_inside}
+use Rattle.kp_machine.proofs.{Scopes.results_fit, Stages.stages_inside}
 use Rattle.kp_machine.{proofs.Text.declared_right, proofs.Text.target_slot, specs.Words.state_in}
 use Rattle.kp_machine.specs.Trees as trees
 use Rattle.kp_seq.specs.inner.Notes.{Noted, record_by, outlet_by, outlets_of, begun_notes, changed_from, narrowed, marked, with_marks, write_noted, setting_noted, with_results, note_stmts, note_blocks}
@@ -147,7 +148,7 @@ module _ (job : Job) (unbroken : Unbroken (widths_of job)) (kept : broken_of job
       let c = at_stage k in
       let done = trees.entered job.decls (values_in row) c.pipes in
       let inside = enters job unbroken t tables rule is25 k words fit row fits s c u h.of_text h.ended h.places.names h.places.pipes h.places.results (pipe_placed job unbroken t tables rule is25 k words fit c) (sample_placed job unbroken t tables rule is25 k words fit c) in
-      let free = subst (λ o. first (ask_stmts (facts_of job) rule k 0 (stmts_in o)) ≡ None) at (stmts_kept (facts_of job) job (rules_kept job kept) 10 rule is25 k) in
+      let free = subst (λ o. first (ask_stmts (facts_of job) rule k 0 (stmts_in o)) ≡ None) at (stmts_kept (facts_of job) job (rules_kept job kept) rule k) in
       all_asked job unbroken t tables rule is25 k words fit c (opened s (scopes.Stage k)) done (entered t row u) n 0 b.stmts inside free right (keyed job unbroken t tables rule is25 k words fit c k b (opened s (scopes.Stage k)) at)
       ∙ ap (λ o. after_reads n (reads_recorded job.decls (state_in words) done (stmts_in o))) (sym at)
 
@@ -244,10 +245,9 @@ module _ (job : Job) (unbroken : Unbroken (widths_of job)) (kept : broken_of job
       let facts = facts_of job in
       let n = job.stages.value in
       let p = sets (number_of (targets_of job.decls) r.target.name) in
-      let e : nat_lt r.stage.value n ≡ true = answer_none _ (e_rule 15 r.stage.at) (decl_kept facts job (rules_kept job kept) 0 _ refl s.index (decls.Target r) s.there) in
+      let e : nat_lt r.stage.value n ≡ true = answer_none _ _ (decl_kept facts job (rules_kept job kept) Rule.E15 s.index (decls.Target r) s.there) in
       let below : r.stage.value < n = ltb-true r.stage.value n e in
-      let holds = answer_none (nat_le 2 n && nat_le n 12 && nat_le n (length job.blocks)) (e_rule 15 job.stages.at) (head_kept facts job (rules_kept job kept) 0 _ refl) in
-      let few : n ≤ 12 = leb-true n 12 (and_parts (nat_le 2 n) (nat_le n 12) (and_parts (nat_le 2 n && nat_le n 12) (nat_le n (length job.blocks)) holds).0).1 in
+      let few : n ≤ 12 = few_stages facts job (rules_kept job kept) in
       let fits : first_stage p n 0 r.stage.value < 2 ^ 8 = stage_fits (first_stage p n 0 r.stage.value) n (first_below p n 0 r.stage.value n (all_of n) below) few in
       ap (narrowed 8) (seen_first p n r.stage.value) ∙ narrowed_is 8 (first_stage p n 0 r.stage.value) fits
 

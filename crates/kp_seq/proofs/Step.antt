@@ -10,7 +10,8 @@ use Rattle.kp_width.{specs.Widths.widths_of, proofs.Unbroken.Unbroken, proofs.Un
 use Rattle.kp_stage.specs.{Facts.facts_of, Facts.stmts_in, Rules.ask_stmts, Rules.all_rules, Stages.broken_of, Start.AreSamples}
 use Rattle.kp_pipeline.specs.Sequential.{Instruction, after_stage, before_stage, run}
 use Rattle.kp_machine.specs.{Slots.targets_of, Trees.Progress, Trees.tree_of, Machine.machine_of, Machine.stage_tree, Machine.values_in}
-use Rattle.kp_machine.proofs.{Rules.rules_kept, Rules.stmts_kept, Stages.stages_inside, Text.text}
+use Rattle.kp_stage.proofs.Kept.{rules_kept, stmts_kept}
+use Rattle.kp_machine.proofs.{Stages.stages_inside, Text.text}
 use Rattle.kp_machine.specs.Words.{state_in, after_one}
 use Rattle.kp_machine.specs.Trees as trees
 use Rattle.kp_seq.specs.inner.Resolved.{Outline, Raw, Resolves, AllDo, DoesStage, after_steps, entered_at, entry_widths, after_stages, begun_at, outputs, ran, note_steps, note_stages, noted}
@@ -88,7 +89,7 @@ module _ (job : Job) (unbroken : Unbroken (widths_of job)) (kept : broken_of job
       let c = before k in
       let done = trees.entered job.decls (values_in row) c.pipes in
       let there = enters job unbroken t tables rule is25 k words fit row fits s c u h.of_text h.ended h.places.names h.places.pipes h.places.results (pipe_placed job unbroken t tables rule is25 k words fit c) (sample_placed job unbroken t tables rule is25 k words fit c) in
-      let free = subst (λ o. first (ask_stmts (facts_of job) rule k 0 (stmts_in o)) ≡ None) at (stmts_kept (facts_of job) job (rules_kept job kept) 10 rule is25 k) in
+      let free = subst (λ o. first (ask_stmts (facts_of job) rule k 0 (stmts_in o)) ≡ None) at (stmts_kept (facts_of job) job (rules_kept job kept) rule k) in
       let turned = all_turn job unbroken t tables rule is25 k words fit c (opened s (scopes.Stage k)) done (entered t row u) 0 b.stmts there free right (keyed job unbroken t tables rule is25 k words fit c k b (opened s (scopes.Stage k)) at) in
       let runs = stage_runs job.decls (state_in words) done b.stmts in
       let out = run (seen job.decls (state_in words)) (no_hints job.decls (state_in words)) (tree_of job.decls done b.stmts) in

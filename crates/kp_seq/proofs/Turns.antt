@@ -1,7 +1,7 @@
 -- A statement of a stage: what it does to the lists is what it does in the abstract machine.
 use Rattle.std.proofs.Common.{◌≡◌, ◌∙◌, ℕ, ◌<◌, List, [], ◌∷◌, ◌++◌, Option, Some, None, true, false, cond, not, length, refl, ap, sym, subst}
 use Rattle.std.specs.{Prelude.is_some, Prelude.slice_get, Prelude.unwrap_or, Prelude.◌==◌, List.position, Cmp.Lexicographic.bytes_decides}
-use Rattle.kp_base.specs.{Check.ok, Check.◌>>=◌, Check.wants, Refusal.e_rule}
+use Rattle.kp_base.specs.{Check.ok, Check.◌>>=◌, Check.wants}
 use Rattle.kp_bits.specs.{Word.Word, Operators.no_word}
 use Rattle.kp_ast.specs.{Expressions.env_of, Expressions.names_of, Expressions.eval, Expressions.is_same_name, declared.tree.Expr.Expr, declared.tree.Job.Job}
 use Rattle.kp_ast.specs.Expressions as values
@@ -9,6 +9,8 @@ use Rattle.kp_ast.specs.declared.tree.Named as tree
 use Rattle.kp_ast.specs.declared.tree.StmtKind.TheVariants as stmts
 use Rattle.kp_ast.specs.declared.widths.NameKind.TheVariants as kinds
 use Rattle.kp_width.specs.Names.{Sense, sense, Names, Scoped, look_up, find, or_else, passed, declared_local}
+use Rattle.kp_width.specs.declared.fault.WidthFault.TheVariants as faults
+use Rattle.kp_width.specs.{Faults.found_at, declared.fault.Destination.Destination}
 use Rattle.kp_width.specs.{Expressions.width_of, Expressions.part_of, Expressions.value_of, Declarations.kept, Statements.when_of, Widths.widths_of}
 use Rattle.kp_width.{specs.Soundness.HasWidth, proofs.Unbroken.Unbroken, proofs.Unbroken.bind_unbroken, proofs.Unbroken.answer_unbroken}
 use Rattle.kp_width.proofs.{Parts.given_parts, Calls.pushed}
@@ -30,7 +32,7 @@ module _ (job : Job) (unbroken : Unbroken (widths_of job)) (t : Laid) (tables : 
   pub holds_same : (when : Option Expr) → ask_option (facts_of job) rule k when ≡ None → Unbroken (when_of job.decls s when) → holds t u when ≡ trees.holds job.decls done when
   holds_same None free right = refl
   holds_same (Some e) free right =
-      let r = (bind_unbroken (width_of job.decls (length job.decls) s e) (λ x. wants (x == 1) (e_rule 11 (part_of job.decls (length job.decls) s e).at) passed) right).0 in
+      let r = (bind_unbroken (width_of job.decls (length job.decls) s e) (λ x. wants (x == 1) (found_at (part_of job.decls (length job.decls) s e).at (faults.Condition x)) passed) right).0 in
       ap (λ (w : Word). w.value == 1) (word_is job unbroken t tables rule is25 k s done u now e free r)
 
   -- a name gets its value: a new one of the block
@@ -66,19 +68,19 @@ module _ (job : Job) (unbroken : Unbroken (widths_of job)) (t : Laid) (tables : 
   }
 
   -- the value of an expression that is given to something of this width
-  pub given_fits : (e : Expr) (w : ℕ) → ask_expr (facts_of job) rule k e ≡ None → Unbroken (value_of (part_of job.decls (length job.decls) s e) w)
+  pub given_fits : (e : Expr) (w : ℕ) (goes : Destination) → ask_expr (facts_of job) rule k e ≡ None → Unbroken (value_of (part_of job.decls (length job.decls) s e) w goes)
       → (word_in t u e ≡ trees.word_of job.decls done e) × HasWidth w (trees.word_of job.decls done e)
-  given_fits e w free right =
-      let g = given_parts job.decls (length job.decls) s e w right in
+  given_fits e w goes free right =
+      let g = given_parts job.decls (length job.decls) s e w goes right in
       let f = value_found job unbroken t tables rule is25 k s done u now e free g.0 in
       (word_is job unbroken t tables rule is25 k s done u now e free g.0, subst (λ n. HasWidth n (trees.word_of job.decls done e)) g.1 f.has)
 
   -- an address, which is as wide as the addresses of its file
-  pub address_same : (address : Option Expr) (w : ℕ) → ask_option (facts_of job) rule k address ≡ None
-      → Unbroken (kept address (λ e. statements.address_of (part_of job.decls (length job.decls) s e) w)) → address_in t u address ≡ trees.address_of job.decls done address
-  address_same None w free right = refl
-  address_same (Some e) w free right =
-      let r = (bind_unbroken (width_of job.decls (length job.decls) s e) (λ x. wants (x == w) (e_rule 14 (part_of job.decls (length job.decls) s e).at) passed) right).0 in
+  pub address_same : (address : Option Expr) (w file : ℕ) → ask_option (facts_of job) rule k address ≡ None
+      → Unbroken (kept address (λ e. statements.address_of (part_of job.decls (length job.decls) s e) w file)) → address_in t u address ≡ trees.address_of job.decls done address
+  address_same None w file free right = refl
+  address_same (Some e) w file free right =
+      let r = (bind_unbroken (width_of job.decls (length job.decls) s e) (λ x. wants (x == w) (found_at (part_of job.decls (length job.decls) s e).at (faults.Address x w file)) passed) right).0 in
       ap (λ (v : Word). v.value) (word_is job unbroken t tables rule is25 k s done u now e free r)
 
   -- a let binds a new name of the block to the value of its expression
@@ -88,7 +90,7 @@ module _ (job : Job) (unbroken : Unbroken (widths_of job)) (t : Laid) (tables : 
       (with_name done n.name (trees.word_of job.decls done e)) (steps.with_name t u n.name (word_in t u e))
   let_turn n e i free right none place inside =
       let m : Sense = sense kinds.Let (width_of job.decls (length job.decls) s e).value 0 in
-      let a = answer_unbroken (not (is_some (find s n.name))) (e_rule 5 n.at) (width_of job.decls (length job.decls) s e >>= (λ w. ok (declared_local s n.name (sense kinds.Let w 0)))).asked right in
+      let a = answer_unbroken (not (is_some (find s n.name))) _ (width_of job.decls (length job.decls) s e >>= (λ w. ok (declared_local s n.name (sense kinds.Let w 0)))).asked right in
       let r = (bind_unbroken (width_of job.decls (length job.decls) s e) (λ w. ok (declared_local s n.name (sense kinds.Let w 0))) a.1).0 in
       let f = value_found job unbroken t tables rule is25 k s done u now e free r in
       let same : word_in t u e ≡ trees.word_of job.decls done e = word_is job unbroken t tables rule is25 k s done u now e free r in

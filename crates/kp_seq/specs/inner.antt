@@ -4,5 +4,6 @@ pub mod Tables
 pub mod Names
 pub mod Fits
 pub mod Resolved
+pub mod Flight
 pub mod Ready
 pub mod Notes

@@ -1,9 +1,11 @@
 //! The execution of one instruction.
-ghost use Rattle.std.specs.Prelude.{◌≡◌, ◌≤◌, ◌+◌, None, length, get_or, All, IfOk, IfSome, if◌then◌else◌, slice_index, unwrap_or};
+ghost use Rattle.std.specs.Prelude.{◌≡◌, ◌≤◌, ◌+◌, ◌==◌, None, true, length, get_or, set, is_some, All, IfOk, if◌then◌else◌, slice_index, unwrap_or};
+ghost use Rattle.kp_region.specs.Words.{laid_over};
 ghost use Rattle.kp_seq_plan.specs.Codes.{value_of, space_of};
+ghost use Rattle.kp_seq.specs.Recorded.{where_true};
 ghost use Rattle.kp_seq.specs.inner.Ready.{HasRoom};
 ghost use Rattle.kp_seq.specs.inner.Steps.{is_enabled, address_by, written_by, written_from};
-ghost use Rattle.kp_seq.specs.inner.Resolved.{outputs, holds_at, asked_at, value_asked, note_step, note_steps, note_stages, noted, with_place, put_pipe, set_first, with_target, begun_at, after_step, after_steps, with_row_at, with_carried, with_run, entered_at, after_stages, ran, step_space, steps_space};
+ghost use Rattle.kp_seq.specs.inner.Resolved.{outputs, holds_at, value_asked, note_step, note_steps, note_stages, noted, with_place, put_pipe, set_first, with_target, begun_at, after_step, after_steps, with_row_at, with_carried, with_run, entered_at, after_stages, ran, step_space, steps_space};
 
 use crate::notes::Notes;
 use crate::places::Places;
@@ -12,16 +14,19 @@ use crate::tables::{Port, Tables};
 use crate::words::Words;
 use kp_base::NoMemory;
 use kp_bits::Bits;
-use kp_seq_plan::Code;
+use kp_region::Region;
+use kp_seq_plan::{Code, value};
 use std::alloc::Global;
 use std::marker::Model;
 
 /// An instruction in flight: the values of the names of its stage, indexed by the names' numbers, those of its pipes,
-/// and its results, indexed by their targets.
+/// and its results, indexed by their targets. Each of the three is a region, all words of which are one span. A result
+/// counts only where it is set.
 pub(crate) struct Instruction {
-    pub names: Vec<u64>,
-    pub pipes: Vec<u64>,
-    pub results: Vec<Option<u64>>,
+    names: Region,
+    pipes: Region,
+    results: Region,
+    is_set: Vec<bool>,
 }
 
 impl Drop for Instruction {
@@ -30,30 +35,39 @@ impl Drop for Instruction {
             names,
             pipes,
             results,
+            is_set,
         } = self;
         drop(names);
         drop(pipes);
         drop(results);
+        drop(is_set);
     }
 }
 
 impl Model for Instruction {
+    ghost use Rattle.std.specs.Prelude.{◌≡◌, length};
     ghost use Rattle.kp_seq.specs.inner.Resolved.{Raw};
+    ghost use Rattle.kp_seq.specs.inner.Flight.{where_set};
 
     ghost Value = { Raw };
 
-    ghost view = { λ u. record { names = u.names.items; pipes = u.pipes.items; results = u.results.items } };
+    ghost view = { λ u. record { names = u.names.words; pipes = u.pipes.words; results = where_set u.is_set.items u.results.words } };
+
+    ghost invariant = { λ u. length u.is_set.items ≡ length u.results.words };
 }
 
 impl Instruction {
     /// Storage for an instruction in flight. Error: out of memory.
+    #[tactic(auto, using(crate::proofs::Flight::where_length))]
     pub fn new(alloc: Global, tables: &Tables) -> Result<Instruction, NoMemory>
         ensures { IfOk result (λ u. HasRoom tables.now u) }
     {
+        let targets = tables.targets.len();
         Ok(Instruction {
-            names: vec![in alloc; 0; tables.names.len()]?,
-            pipes: vec![in alloc; 0; tables.pipes.len()]?,
-            results: vec![in alloc; None; tables.targets.len()]?,
+            names: zeros(alloc, tables.names.len())?,
+            pipes: zeros(alloc, tables.pipes.len())?,
+            results: zeros(alloc, targets)?,
+            is_set: vec![in alloc; false; targets]?,
         })
     }
 
@@ -61,8 +75,8 @@ impl Instruction {
     fn begin(&mut self)
         ensures { self.new ≡ begun_at self.old }
     {
-        self.pipes.as_mut_slice().fill(0);
-        self.results.as_mut_slice().fill(None);
+        self.pipes.all_mut().fill(0);
+        self.is_set.as_mut_slice().fill(false);
     }
 
     // Sets the value under an optional index.
@@ -70,9 +84,7 @@ impl Instruction {
         ensures { self.new ≡ with_place self.old place value }
     {
         if let Some(place) = place {
-            if place < self.names.len() {
-                self.names[place] = value;
-            }
+            put_at(self.names.all_mut(), place, value);
         }
     }
 
@@ -80,37 +92,47 @@ impl Instruction {
     fn put(&mut self, pipe: usize, value: u64)
         ensures { self.new ≡ put_pipe self.old pipe value }
     {
-        if pipe < self.pipes.len() {
-            self.pipes[pipe] = value;
-        }
+        put_at(self.pipes.all_mut(), pipe, value);
     }
 
     // Sets the result of a target, unless it has a value already.
     fn set(&mut self, target: usize, value: u64)
         ensures { self.new ≡ set_first self.old target value }
     {
-        if target < self.results.len() && self.results[target].is_none() {
-            self.results[target] = Some(value);
+        if target >= self.is_set.len() || self.is_set[target] {
+            return;
         }
+        self.is_set[target] = true;
+        put_at(self.results.all_mut(), target, value);
+    }
+
+    // The values of the names.
+    fn names(&self) -> &[u64]
+        ensures { result.now ≡ self.now.names }
+    {
+        self.names.all()
     }
 
     // The value of a pipe.
     fn pipe(&self, pipe: usize) -> u64
         ensures { result ≡ slice_index self.now.pipes pipe }
     {
-        if pipe < self.pipes.len() {
-            self.pipes[pipe]
-        } else {
-            0
-        }
+        word_at(self.pipes.all(), pipe)
+    }
+
+    /// Whether the result of a target is set.
+    pub fn has_result(&self, target: usize) -> bool
+        ensures { result ≡ is_some (get_or self.now.results target None) }
+    {
+        target < self.is_set.len() && self.is_set[target]
     }
 
     // The result of a target, and 0 if it has none.
     fn result(&self, target: usize) -> u64
         ensures { result ≡ unwrap_or (get_or self.now.results target None) 0 }
     {
-        if target < self.results.len() {
-            self.results[target].unwrap_or(0)
+        if self.has_result(target) {
+            word_at(self.results.all(), target)
         } else {
             0
         }
@@ -141,37 +163,29 @@ impl Instruction {
         ensures { self.new ≡ with_carried self.old 0 places.now }
     {
         if let Some(first) = places.first() {
-            if let Some(end) = self.end_of(first, places.len()) {
-                self.bring_run(first, end);
+            if self.has_run(first, places.len()) {
+                self.bring_run(first);
                 return;
             }
         }
         self.bring_each(places.as_slice());
     }
 
-    // The end of this many names from an index on, if there are as many, and as many pipes.
-    fn end_of(&self, first: usize, count: usize) -> Option<usize>
-        ensures end { IfSome result (λ end. end ≡ first + count) }
-        ensures pipes { IfSome result (λ end. count ≡ length self.now.pipes) }
-        ensures names { IfSome result (λ end. end ≤ length self.now.names) }
+    // Whether there are this many names from an index on, and as many pipes.
+    fn has_run(&self, first: usize, count: usize) -> bool
+        ensures pipes { result ≡ true → count ≡ length self.now.pipes }
+        ensures names { result ≡ true → first + count ≤ length self.now.names }
     {
-        if count != self.pipes.len() {
-            return None;
-        }
-        let end = first.checked_add(count)?;
-        if end > self.names.len() {
-            return None;
-        }
-        Some(end)
+        let names = self.names().len();
+        count == self.pipes.all().len() && count <= names && first <= names - count
     }
 
-    // The same where the indices of the names are in sequence, in this range.
-    fn bring_run(&mut self, first: usize, end: usize)
-        requires end { end ≡ first + length self.old.pipes }
-        requires names { end ≤ length self.old.names }
+    // The same where the indices of the names are in sequence, from this one on.
+    fn bring_run(&mut self, first: usize)
+        requires { first + length self.old.pipes ≤ length self.old.names }
         ensures { self.new ≡ with_run self.old first }
     {
-        self.names.as_mut_slice()[first..end].copy_from_slice(self.pipes.as_slice());
+        put_from(self.names.all_mut(), first, self.pipes.all());
     }
 
     // The same, one by one.
@@ -183,6 +197,40 @@ impl Instruction {
             self.bind(places[i], value);
         }
     }
+}
+
+// A region of this many words, all of them in one span. Error: out of memory, also where no region has as many.
+fn zeros(alloc: Global, words: usize) -> Result<Region, NoMemory>
+    ensures { IfOk result (λ r. length r.words ≡ words) }
+{
+    let size = u32::try_from(words).ok().ok_or(NoMemory)?;
+    let mut region = Region::take(alloc, size)?;
+    region.carve(size).unwrap();
+    Ok(region)
+}
+
+// The word at an index, and 0 if there is none.
+fn word_at(words: &[u64], i: usize) -> u64
+    ensures { result ≡ slice_index words.now i }
+{
+    if i < words.len() { words[i] } else { 0 }
+}
+
+// Sets the word at an index, if there is one.
+fn put_at(words: &mut [u64], i: usize, value: u64)
+    ensures { words.new ≡ set words.old i value }
+{
+    if i < words.len() {
+        words[i] = value;
+    }
+}
+
+// Overwrites words with others from an index on.
+fn put_from(words: &mut [u64], first: usize, others: &[u64])
+    requires { first + length others.now ≤ length words.old }
+    ensures { words.new ≡ laid_over words.old first others.now }
+{
+    words[first..first + others.len()].copy_from_slice(others);
 }
 
 /// Runs one instruction on these words, with these words of the samples, and records what its reads and results do.
@@ -260,17 +308,17 @@ fn run_step(
 {
     match step {
         Step::Read(reading) => {
-            let asked = asked(under, room, reading);
+            let asked = asked(under.names(), room, reading);
             notes.read(asked);
             let value = value_read(reading, asked, words);
             under.bind(reading.place, value);
         }
         Step::Let(place, code) => {
-            let value = value_of(under, room, code);
+            let value = value(code, under.names(), room);
             under.bind(*place, value);
         }
         Step::Put(pipe, code) => {
-            let value = value_of(under, room, code);
+            let value = value(code, under.names(), room);
             under.put(*pipe, value);
         }
         Step::Set(target, code, when) => set_result(under, room, *target, code, when),
@@ -290,23 +338,24 @@ fn set_result(
     ensures under { under.new ≡ (if holds_at under.old when.now then with_target under.old target (value_of code.now under.old.names) else under.old) }
     ensures room { length room.new ≡ length room.old }
 {
-    if !holds(under, room, when) {
+    let names = under.names();
+    if !holds(names, room, when) {
         return;
     }
-    let value = value_of(under, room, code);
+    let value = value(code, names, room);
     if let Some(target) = target {
         under.set(target, value);
     }
 }
 
 // The address of a read, or None if its condition is false.
-fn asked(under: &Instruction, room: &mut [u64], reading: &Reading) -> Option<u64>
+fn asked(names: &[u64], room: &mut [u64], reading: &Reading) -> Option<u64>
     requires { space_of reading.now.address + space_of reading.now.when ≤ length room.old }
-    ensures value { result ≡ asked_at under.now reading.now }
+    ensures value { result ≡ where_true (value_of reading.now.when names.now == 1) (value_of reading.now.address names.now) }
     ensures room { length room.new ≡ length room.old }
 {
-    if holds(under, room, &reading.when) {
-        return Some(value_of(under, room, &reading.address));
+    if holds(names, room, &reading.when) {
+        return Some(value(&reading.address, names, room));
     }
     None
 }
@@ -324,20 +373,12 @@ fn value_read(reading: &Reading, asked: Option<u64>, words: &Words) -> u64
     }
 }
 
-fn holds(under: &Instruction, room: &mut [u64], when: &Code) -> bool
+fn holds(names: &[u64], room: &mut [u64], when: &Code) -> bool
     requires { space_of when.now ≤ length room.old }
-    ensures value { result ≡ holds_at under.now when.now }
+    ensures value { result ≡ (value_of when.now names.now == 1) }
     ensures room { length room.new ≡ length room.old }
 {
-    value_of(under, room, when) == 1
-}
-
-fn value_of(under: &Instruction, room: &mut [u64], code: &Code) -> u64
-    requires { space_of code.now ≤ length room.old }
-    ensures value { result ≡ value_of code.now under.now.names }
-    ensures room { length room.new ≡ length room.old }
-{
-    kp_seq_plan::value(code, under.names.as_slice(), room)
+    value(when, names, room) == 1
 }
 
 // Each target takes its result if that is enabled.

@@ -141,7 +141,7 @@ impl Notes {
             self.outlets.as_slice(),
             self.set_in.as_mut_slice(),
             k,
-            under.results.as_slice(),
+            under,
         );
     }
 
@@ -218,35 +218,29 @@ fn narrowed(a: u64) -> u32
     if a < 0x1_0000_0000 { a as u32 } else { 0 }
 }
 
-fn mark_results(outlets: &[Outlet], set_in: &mut [Option<u64>], k: u64, results: &[Option<u64>])
-    ensures { set_in.new ≡ changed_from (λ i o old. marked k results.now o old) None set_in.old 0 outlets.now }
+fn mark_results(outlets: &[Outlet], set_in: &mut [Option<u64>], k: u64, under: &Instruction)
+    ensures { set_in.new ≡ changed_from (λ i o old. marked k under.now.results o old) None set_in.old 0 outlets.now }
 {
     for i in 0..outlets.len() {
-        mark_result(outlets[i], set_in, i, k, results);
+        mark_result(outlets[i], set_in, i, k, under);
     }
 }
 
-fn mark_result(
-    outlet: Outlet,
-    set_in: &mut [Option<u64>],
-    i: usize,
-    k: u64,
-    results: &[Option<u64>],
-)
-    ensures { set_in.new ≡ set set_in.old i (marked k results.now outlet (get_or set_in.old i None)) }
+fn mark_result(outlet: Outlet, set_in: &mut [Option<u64>], i: usize, k: u64, under: &Instruction)
+    ensures { set_in.new ≡ set set_in.old i (marked k under.now.results outlet (get_or set_in.old i None)) }
 {
     if i < set_in.len() {
-        set_in[i] = marked(k, results, outlet, set_in[i]);
+        set_in[i] = marked(k, under, outlet, set_in[i]);
     }
 }
 
-fn marked(k: u64, results: &[Option<u64>], outlet: Outlet, old: Option<u64>) -> Option<u64>
-    ensures { result ≡ marked k results.now outlet old }
+fn marked(k: u64, under: &Instruction, outlet: Outlet, old: Option<u64>) -> Option<u64>
+    ensures { result ≡ marked k under.now.results outlet old }
 {
     if old.is_some() {
         return old;
     }
-    if outlet.target < results.len() && results[outlet.target].is_some() {
+    if under.has_result(outlet.target) {
         return Some(k);
     }
     None

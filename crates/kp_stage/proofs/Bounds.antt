@@ -3,13 +3,12 @@ use Rattle.std.proofs.Common.{◌≡◌, ◌∙◌, ℕ, ◌+◌, ◌<◌, ◌�
 use Rattle.std.proofs.lemmas.{Bool.and_parts, Bool.leb-true, List.Sums.sum_by-cons, List.Sums.sum_by-append, List.Sums.get_or-le-sum_by}
 use Rattle.std.proofs.lemmas.Option.{slice_get_within, get_or_from_slice_get}
 use Rattle.std.specs.Prelude.{nat_le, slice_get, sum_by, Contains}
-use Rattle.kp_base.specs.Refusal.{e_rule}
 use Rattle.kp_ast.specs.{Size.size, declared.tree.Expr.Expr, declared.tree.Decl.Decl, declared.tree.Stmt.Stmt, declared.tree.StmtKind.StmtKind}
 use Rattle.kp_ast.specs.declared.tree.{Block.Block, Job.Job}
 use Rattle.kp_ast.specs.declared.tree.StmtKind.TheVariants as stmts
-use Rattle.kp_width.specs.Declarations.{functions_in, name_of}
+use Rattle.kp_width.specs.Declarations.{functions_in}
 use Rattle.kp_width.proofs.{Unbroken.Unbroken, Unbroken.bind_unbroken, Unbroken.answer_unbroken, Calls.by_option}
-use Rattle.kp_stage.specs.Counts.{regs_in, files_in, pipes_in, results_in, hints_in, samples_in, reads_in, guesses_in, is_within, nothing_counted, with_decl, with_stmt, place_of_read, decls_counted, stmts_counted, blocks_counted, counts_of, summary_of, AreFew}
+use Rattle.kp_stage.specs.Counts.{regs_in, files_in, pipes_in, results_in, hints_in, samples_in, reads_in, guesses_in, is_within, nothing_counted, with_decl, with_stmt, decls_counted, stmts_counted, blocks_counted, counts_of, summary_of, AreFew}
 use Rattle.kp_stage.specs.{declared.counts.Counts.Counts, Facts.stmts_in, Facts.facts_of}
 use Rattle.kp_stage.specs.Sizes.{size_of_option, size_of_kind, size_of_stmt, size_of_block, size_of_job, stmts_sized, blocks_sized, sizes_of}
 use Rattle.kp_stage.specs.{Stages.broken_of, Uses.statement_at, Uses.listed, Uses.plain_in, Uses.guessed_in, Uses.exprs_in}
@@ -19,7 +18,7 @@ stmts_within : (ds : List Decl) (t : ℕ) (ss : List Stmt) → t ≤ 100000 → 
 stmts_within ds t [] h u = h
 stmts_within ds t (s ∷ ss) h u =
     let n = t + size_of_stmt ds s in
-    let both = answer_unbroken (nat_le n 100000) (e_rule 28 s.at) (stmts_sized ds n ss).asked u in
+    let both = answer_unbroken (nat_le n 100000) _ (stmts_sized ds n ss).asked u in
     stmts_within ds n ss (leb-true n 100000 both.0) both.1
 
 blocks_within : (ds : List Decl) (t : ℕ) (bs : List Block) → t ≤ 100000 → Unbroken (blocks_sized ds t bs) → (blocks_sized ds t bs).value ≤ 100000
@@ -78,14 +77,14 @@ decls_few : (c : Counts) (ds : List Decl) → is_within c ≡ true → Unbroken 
 decls_few c [] h u = h
 decls_few c (d ∷ ds) h u =
     let more = with_decl c d in
-    let both = answer_unbroken (is_within more) (e_rule 29 (name_of d).at) (decls_counted more ds).asked u in
+    let both = answer_unbroken (is_within more) _ (decls_counted more ds).asked u in
     decls_few more ds both.0 both.1
 
 stmts_few : (c : Counts) (ss : List Stmt) → is_within c ≡ true → Unbroken (stmts_counted c ss) → is_within (stmts_counted c ss).value ≡ true
 stmts_few c [] h u = h
 stmts_few c (s ∷ ss) h u =
     let more = with_stmt c s in
-    let both = answer_unbroken (is_within more) (e_rule 29 (place_of_read s s.kind)) (stmts_counted more ss).asked u in
+    let both = answer_unbroken (is_within more) _ (stmts_counted more ss).asked u in
     stmts_few more ss both.0 both.1
 
 blocks_few : (c : Counts) (bs : List Block) → is_within c ≡ true → Unbroken (blocks_counted c bs) → is_within (blocks_counted c bs).value ≡ true
@@ -94,7 +93,7 @@ blocks_few c (b ∷ bs) h u =
     let both = bind_unbroken (stmts_counted c b.stmts) (λ t. blocks_counted t bs) u in
     blocks_few (stmts_counted c b.stmts).value bs (stmts_few c b.stmts h both.0) both.1
 
-counts_few : (job : Job) → Unbroken (counts_of job) → is_within (counts_of job).value ≡ true
+pub counts_few : (job : Job) → Unbroken (counts_of job) → is_within (counts_of job).value ≡ true
 unfolding counts_of
 counts_few job u =
     let decls = decls_counted nothing_counted job.decls in

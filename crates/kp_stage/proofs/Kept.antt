@@ -1,29 +1,31 @@
 -- If no rule of stages is violated, each check of the head, a declaration or a statement passes.
-use Rattle.std.proofs.Common.{◌≡◌, ℕ, zero, suc, ◌+◌, List, [], ◌∷◌, map, Some, None, refl, arith, subst, ◌∙◌, ap}
-use Rattle.std.{proofs.lemmas.Option.slice_get-map, specs.Prelude.slice_get, specs.Option.option_map}
-use Rattle.kp_base.specs.{First.first, Check.Answer}
+use Rattle.std.proofs.Common.{◌≡◌, ℕ, zero, suc, ◌+◌, List, [], ◌∷◌, ◌++◌, Option, Some, None, refl, arith, subst}
+use Rattle.std.specs.{Prelude.slice_get, Option.option_map}
+use Rattle.kp_base.specs.First.{first}
 use Rattle.kp_ast.specs.declared.tree.{Decl.Decl, Stmt.Stmt, Block.Block, Job.Job}
-use Rattle.kp_stage.specs.{declared.rules.Rule.Rule, Facts.Facts, Facts.facts_of, Facts.stmts_in}
-use Rattle.kp_stage.specs.Rules.{ask_head, ask_decl, ask_decls, ask_block, ask_stmt, ask_stmts, ask_in_block, ask_blocks, broken_at, broken_by, all_rules}
-use Rattle.kp_stage.{specs.Sizes.sizes_of, specs.Counts.counts_of, specs.Stages.broken_of, specs.Uses.statement_at, proofs.Unbroken.first_none}
+use Rattle.kp_stage.specs.{Findings.Answer, Findings.refusal_of, declared.rules.Rule.Rule, Facts.Facts, Facts.facts_of, Facts.stmts_in}
+use Rattle.kp_stage.specs.Rules.{ask_head, ask_decl, ask_decls, ask_block, ask_stmt, ask_stmts, ask_in_block, ask_blocks, asked_at, asked_by_rules, asked_by, broken_by, all_rules}
+use Rattle.kp_stage.{specs.Sizes.sizes_of, specs.Counts.counts_of, specs.Stages.answers_of, specs.Stages.broken_of, specs.Uses.statement_at, proofs.Unbroken.first_none, proofs.Unbroken.none_of_both}
 
-none_at : (xs : List Answer) (n : ℕ) (a : Answer) → first xs ≡ None → slice_get xs n ≡ Some a → a ≡ None
-none_at [] n a e at = cc
-none_at (x ∷ xs) zero a e at = let p : x ≡ None = (first_none x xs e).0 in let q : x ≡ a = cc in cc
-none_at (x ∷ xs) (suc n) a e at = none_at xs n a (first_none x xs e).1 at
+option_none : {X Y : Type 0} (f : X → Y) (o : Option X) → option_map f o ≡ None → o ≡ None
+option_none f None e = refl
+option_none f (Some x) e = cc
 
-get_map : {X Y : Type 0} (f : X → Y) (xs : List X) (n : ℕ) (x : X) → slice_get xs n ≡ Some x → slice_get (map f xs) n ≡ Some (f x)
-get_map f xs n x e = slice_get-map f xs n ∙ ap (option_map f) e
+abbrev numbers : Job → List Answer
+numbers job = first (sizes_of job).asked ∷ first (counts_of job).asked ∷ []
+
+all_kept : (job : Job) → broken_of job ≡ None → (first (asked_by (facts_of job) job) ≡ None) × (first (numbers job) ≡ None)
+unfolding broken_of answers_of
+all_kept job e = none_of_both (asked_by (facts_of job) job) (numbers job) (option_none refusal_of (first (answers_of job)) e)
 
 -- a job that violates no rule of stages satisfies the rules E15 to E25, E34 and E35
 pub rules_kept : (job : Job) → broken_of job ≡ None → broken_by (facts_of job) job ≡ None
-unfolding broken_of
-rules_kept job e = (first_none (broken_by (facts_of job) job) (first (sizes_of job).asked ∷ first (counts_of job).asked ∷ []) e).0
+unfolding broken_by
+rules_kept job e = (all_kept job e).0
 
 -- E28, and E29
-numbers_kept : (job : Job) → broken_of job ≡ None → first (first (sizes_of job).asked ∷ first (counts_of job).asked ∷ []) ≡ None
-unfolding broken_of
-numbers_kept job e = (first_none (broken_by (facts_of job) job) (first (sizes_of job).asked ∷ first (counts_of job).asked ∷ []) e).1
+numbers_kept : (job : Job) → broken_of job ≡ None → first (numbers job) ≡ None
+numbers_kept job e = (all_kept job e).1
 
 pub sizes_kept : (job : Job) → broken_of job ≡ None → first (sizes_of job).asked ≡ None
 sizes_kept job e = (first_none (first (sizes_of job).asked) (first (counts_of job).asked ∷ []) (numbers_kept job e)).0
@@ -32,12 +34,18 @@ pub counts_kept : (job : Job) → broken_of job ≡ None → first (counts_of jo
 counts_kept job e =
     (first_none (first (counts_of job).asked) [] (first_none (first (sizes_of job).asked) (first (counts_of job).asked ∷ []) (numbers_kept job e)).1).0
 
-module _ (facts : Facts) (job : Job) (kept : broken_by facts job ≡ None) where
-  by_place : (n : ℕ) (rule : Rule) → slice_get all_rules n ≡ Some rule → broken_at facts job rule ≡ None
-  unfolding broken_by
-  by_place n rule at = none_at (map (broken_at facts job) all_rules) n (broken_at facts job rule) kept (get_map (broken_at facts job) all_rules n rule at)
+module _ (facts : Facts) (job : Job) where
+  in_rules : (rules : List Rule) (n : ℕ) (rule : Rule) → first (asked_by_rules facts job rules) ≡ None → slice_get rules n ≡ Some rule → first (asked_at facts job rule) ≡ None
+  in_rules [] n rule e at = cc
+  in_rules (r ∷ rs) zero rule e at = let same : r ≡ rule = cc in subst (λ x. first (asked_at facts job x) ≡ None) same (none_of_both (asked_at facts job r) (asked_by_rules facts job rs) e).0
+  in_rules (r ∷ rs) (suc n) rule e at = in_rules rs n rule (none_of_both (asked_at facts job r) (asked_by_rules facts job rs) e).1 at
 
-  pub rule_kept : (rule : Rule) → broken_at facts job rule ≡ None
+module _ (facts : Facts) (job : Job) (kept : broken_by facts job ≡ None) where
+  by_place : (n : ℕ) (rule : Rule) → slice_get all_rules n ≡ Some rule → first (asked_at facts job rule) ≡ None
+  unfolding broken_by asked_by
+  by_place n rule at = in_rules facts job all_rules n rule kept at
+
+  pub rule_kept : (rule : Rule) → first (asked_at facts job rule) ≡ None
   rule_kept Rule.E15 = by_place 0 Rule.E15 refl
   rule_kept Rule.E16 = by_place 1 Rule.E16 refl
   rule_kept Rule.E17 = by_place 2 Rule.E17 refl
@@ -53,26 +61,23 @@ module _ (facts : Facts) (job : Job) (kept : broken_by facts job ≡ None) where
   rule_kept Rule.E35 = by_place 12 Rule.E35 refl
 
   module _ (rule : Rule) where
-    abbrev in_decls : Answer
-    in_decls = first (ask_decls facts rule 0 job.decls)
+    abbrev in_decls : List Answer
+    in_decls = ask_decls facts rule 0 job.decls
 
-    abbrev in_blocks : Answer
-    in_blocks = first (ask_blocks facts rule 0 job.blocks)
+    abbrev in_blocks : List Answer
+    in_blocks = ask_blocks facts rule 0 job.blocks
 
     -- the head keeps a rule
     pub head_kept : ask_head rule job ≡ None
-    unfolding broken_at
-    head_kept = (first_none (ask_head rule job) (in_decls ∷ in_blocks ∷ []) (rule_kept rule)).0
+    head_kept = (first_none (ask_head rule job) (in_decls ++ in_blocks) (rule_kept rule)).0
 
     -- the declarations keep it
     pub decls_kept : first (ask_decls facts rule 0 job.decls) ≡ None
-    unfolding broken_at
-    decls_kept = (first_none in_decls (in_blocks ∷ []) (first_none (ask_head rule job) (in_decls ∷ in_blocks ∷ []) (rule_kept rule)).1).0
+    decls_kept = (none_of_both in_decls in_blocks (first_none (ask_head rule job) (in_decls ++ in_blocks) (rule_kept rule)).1).0
 
     -- the blocks keep it
     pub blocks_kept : first (ask_blocks facts rule 0 job.blocks) ≡ None
-    unfolding broken_at
-    blocks_kept = (first_none in_blocks [] (first_none in_decls (in_blocks ∷ []) (first_none (ask_head rule job) (in_decls ∷ in_blocks ∷ []) (rule_kept rule)).1).1).0
+    blocks_kept = (none_of_both in_decls in_blocks (first_none (ask_head rule job) (in_decls ++ in_blocks) (rule_kept rule)).1).1
 
     decl_in : (ds : List Decl) (i j : ℕ) (d : Decl) → first (ask_decls facts rule i ds) ≡ None → slice_get ds j ≡ Some d → ask_decl facts rule (i + j) d ≡ None
     decl_in [] i j d e at = cc
@@ -89,10 +94,9 @@ module _ (facts : Facts) (job : Job) (kept : broken_by facts job ≡ None) where
         rw z at (decl_in job.decls 0 j d decls_kept there)
 
     stmts_at : (bs : List Block) (k i : ℕ) → first (ask_blocks facts rule k bs) ≡ None → first (ask_stmts facts rule (k + i) 0 (stmts_in (slice_get bs i))) ≡ None
-    unfolding ask_in_block
     stmts_at [] k i e = refl
-    stmts_at (b ∷ bs) k zero e = let z : k + 0 ≡ k = omega arith in rw z ((first_none (ask_block facts rule k b) (ask_stmts facts rule k 0 b.stmts) (first_none (ask_in_block facts rule k b) (ask_blocks facts rule (k + 1) bs) e).0).1)
-    stmts_at (b ∷ bs) k (suc i) e = let z : k + suc i ≡ (k + 1) + i = omega arith in rw z (stmts_at bs (k + 1) i (first_none (ask_in_block facts rule k b) (ask_blocks facts rule (k + 1) bs) e).1)
+    stmts_at (b ∷ bs) k zero e = let z : k + 0 ≡ k = omega arith in rw z ((first_none (ask_block facts rule k b) (ask_stmts facts rule k 0 b.stmts) (none_of_both (ask_in_block facts rule k b) (ask_blocks facts rule (k + 1) bs) e).0).1)
+    stmts_at (b ∷ bs) k (suc i) e = let z : k + suc i ≡ (k + 1) + i = omega arith in rw z (stmts_at bs (k + 1) i (none_of_both (ask_in_block facts rule k b) (ask_blocks facts rule (k + 1) bs) e).1)
 
     -- the statements of stage k keep it
     pub stmts_kept : (k : ℕ) → first (ask_stmts facts rule k 0 (stmts_in (slice_get job.blocks k))) ≡ None

@@ -1,3 +1,4 @@
+pub mod Answering
 pub mod Bounds
 pub mod Kept
 pub mod Names

@@ -2,18 +2,17 @@
 use Rattle.std.proofs.Common.{◌≡◌, ◌∙◌, ℕ, zero, suc, ◌<◌, List, [], ◌∷◌, ◌++◌, map, length, get_or, Option, Some, None, Bool, true, false, refl, ap, sym, subst, arith}
 use Rattle.std.{proofs.lemmas.Bool.or_left, proofs.lemmas.Bool.or_right, specs.Prelude.◌||◌, specs.Prelude.Contains, specs.List.list_any}
 use Rattle.std.specs.Cmp.Lexicographic.{bytes_decides}
-use Rattle.kp_base.specs.{First.first, Check.Answer, declared.place.Place.Place}
+use Rattle.kp_base.specs.{First.first, declared.place.Place.Place}
 use Rattle.kp_bits.specs.{Word.Word, Word.not_of, Word.mux_of, Word.slice_of, Word.zext_of, Word.sext_of, Operators.binary_of, Operators.joined_of}
 use Rattle.kp_ast.specs.{Expressions.Env, Expressions.eval, Expressions.value_of_kind, Expressions.value_of_level, declared.tree.Expr.Expr}
 use Rattle.kp_ast.specs.declared.tree.StmtKind.{StmtKind}
 use Rattle.kp_ast.proofs.Levels.{fold-Lit, fold-Name, fold-Not, fold-Binary, fold-Mux, fold-Concat, fold-Slice, fold-Zext, fold-Sext, fold-Call}
 use Rattle.kp_ast.proofs.Induction.{Every, induction}
 use Rattle.kp_ast.specs.declared.tree.StmtKind.TheVariants as stmts
-use Rattle.kp_width.proofs.Found.{none_of_two}
-use Rattle.kp_stage.specs.{declared.rules.Rule.Rule, Facts.Facts}
+use Rattle.kp_stage.specs.{Findings.Answer, declared.rules.Rule.Rule, Facts.Facts}
 use Rattle.kp_stage.specs.Rules.{ask_name, ask_kind, ask_level, ask_expr, ask_option, ask_values, ask_guesses}
 use Rattle.kp_stage.specs.Uses.{listed, plain_in, guessed_in, exprs_in, uses, uses_in_kind, uses_in_level}
-use Rattle.kp_stage.proofs.Unbroken.{first_none}
+use Rattle.kp_stage.proofs.Unbroken.{first_none, none_of_two}
 
 pub either : {G : Type 0} (a b : Bool) → (a || b) ≡ true → (a ≡ true → G) → (b ≡ true → G) → G
 either true b e left right = left refl
@@ -92,6 +91,25 @@ module _ (a b : Env) (calls : (q : List ℕ) (args : List Word) → a.calls q ar
 module _ (facts : Facts) (rule : Rule) (k : ℕ) where
   abbrev asked : Expr → Answer
   asked = ask_expr facts rule k
+
+  -- a rule that each name keeps
+  pub no_name : ((q : List ℕ) (at : Place) → ask_name facts rule k q at ≡ None) → (e : Expr) → asked e ≡ None
+  no_name none = induction (λ e. asked e ≡ None) (record {
+    literal = λ p l. fold-Lit _ _ (ask_kind facts rule k) ask_level p l;
+    name = λ p q. fold-Name _ _ (ask_kind facts rule k) ask_level p q ∙ none q p;
+    not_ = λ p a h. fold-Not _ _ (ask_kind facts rule k) ask_level p a ∙ h;
+    binary = λ p op a b h g. fold-Binary _ _ (ask_kind facts rule k) ask_level p op a b ∙ (λ i. first (h i ∷ g i ∷ []));
+    mux = λ p t a b f h g. fold-Mux _ _ (ask_kind facts rule k) ask_level p t a b ∙ (λ i. first (f i ∷ h i ∷ g i ∷ []));
+    concat = λ p es hs. fold-Concat _ _ (ask_kind facts rule k) ask_level p es ∙ each es hs;
+    slice = λ p a hi lo h. fold-Slice _ _ (ask_kind facts rule k) ask_level p a hi lo ∙ h;
+    zext = λ p a n h. fold-Zext _ _ (ask_kind facts rule k) ask_level p a n ∙ h;
+    sext = λ p a n h. fold-Sext _ _ (ask_kind facts rule k) ask_level p a n ∙ h;
+    call = λ p f es hs. fold-Call _ _ (ask_kind facts rule k) ask_level p f es ∙ each es hs;
+  })
+    where
+      each : (es : List Expr) → Every (λ e. asked e ≡ None) es → first (map asked es) ≡ None
+      each [] hs = refl
+      each (e ∷ es) hs = ap (λ x. first (x ∷ map asked es)) hs.0 ∙ each es hs.1
 
   -- a name that an expression uses
   module _ (q : List ℕ) where

@@ -3,7 +3,7 @@ use Rattle.std.proofs.Common.{◌≡◌, ◌∙◌, ℕ, suc, ◌+◌, ◌<◌, 
 use Rattle.std.proofs.lemmas.Bool.{and_parts, eqb-true, le-leb, not-true}
 use Rattle.std.specs.{Prelude.◌||◌, Prelude.◌==◌, Prelude.nat_le, Prelude.is_some, Prelude.slice_get, Prelude.Contains, List.list_any}
 use Rattle.std.specs.Cmp.Lexicographic.{bytes_decides}
-use Rattle.kp_base.specs.{First.first, Refusal.e_rule, declared.place.Place.Place}
+use Rattle.kp_base.specs.{First.first, declared.place.Place.Place}
 use Rattle.kp_bits.specs.Word.{Word}
 use Rattle.kp_ast.specs.{Expressions.Env, Expressions.eval, Expressions.is_same_name, declared.tree.Expr.Expr, declared.tree.Decl.Decl, declared.tree.Stmt.Stmt}
 use Rattle.kp_ast.specs.declared.tree.{StmtKind.StmtKind, Block.Block, Job.Job}
@@ -13,7 +13,7 @@ use Rattle.kp_stage.specs.declared.rules.Rule.{Rule}
 use Rattle.kp_stage.specs.Facts.{At, Facts, facts_of, stmts_in, where_same, put_at, puts_in, puts_of, hint_at, hints_of}
 use Rattle.kp_stage.specs.{Rules.holds_of, Rules.is_at, Rules.ask_decl, Rules.ask_decls, Rules.ask_stmt, Rules.ask_name, Rules.ask_expr, Stages.broken_of}
 use Rattle.kp_stage.specs.Uses.{statement_at, plain_in, exprs_in, uses, puts, sets, aims, is_pipe, declares_pipe, is_hint, declares_hint, IsPutBefore}
-use Rattle.kp_stage.proofs.{Unbroken.first_none, Unbroken.answer_none, Kept.rules_kept, Kept.decls_kept, Kept.stmt_kept}
+use Rattle.kp_stage.proofs.{Unbroken.first_none, Unbroken.answer_none, Unbroken.found_none, Kept.rules_kept, Kept.decls_kept, Kept.stmt_kept}
 use Rattle.kp_stage.proofs.Names.{either, name_asked, same_value, plain_asked, exprs_asked, one_asked}
 use Rattle.kp_width.proofs.Calls.{by_test, by_option}
 
@@ -68,7 +68,7 @@ put_in q k (b ∷ bs) x e = by_option (first (puts_in q k 0 b.stmts))
 pipe_put : (facts : Facts) (i : ℕ) (d : Decl) (q : List ℕ) → declares_pipe q d ≡ true → ask_decl facts Rule.E16 i d ≡ None → is_some (facts.put q) ≡ true
 pipe_put facts i (decls.Pipe n w) q h e =
     let same : q ≡ n.name = (bytes_decides q n.name).0 h in
-    ap (λ x. is_some (facts.put x)) same ∙ answer_none (is_some (facts.put n.name)) (e_rule 16 n.at) e
+    ap (λ x. is_some (facts.put x)) same ∙ answer_none (is_some (facts.put n.name)) _ e
 pipe_put facts i x q h e = cc
 
 some_pipe_put : (facts : Facts) (i : ℕ) (ds : List Decl) (q : List ℕ) → list_any (declares_pipe q) ds ≡ true → first (ask_decls facts Rule.E16 i ds) ≡ None → is_some (facts.put q) ≡ true
@@ -93,7 +93,7 @@ put_before job kept k j s there e within q used pipe =
     by_option (facts.put q)
     (λ none. let no : false ≡ true = sym (ap is_some none) ∙ some_pipe_put facts 0 job.decls q pipe (decls_kept facts job rules Rule.E16) in cc)
     (λ x is.
-    let early = less_where k x.stage (not_late k (facts.put q) x is (answer_none (not (holds_of (λ (p : At). nat_le k p.stage) (facts.put q))) (e_rule 17 name.0) name.1)) in
+    let early = less_where k x.stage (not_late k (facts.put q) x is (found_none _ _ (facts.put q) name.0 name.1)) in
     let put = put_in q 0 job.blocks x is in
     record {
       stage = put.place;
@@ -120,13 +120,13 @@ one_spot (Some x) k i l j e f =
 set_first : (facts : Facts) (k i : ℕ) (q : List ℕ) (s : StmtKind) → sets q s ≡ true → ask_stmt facts Rule.E21 k i s ≡ None → holds_of (λ x. x == i) (facts.set_in k q) ≡ true
 set_first facts k i q (stmts.Set n x when) h e =
     let same : q ≡ n.name = (bytes_decides q n.name).0 h in
-    ap (λ y. holds_of (λ x. x == i) (facts.set_in k y)) same ∙ answer_none (holds_of (λ x. x == i) (facts.set_in k n.name)) (e_rule 21 n.at) e
+    ap (λ y. holds_of (λ x. x == i) (facts.set_in k y)) same ∙ answer_none (holds_of (λ x. x == i) (facts.set_in k n.name)) _ e
 set_first facts k i q x h e = cc
 
 aim_first : (facts : Facts) (k i : ℕ) (q : List ℕ) (s : StmtKind) → aims q s ≡ true → ask_stmt facts Rule.E21 k i s ≡ None → holds_of (is_at k i) (facts.aim q) ≡ true
 aim_first facts k i q (stmts.Aim n x) h e =
     let same : q ≡ n.name = (bytes_decides q n.name).0 h in
-    ap (λ y. holds_of (is_at k i) (facts.aim y)) same ∙ answer_none (holds_of (is_at k i) (facts.aim n.name)) (e_rule 21 n.at) e
+    ap (λ y. holds_of (is_at k i) (facts.aim y)) same ∙ answer_none (holds_of (is_at k i) (facts.aim n.name)) _ e
 aim_first facts k i q x h e = cc
 
 pub set_once : (job : Job) → broken_of job ≡ None → (q : List ℕ) (k i j : ℕ) (s t : Stmt)
@@ -165,7 +165,7 @@ some_hint q i (d ∷ ds) =
 
 no_hint : (job : Job) (k : ℕ) (q : List ℕ) (at : Place) → ask_name (facts_of job) Rule.E25 k q at ≡ None → is_hint job q ≡ false
 no_hint job k q at e =
-    sym (some_hint q 0 job.decls) ∙ not-true (is_some (first (hints_of q 0 job.decls))) (answer_none (not (is_some (first (hints_of q 0 job.decls)))) (e_rule 25 at) e)
+    sym (some_hint q 0 job.decls) ∙ not-true (is_some (first (hints_of q 0 job.decls))) (answer_none (not (is_some (first (hints_of q 0 job.decls)))) _ e)
 
 module _ (job : Job) (kept : broken_of job ≡ None) (k j : ℕ) (s : Stmt) (there : statement_at job k j ≡ Some s) (e : Expr) (within : Contains (plain_in s.kind) e) where
   asked_plain : ask_expr (facts_of job) Rule.E25 k e ≡ None

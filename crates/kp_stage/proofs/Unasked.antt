@@ -2,19 +2,22 @@
 use Rattle.std.proofs.Common.{◌≡◌, ◌∙◌, ℕ, ◌+◌, List, [], ◌∷◌, length, Option, Some, None, false, refl, ap, arith}
 use Rattle.std.proofs.lemmas.Bool.{Decides.Decides-eqb, not-false}
 use Rattle.std.specs.Prelude.{◌==◌, not, nat_le, is_some}
-use Rattle.kp_base.specs.{First.first, declared.place.Place.Place}
+use Rattle.kp_base.specs.{First.first, Findings.Collected, Findings.with_answers, declared.finding.Finding.Finding, declared.place.Place.Place}
 use Rattle.kp_ast.specs.declared.tree.{Expr.Expr, Block.Block, Stmt.Stmt, StmtKind.StmtKind}
 use Rattle.kp_ast.specs.declared.tree.StmtKind.TheVariants as stmts
-use Rattle.kp_stage.specs.Rules.{ask_name, ask_expr, ask_option, ask_values, ask_guesses, ask_stmt, ask_stmts, ask_block, ask_in_block, ask_blocks, broken_unless, holds_of}
-use Rattle.kp_stage.specs.{declared.rules.Rule.Rule, Facts.At, Facts.Facts, inner.Tables.Entries, inner.Tables.look_up, inner.Tables.facts_in}
+use Rattle.kp_stage.specs.Rules.{ask_name, ask_expr, ask_option, ask_values, ask_guesses, ask_stmt, ask_stmts, ask_block, ask_in_block, ask_blocks}
+use Rattle.kp_stage.specs.declared.fault.StageFault.{StageFault}
+use Rattle.kp_stage.specs.declared.fault.StageFault.TheVariants as faults
+use Rattle.kp_stage.specs.{declared.rules.Rule.Rule, Findings.broken_unless, Findings.broken_if, Facts.At, Facts.Facts, inner.Tables.Entries, inner.Tables.look_up, inner.Tables.facts_in}
 use Rattle.kp_stage.specs.inner.Asked.{asks_blocks}
 use Rattle.kp_stage.specs.declared.facts.Facts as stored
-use Rattle.kp_width.proofs.Found.{none_asked}
+use Rattle.kp_base.proofs.{First.first_append_none, Collecting.none_noted}
+use Rattle.kp_stage.proofs.Names.{no_name}
 
 -- a rule that no name violates
 module _ (facts : Facts) (rule : Rule) (k : ℕ) (names : (q : List ℕ) (at : Place) → ask_name facts rule k q at ≡ None) where
   in_expr : (e : Expr) → ask_expr facts rule k e ≡ None
-  in_expr e = none_asked (ask_name facts rule k) names e
+  in_expr e = no_name facts rule k names e
 
   in_option : (o : Option Expr) → ask_option facts rule k o ≡ None
   in_option None = refl
@@ -41,13 +44,12 @@ module _ (facts : Facts) (rule : Rule) (blocks : (k : ℕ) (b : Block) → ask_b
   in_stmts k j [] = refl
   in_stmts k j (s ∷ ss) = ap (λ o. first (o ∷ ask_stmts facts rule k (j + 1) ss)) (kinds k j s.kind) ∙ in_stmts k (j + 1) ss
 
-  in_block : (k : ℕ) (b : Block) → ask_in_block facts rule k b ≡ None
-  unfolding ask_in_block
+  in_block : (k : ℕ) (b : Block) → first (ask_in_block facts rule k b) ≡ None
   in_block k b = ap (λ o. first (o ∷ ask_stmts facts rule k 0 b.stmts)) (blocks k b) ∙ in_stmts k 0 b.stmts
 
   in_blocks : (k : ℕ) (bs : List Block) → first (ask_blocks facts rule k bs) ≡ None
   in_blocks k [] = refl
-  in_blocks k (b ∷ bs) = ap (λ o. first (o ∷ ask_blocks facts rule (k + 1) bs)) (in_block k b) ∙ in_blocks (k + 1) bs
+  in_blocks k (b ∷ bs) = first_append_none (ask_in_block facts rule k b) (ask_blocks facts rule (k + 1) bs) (in_block k b) ∙ in_blocks (k + 1) bs
 
 -- nothing is found in an empty table
 none_found : {V : Type 0} (es : Entries V) (q : List ℕ) → not (length es == 0) ≡ false → look_up es q ≡ None
@@ -57,15 +59,15 @@ none_found (x ∷ es) q e =
     absurd (omega arith)
 
 no_pipe : (t : stored.Facts) → asks_blocks t Rule.E17 ≡ false → (k : ℕ) (q : List ℕ) (at : Place) → ask_name (facts_in t) Rule.E17 k q at ≡ None
-no_pipe t e k q at = ap (λ (o : Option At). broken_unless (not (holds_of (λ p. nat_le k p.stage) o)) Rule.E17 at) (none_found t.given.puts q e)
+no_pipe t e k q at = ap (λ (o : Option At). broken_if (λ p. nat_le k p.stage) (λ p. faults.UsedEarly p.stage p.index k) o at) (none_found t.given.puts q e)
 
 no_hint : (t : stored.Facts) → asks_blocks t Rule.E25 ≡ false → (k : ℕ) (q : List ℕ) (at : Place) → ask_name (facts_in t) Rule.E25 k q at ≡ None
-no_hint t e k q at = ap (λ (o : Option ℕ). broken_unless (not (is_some o)) Rule.E25 at) (none_found t.named.hints q e)
+no_hint t e k q at = ap (λ (o : Option ℕ). broken_unless (not (is_some o)) faults.HintAsValue at) (none_found t.named.hints q e)
 
 no_sample : (t : stored.Facts) → asks_blocks t Rule.E34 ≡ false → (k : ℕ) (q : List ℕ) (at : Place) → ask_name (facts_in t) Rule.E34 k q at ≡ None
-no_sample t e k q at = ap (λ (o : Option ℕ). broken_unless (not (holds_of (λ w. not (w == k)) o)) Rule.E34 at) (none_found t.named.samples q e)
+no_sample t e k q at = ap (λ (o : Option ℕ). broken_if (λ w. not (w == k)) (λ w. faults.SampleElsewhere w k) o at) (none_found t.named.samples q e)
 
-pub no_answer : (t : stored.Facts) (rule : Rule) → asks_blocks t rule ≡ false → (bs : List Block) → first (ask_blocks (facts_in t) rule 0 bs) ≡ None
+no_answer : (t : stored.Facts) (rule : Rule) → asks_blocks t rule ≡ false → (bs : List Block) → first (ask_blocks (facts_in t) rule 0 bs) ≡ None
 no_answer t Rule.E17 e = in_blocks (facts_in t) Rule.E17 (λ k b. refl) (λ k j s. in_both (facts_in t) Rule.E17 k (no_pipe t e k) s) 0
 no_answer t Rule.E22 e = in_blocks (facts_in t) Rule.E22 (λ k b. refl) (λ k j s. refl) 0
 no_answer t Rule.E24 e = in_blocks (facts_in t) Rule.E24 (λ k b. refl) (λ k j s. refl) 0
@@ -73,3 +75,6 @@ no_answer t Rule.E25 e = in_blocks (facts_in t) Rule.E25 (λ k b. refl) (λ k j 
 no_answer t Rule.E34 e = in_blocks (facts_in t) Rule.E34 (λ k b. refl) (λ k j s. in_both (facts_in t) Rule.E34 k (no_sample t e k) s) 0
 no_answer t Rule.E35 e = in_blocks (facts_in t) Rule.E35 (λ k b. refl) (λ k j s. refl) 0
 no_answer t x e = cc
+
+pub nothing_noted : (t : stored.Facts) (rule : Rule) (n : Collected (Finding StageFault)) (bs : List Block) → asks_blocks t rule ≡ false → with_answers n (ask_blocks (facts_in t) rule 0 bs) ≡ n
+nothing_noted t rule n bs e = none_noted n (ask_blocks (facts_in t) rule 0 bs) (no_answer t rule e bs)

@@ -1,11 +1,13 @@
 -- E29: how many registers, files, pipes, results, hints, functions, samples, reads and guesses a machine has.
-use Rattle.std.specs.Prelude.{ℕ, ◌≤◌, ◌+◌, List, [], ◌∷◌, Option, Some, None, Bool, ◌&&◌, nat_le, sum_by}
-use Rattle.kp_base.specs.{Check.Check, Check.ok, Check.wants, Check.◌>>=◌, Refusal.e_rule, declared.place.Place.Place}
+use Rattle.std.specs.Prelude.{ℕ, ◌≤◌, ◌+◌, List, [], ◌∷◌, Option, Some, None, Bool, if◌then◌else◌, ◌&&◌, nat_le, sum_by}
+use Rattle.kp_base.specs.{Check.Check, Check.ok, Check.wants, Check.◌>>=◌, declared.finding.Finding.Finding, declared.place.Place.Place}
 use Rattle.kp_ast.specs.declared.tree.{Expr.Expr, Decl.Decl, Stmt.Stmt, StmtKind.StmtKind, Block.Block, Job.Job}
 use Rattle.kp_ast.specs.declared.tree.Decl.TheVariants as decls
 use Rattle.kp_ast.specs.declared.tree.StmtKind.TheVariants as stmts
 use Rattle.kp_width.specs.Declarations.{functions_in, name_of}
-use Rattle.kp_stage.specs.{declared.counts.Counts.Counts, declared.counts.Summary.Summary, Sizes.size_of_job}
+use Rattle.kp_stage.specs.{declared.counts.Counts.Counts, declared.counts.Summary.Summary, declared.fault.Counted.Counted, declared.fault.StageFault.StageFault, Sizes.size_of_job}
+use Rattle.kp_stage.specs.declared.fault.Counted.TheVariants as counted
+use Rattle.kp_stage.specs.declared.fault.StageFault.TheVariants as faults
 
 -- each is 1 or 0: whether the declaration is of this kind
 abbrev pub regs_in : Decl → ℕ
@@ -92,20 +94,37 @@ abbrev pub place_of_read : Stmt → StmtKind → Place
 place_of_read s (stmts.Read r) = r.name.at
 place_of_read s _ = s.at
 
+-- what a declaration is one more of
+abbrev pub counted_of : Decl → Counted
+counted_of (decls.Reg n width start) = counted.Registers
+counted_of (decls.File n width address) = counted.Files
+counted_of (decls.Pipe n width) = counted.Pipes
+counted_of (decls.Target r) = counted.Results
+counted_of (decls.Hint n width start) = counted.Hints
+counted_of (decls.Func f) = counted.Functions
+counted_of (decls.Sample n width stage) = counted.Samples
+
+-- which of the two a read is too many of
+abbrev pub counted_at : Counts → Counted
+counted_at c = if nat_le c.reads 256 then counted.Guesses else counted.Reads
+
+abbrev pub too_many : Counted → Place → Finding StageFault
+too_many counted at = record { place = at; fault = faults.TooMany counted }
+
 -- E29 is reported at the first declared name, or the first name that a read binds, at which a count exceeds its limit
-abbrev pub decls_counted : Counts → List Decl → Check Counts
+abbrev pub decls_counted : Counts → List Decl → Check (Finding StageFault) Counts
 decls_counted c [] = ok c
-decls_counted c (d ∷ ds) = wants (is_within (with_decl c d)) (e_rule 29 (name_of d).at) (decls_counted (with_decl c d) ds)
+decls_counted c (d ∷ ds) = wants (is_within (with_decl c d)) (too_many (counted_of d) (name_of d).at) (decls_counted (with_decl c d) ds)
 
-abbrev pub stmts_counted : Counts → List Stmt → Check Counts
+abbrev pub stmts_counted : Counts → List Stmt → Check (Finding StageFault) Counts
 stmts_counted c [] = ok c
-stmts_counted c (s ∷ ss) = wants (is_within (with_stmt c s)) (e_rule 29 (place_of_read s s.kind)) (stmts_counted (with_stmt c s) ss)
+stmts_counted c (s ∷ ss) = wants (is_within (with_stmt c s)) (too_many (counted_at (with_stmt c s)) (place_of_read s s.kind)) (stmts_counted (with_stmt c s) ss)
 
-abbrev pub blocks_counted : Counts → List Block → Check Counts
+abbrev pub blocks_counted : Counts → List Block → Check (Finding StageFault) Counts
 blocks_counted c [] = ok c
 blocks_counted c (b ∷ bs) = stmts_counted c b.stmts >>= (λ t. blocks_counted t bs)
 
-unfoldable pub counts_of : Job → Check Counts
+unfoldable pub counts_of : Job → Check (Finding StageFault) Counts
 counts_of job = decls_counted nothing_counted job.decls >>= (λ c. blocks_counted c job.blocks)
 
 -- the numbers of a job in the order of its summary

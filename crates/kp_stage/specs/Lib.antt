@@ -1,6 +1,7 @@
 pub mod Counts
 pub mod Design
 pub mod Facts
+pub mod Findings
 pub mod Rules
 pub mod Sizes
 pub mod Start

@@ -1,12 +1,11 @@
 // How many declarations and reads of each kind a machine has.
 ghost use Rattle.std.specs.Prelude.{◌≡◌, true, IfOk};
-ghost use Rattle.kp_base.specs.First.{Answers, first};
-ghost use Rattle.kp_base.specs.Check.{Gives};
 ghost use Rattle.kp_width.specs.Declarations.{name_of};
-ghost use Rattle.kp_stage.specs.Counts.{is_within, nothing_counted, with_decl, with_stmt, place_of_read, decls_counted, stmts_counted, blocks_counted, counts_of};
+ghost use Rattle.kp_stage.specs.Counts.{is_within, nothing_counted, with_decl, with_stmt, counted_of, counted_at, too_many, place_of_read, decls_counted, stmts_counted, blocks_counted, counts_of};
 
+use crate::fault::{Counted, Found, StageFault};
 use kp_ast::{Block, Decl, Job, Stmt, StmtKind};
-use kp_base::{Place, Refusal, Refused};
+use kp_base::Place;
 
 /// The numbers of a machine: the number of stages, of declarations of each kind, of reads, and of guessed reads, its
 /// expanded size, and the number of samples.
@@ -98,25 +97,29 @@ impl Counts {
         }
         counts
     }
+
+    // Which of the two a read is too many of.
+    fn counted(&self) -> Counted
+        ensures { result ≡ counted_at self.now }
+    {
+        if self.reads <= 256 {
+            Counted::Guesses
+        } else {
+            Counted::Reads
+        }
+    }
 }
 
 // The counts of a job, or a violation of E29.
-pub(crate) fn count(job: &Job) -> Result<Counts, Refused>
-    ensures { Answers result (first (counts_of job.now).asked) (λ counts. counts ≡ (counts_of job.now).value) }
-{
-    by_steps(job)
-}
-
 #[tactic(auto, unfolding(crate::specs::Counts::counts_of))]
-fn by_steps(job: &Job) -> Result<Counts, Refused>
-    ensures { Gives result (counts_of job.now).found (λ counts. counts) }
+pub(crate) fn count(job: &Job) -> Result<Counts, Found>
+    ensures { result ≡ (counts_of job.now).found }
 {
     let counts = add_decls(job.decls.as_slice())?;
-    let counts = add_blocks(counts, job.blocks.as_slice())?;
-    Ok(counts)
+    add_blocks(counts, job.blocks.as_slice())
 }
 
-fn add_decls(decls: &[Decl]) -> Result<Counts, Refusal>
+fn add_decls(decls: &[Decl]) -> Result<Counts, Found>
     ensures counts { result ≡ (decls_counted nothing_counted decls.now).found }
     ensures within { IfOk result (λ counts. is_within counts ≡ true) }
 {
@@ -124,14 +127,14 @@ fn add_decls(decls: &[Decl]) -> Result<Counts, Refusal>
     for decl in decls {
         let more = counts.with_decl(decl);
         if !more.is_within() {
-            return Err(Refusal::e(29, decl_place(decl)));
+            return Err(too_many(counted_of(decl), decl_place(decl)));
         }
         counts = more;
     }
     Ok(counts)
 }
 
-fn add_blocks(from: Counts, blocks: &[Block]) -> Result<Counts, Refusal>
+fn add_blocks(from: Counts, blocks: &[Block]) -> Result<Counts, Found>
     requires { is_within from ≡ true }
     ensures { result ≡ (blocks_counted from blocks.now).found }
 {
@@ -142,7 +145,7 @@ fn add_blocks(from: Counts, blocks: &[Block]) -> Result<Counts, Refusal>
     Ok(counts)
 }
 
-fn add_stmts(from: Counts, stmts: &[Stmt]) -> Result<Counts, Refusal>
+fn add_stmts(from: Counts, stmts: &[Stmt]) -> Result<Counts, Found>
     requires { is_within from ≡ true }
     ensures counts { result ≡ (stmts_counted from stmts.now).found }
     ensures within { IfOk result (λ counts. is_within counts ≡ true) }
@@ -151,11 +154,33 @@ fn add_stmts(from: Counts, stmts: &[Stmt]) -> Result<Counts, Refusal>
     for stmt in stmts {
         let more = counts.with_stmt(stmt);
         if !more.is_within() {
-            return Err(Refusal::e(29, read_place(stmt)));
+            return Err(too_many(more.counted(), read_place(stmt)));
         }
         counts = more;
     }
     Ok(counts)
+}
+
+fn too_many(counted: Counted, place: Place) -> Found
+    ensures { result ≡ too_many counted place }
+{
+    let fault = StageFault::TooMany(counted);
+    Found { place, fault }
+}
+
+// What the declaration is one more of.
+fn counted_of(decl: &Decl) -> Counted
+    ensures { result ≡ counted_of decl.now }
+{
+    match decl {
+        Decl::Reg(_, _, _) => Counted::Registers,
+        Decl::File(_, _, _) => Counted::Files,
+        Decl::Pipe(_, _) => Counted::Pipes,
+        Decl::Target(_) => Counted::Results,
+        Decl::Hint(_, _, _) => Counted::Hints,
+        Decl::Func(_) => Counted::Functions,
+        Decl::Sample(_, _, _) => Counted::Samples,
+    }
 }
 
 fn decl_place(decl: &Decl) -> Place

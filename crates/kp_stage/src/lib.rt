@@ -4,12 +4,14 @@
 mod counts;
 mod design;
 mod facts;
+mod fault;
 pub mod laws;
 mod rules;
 mod sizes;
 mod start;
 
 pub use counts::Summary;
-pub use design::Design;
+pub use design::{Design, stage_findings};
+pub use fault::{Counted, StageFault};
 pub use rules::Rule;
 pub use start::Start;

@@ -1,13 +1,16 @@
 // The rules E15 to E25, E34 and E35.
-ghost use Rattle.std.specs.Prelude.{◌≡◌, ◌∷◌, [], map, nat_lt, nat_le, ◌+◌, ◌==◌, not};
-ghost use Rattle.kp_base.specs.First.{first};
-ghost use Rattle.kp_stage.specs.Rules.{number_of, broken_unless, ask_head, ask_decl, ask_block, ask_stmt, ask_decls, ask_stmts, ask_in_block, ask_blocks, ask_name, ask_expr, ask_option, ask_values, ask_guesses, ask_pipe, put_before, may_guess, holds_of, is_at, broken_at, broken_by};
+ghost use Rattle.std.specs.Prelude.{◌≡◌, ◌∷◌, [], map, nat_lt, nat_le, ◌+◌, ◌==◌, not, OnOk};
+ghost use Rattle.kp_base.specs.{First.first, Findings.with_answers};
+ghost use Rattle.kp_stage.specs.Findings.{broken_unless, broken_if};
+ghost use Rattle.kp_stage.specs.Rules.{ask_head, head_fault, ask_decl, ask_block, block_fault, ask_stmt, ask_decls, ask_stmts, ask_in_block, ask_blocks, ask_name, ask_expr, ask_option, ask_values, ask_guesses, ask_pipe, may_guess, guess_fault, holds_of, is_at, or_here, asked_at, asked_by_rules, asked_by};
+ghost use Rattle.kp_stage.specs.declared.fault.StageFault.TheVariants as faults;
 ghost use Rattle.kp_stage.specs.inner.Tables.{facts_in};
 ghost use Rattle.kp_stage.specs.inner.Asked.{asks_blocks};
 
 use crate::facts::{Facts, Spot};
-use kp_ast::{Block, Decl, Expr, ExprKind, Job, Name, Named, ReadStmt, Stmt, StmtKind};
-use kp_base::{Place, Refusal};
+use crate::fault::{Found, StageFault};
+use kp_ast::{Block, Decl, Expr, ExprKind, Job, Name, Named, Num, ReadStmt, Stmt, StmtKind};
+use kp_base::{Findings, NoMemory, Place};
 
 /// A rule of stages, by its number. The variants are in the order in which the rules are checked.
 #[derive(Clone, Copy)]
@@ -27,111 +30,113 @@ pub enum Rule {
     E35,
 }
 
-impl Rule {
-    /// The number, as it is printed in an error message.
-    pub fn number(self) -> u8
-        ensures { result ≡ number_of self }
-    {
-        match self {
-            Rule::E15 => 15,
-            Rule::E16 => 16,
-            Rule::E17 => 17,
-            Rule::E18 => 18,
-            Rule::E19 => 19,
-            Rule::E20 => 20,
-            Rule::E21 => 21,
-            Rule::E22 => 22,
-            Rule::E23 => 23,
-            Rule::E24 => 24,
-            Rule::E25 => 25,
-            Rule::E34 => 34,
-            Rule::E35 => 35,
-        }
-    }
-}
+const RULES: [Rule; 13] = [
+    Rule::E15,
+    Rule::E16,
+    Rule::E17,
+    Rule::E18,
+    Rule::E19,
+    Rule::E20,
+    Rule::E21,
+    Rule::E22,
+    Rule::E23,
+    Rule::E24,
+    Rule::E25,
+    Rule::E34,
+    Rule::E35,
+];
 
-// The first of the rules that is violated, at the first position where it is.
-#[tactic(auto, unfolding(crate::specs::Rules::broken_by))]
-pub(crate) fn first_broken(facts: &Facts, job: &Job) -> Option<Refusal>
-    ensures { result ≡ broken_by (facts_in facts.now) job.now }
+// Notes the violations of the rules: by rules, and each in text order.
+#[tactic(auto, unfolding(crate::specs::Rules::asked_by))]
+pub(crate) fn note_job(
+    notes: &mut Findings<Found>,
+    facts: &Facts,
+    job: &Job,
+) -> Result<(), NoMemory>
+    ensures { OnOk result (notes.new ≡ with_answers notes.old (asked_by (facts_in facts.now) job.now)) }
 {
-    let rules = [
-        Rule::E15,
-        Rule::E16,
-        Rule::E17,
-        Rule::E18,
-        Rule::E19,
-        Rule::E20,
-        Rule::E21,
-        Rule::E22,
-        Rule::E23,
-        Rule::E24,
-        Rule::E25,
-        Rule::E34,
-        Rule::E35,
-    ];
-    in_rules(facts, job, &rules)
+    in_rules(notes, facts, job, &RULES)
 }
 
-fn in_rules(facts: &Facts, job: &Job, rules: &[Rule]) -> Option<Refusal>
-    ensures { result ≡ first (map (broken_at (facts_in facts.now) job.now) rules.now) }
+fn in_rules(
+    notes: &mut Findings<Found>,
+    facts: &Facts,
+    job: &Job,
+    rules: &[Rule],
+) -> Result<(), NoMemory>
+    ensures { OnOk result (notes.new ≡ with_answers notes.old (asked_by_rules (facts_in facts.now) job.now rules.now)) }
 {
     for rule in rules {
-        let answer = in_job(facts, *rule, job);
-        if answer.is_some() {
-            return answer;
-        }
+        in_job(notes, facts, *rule, job)?;
     }
-    None
+    Ok(())
 }
 
-#[tactic(auto, unfolding(crate::specs::Rules::broken_at))]
-fn in_job(facts: &Facts, rule: Rule, job: &Job) -> Option<Refusal>
-    ensures { result ≡ broken_at (facts_in facts.now) job.now rule }
+// Where enough is found, nothing more is asked.
+#[tactic(auto, using(kp_base::proofs::Collecting::append, kp_base::proofs::Collecting::full_stays))]
+fn in_job(notes: &mut Findings<Found>, facts: &Facts, rule: Rule, job: &Job) -> Result<(), NoMemory>
+    ensures { OnOk result (notes.new ≡ with_answers notes.old (asked_at (facts_in facts.now) job.now rule)) }
 {
-    let in_head = of_head(rule, job);
-    if in_head.is_some() {
-        return in_head;
+    if notes.is_full() {
+        return Ok(());
     }
-    match in_decls(facts, rule, job.decls.as_slice()) {
-        Some(refusal) => Some(refusal),
-        None => in_blocks(facts, rule, job.blocks.as_slice()),
-    }
+    notes.note(of_head(rule, job))?;
+    in_decls(notes, facts, rule, job.decls.as_slice())?;
+    in_blocks(notes, facts, rule, job.blocks.as_slice())
 }
 
-fn of_head(rule: Rule, job: &Job) -> Option<Refusal>
+fn of_head(rule: Rule, job: &Job) -> Option<Found>
     ensures { result ≡ ask_head rule job.now }
 {
     match rule {
         Rule::E15 => {
             let stages = job.stages.value;
             let holds = stages >= 2 && stages <= 12 && stages <= job.blocks.as_slice().len() as u64;
-            broken_unless(holds, rule, job.stages.at)
+            broken_unless(holds, head_fault(job), job.stages.at)
         }
         _ => None,
     }
 }
 
-fn in_decls(facts: &Facts, rule: Rule, decls: &[Decl]) -> Option<Refusal>
-    ensures { result ≡ first (ask_decls (facts_in facts.now) rule 0 decls.now) }
+fn head_fault(job: &Job) -> StageFault
+    ensures { result ≡ head_fault job.now }
 {
-    for (i, decl) in decls.iter().enumerate() {
-        let answer = of_decl(facts, rule, i, decl);
-        if answer.is_some() {
-            return answer;
-        }
+    let stages = job.stages.value;
+    if stages >= 2 && stages <= 12 {
+        let blocks = job.blocks.as_slice().len();
+        StageFault::FewBlocks { stages, blocks }
+    } else {
+        StageFault::StageCount { stages }
     }
-    None
 }
 
-#[tactic(auto, using(crate::proofs::Unasked::no_answer))]
-fn in_blocks(facts: &Facts, rule: Rule, blocks: &[Block]) -> Option<Refusal>
-    ensures { result ≡ first (ask_blocks (facts_in facts.now) rule 0 blocks.now) }
+fn in_decls(
+    notes: &mut Findings<Found>,
+    facts: &Facts,
+    rule: Rule,
+    decls: &[Decl],
+) -> Result<(), NoMemory>
+    ensures { OnOk result (notes.new ≡ with_answers notes.old (ask_decls (facts_in facts.now) rule 0 decls.now)) }
+{
+    for (i, decl) in decls.iter().enumerate() {
+        notes.note(of_decl(facts, rule, i, decl))?;
+    }
+    Ok(())
+}
+
+#[tactic(auto, using(crate::proofs::Unasked::nothing_noted))]
+fn in_blocks(
+    notes: &mut Findings<Found>,
+    facts: &Facts,
+    rule: Rule,
+    blocks: &[Block],
+) -> Result<(), NoMemory>
+    ensures { OnOk result (notes.new ≡ with_answers notes.old (ask_blocks (facts_in facts.now) rule 0 blocks.now)) }
 {
     if asks_blocks(facts, rule) {
-        in_each_block(facts, rule, blocks)
+        in_each_block(notes, facts, rule, blocks)
     } else {
-        None
+        Ok(())
     }
 }
 
@@ -148,92 +153,130 @@ fn asks_blocks(facts: &Facts, rule: Rule) -> bool
     }
 }
 
-fn in_each_block(facts: &Facts, rule: Rule, blocks: &[Block]) -> Option<Refusal>
-    ensures { result ≡ first (ask_blocks (facts_in facts.now) rule 0 blocks.now) }
+#[tactic(auto, using(kp_base::proofs::Collecting::append))]
+fn in_each_block(
+    notes: &mut Findings<Found>,
+    facts: &Facts,
+    rule: Rule,
+    blocks: &[Block],
+) -> Result<(), NoMemory>
+    ensures { OnOk result (notes.new ≡ with_answers notes.old (ask_blocks (facts_in facts.now) rule 0 blocks.now)) }
 {
     for (k, block) in blocks.iter().enumerate() {
-        let answer = in_block(facts, rule, k, block);
-        if answer.is_some() {
-            return answer;
-        }
+        in_block(notes, facts, rule, k, block)?;
     }
-    None
+    Ok(())
 }
 
-#[tactic(auto, unfolding(crate::specs::Rules::ask_in_block))]
-fn in_block(facts: &Facts, rule: Rule, k: usize, block: &Block) -> Option<Refusal>
-    ensures { result ≡ ask_in_block (facts_in facts.now) rule k block.now }
+fn in_block(
+    notes: &mut Findings<Found>,
+    facts: &Facts,
+    rule: Rule,
+    k: usize,
+    block: &Block,
+) -> Result<(), NoMemory>
+    ensures { OnOk result (notes.new ≡ with_answers notes.old (ask_in_block (facts_in facts.now) rule k block.now)) }
 {
-    match of_block(facts, rule, k, block) {
-        Some(refusal) => Some(refusal),
-        None => in_stmts(facts, rule, k, block.stmts.as_slice()),
-    }
+    notes.note(of_block(facts, rule, k, block))?;
+    in_stmts(notes, facts, rule, k, block.stmts.as_slice())
 }
 
-fn of_block(facts: &Facts, rule: Rule, k: usize, block: &Block) -> Option<Refusal>
+fn of_block(facts: &Facts, rule: Rule, k: usize, block: &Block) -> Option<Found>
     ensures { result ≡ ask_block (facts_in facts.now) rule k block.now }
 {
     match rule {
         Rule::E15 => {
             let holds = block.number.value == k as u64 && (k as u64) < facts.stages;
-            broken_unless(holds, rule, block.number.at)
+            broken_unless(holds, block_fault(facts, k, block), block.number.at)
         }
         _ => None,
     }
 }
 
-fn in_stmts(facts: &Facts, rule: Rule, k: usize, stmts: &[Stmt]) -> Option<Refusal>
-    ensures { result ≡ first (ask_stmts (facts_in facts.now) rule k 0 stmts.now) }
+fn block_fault(facts: &Facts, k: usize, block: &Block) -> StageFault
+    ensures { result ≡ block_fault (facts_in facts.now) k block.now }
 {
-    for (j, stmt) in stmts.iter().enumerate() {
-        let answer = of_stmt(facts, rule, k, j, &stmt.kind);
-        if answer.is_some() {
-            return answer;
+    if (k as u64) < facts.stages {
+        StageFault::BlockNumber {
+            found: block.number.value,
+            wanted: k,
+        }
+    } else {
+        StageFault::BlockBeyond {
+            stages: facts.stages,
         }
     }
-    None
 }
 
-fn of_decl(facts: &Facts, rule: Rule, i: usize, decl: &Decl) -> Option<Refusal>
+fn in_stmts(
+    notes: &mut Findings<Found>,
+    facts: &Facts,
+    rule: Rule,
+    k: usize,
+    stmts: &[Stmt],
+) -> Result<(), NoMemory>
+    ensures { OnOk result (notes.new ≡ with_answers notes.old (ask_stmts (facts_in facts.now) rule k 0 stmts.now)) }
+{
+    for (j, stmt) in stmts.iter().enumerate() {
+        notes.note(of_stmt(facts, rule, k, j, &stmt.kind))?;
+    }
+    Ok(())
+}
+
+fn of_decl(facts: &Facts, rule: Rule, i: usize, decl: &Decl) -> Option<Found>
     ensures { result ≡ ask_decl (facts_in facts.now) rule i decl.now }
 {
     match (rule, decl) {
-        (Rule::E15, Decl::Target(result)) => broken_unless(
-            result.stage.value < facts.stages,
-            rule,
-            result.stage.at,
+        (Rule::E15, Decl::Target(result)) => of_stage(facts, result.stage),
+        (Rule::E15, Decl::Sample(_, _, stage)) => of_stage(facts, *stage),
+        (Rule::E16, Decl::Pipe(named, _)) => broken_unless(
+            facts.given.puts.get(&named.name).is_some(),
+            StageFault::NeverPut,
+            named.at,
         ),
-        (Rule::E15, Decl::Sample(_, _, stage)) => broken_unless(
-            stage.value < facts.stages,
-            rule,
-            stage.at,
-        ),
-        (Rule::E16, Decl::Pipe(named, _)) => {
-            broken_unless(facts.given.puts.get(&named.name).is_some(), rule, named.at)
-        }
         (Rule::E19, Decl::Target(result)) => {
             let stage = result.stage.value;
-            match of_pipe(facts, stage, &result.address) {
-                Some(refusal) => Some(refusal),
-                None => of_pipe(facts, stage, &result.enable),
-            }
+            first_of(
+                of_pipe(facts, stage, &result.address),
+                of_pipe(facts, stage, &result.enable),
+            )
         }
         (Rule::E22, Decl::Target(result)) => {
             let target = &result.target;
-            let is_first = match facts.named.results.get(&target.name) {
-                Some(j) => j == i,
-                None => false,
+            let first = facts.named.results.get(&target.name);
+            let fault = StageFault::SecondResult {
+                number: first.unwrap_or(i),
             };
-            broken_unless(is_first, rule, target.at)
+            broken_unless(is_index(first, i), fault, target.at)
         }
         (Rule::E24, Decl::Target(result)) => {
-            broken_unless(is_late(facts, result.stage.value), rule, result.stage.at)
+            let stage = result.stage.value;
+            let fault = StageFault::EarlyWrite {
+                stage,
+                top: facts.top,
+            };
+            broken_unless(is_late(facts, stage), fault, result.stage.at)
         }
         (Rule::E35, Decl::Sample(_, _, stage)) => {
-            broken_unless(is_late(facts, stage.value), rule, stage.at)
+            let fault = StageFault::EarlySample {
+                stage: stage.value,
+                top: facts.top,
+            };
+            broken_unless(is_late(facts, stage.value), fault, stage.at)
         }
         _ => None,
     }
+}
+
+// A stage is one of the stages.
+fn of_stage(facts: &Facts, stage: Num) -> Option<Found>
+    ensures { result ≡ broken_unless (nat_lt stage.value (facts_in facts.now).stages) (faults.NoStage stage.value (facts_in facts.now).stages) stage.at }
+{
+    let fault = StageFault::NoStage {
+        found: stage.value,
+        stages: facts.stages,
+    };
+    broken_unless(stage.value < facts.stages, fault, stage.at)
 }
 
 // Whether the stage is at least W-1.
@@ -243,66 +286,73 @@ fn is_late(facts: &Facts, stage: u64) -> bool
     facts.top <= stage || facts.top - 1 <= stage
 }
 
-fn of_pipe(facts: &Facts, stage: u64, pipe: &Option<Named>) -> Option<Refusal>
+fn of_pipe(facts: &Facts, stage: u64, pipe: &Option<Named>) -> Option<Found>
     ensures { result ≡ ask_pipe (facts_in facts.now) stage pipe.now }
 {
     match pipe {
-        Some(named) => broken_unless(
-            is_put_before(facts, &named.name, stage),
-            Rule::E19,
-            named.at,
-        ),
+        Some(named) => late_put(facts.given.puts.get(&named.name), stage, named.at),
         None => None,
     }
 }
 
-fn is_put_before(facts: &Facts, name: &Name, stage: u64) -> bool
-    ensures { result ≡ put_before (facts_in facts.now) name.now stage }
+// A pipe that is put in the write stage, or a later one.
+fn late_put(put: Option<Spot>, write: u64, at: Place) -> Option<Found>
+    ensures { result ≡ broken_if (λ p. nat_le write p.stage) (λ p. faults.PutLate p.stage write) put at }
 {
-    match facts.given.puts.get(name) {
-        Some(spot) => (spot.stage as u64) < stage,
-        None => false,
-    }
+    let put = put?.stage;
+    let fault = StageFault::PutLate { put, write };
+    broken_unless((put as u64) < write, fault, at)
 }
 
-fn of_stmt(facts: &Facts, rule: Rule, k: usize, j: usize, stmt: &StmtKind) -> Option<Refusal>
+fn of_stmt(facts: &Facts, rule: Rule, k: usize, j: usize, stmt: &StmtKind) -> Option<Found>
     ensures { result ≡ ask_stmt (facts_in facts.now) rule k j stmt.now }
 {
     match (rule, stmt) {
         (Rule::E16, StmtKind::Put(named, _)) => {
-            broken_unless(
-                is_here(facts.given.puts.get(&named.name), k, j),
-                rule,
-                named.at,
-            )
+            let put = facts.given.puts.get(&named.name);
+            let first = or_here(&put, k, j);
+            let fault = StageFault::PutAgain {
+                stage: first.stage,
+                index: first.index,
+            };
+            broken_unless(is_here(&put, k, j), fault, named.at)
         }
         (Rule::E17, _) => first_of(
             in_values(facts, Rule::E17, k, stmt),
             in_guesses(facts, Rule::E17, k, stmt),
         ),
         (Rule::E18, StmtKind::Read(read)) => {
-            let late = is_before(facts.named.writes.get(&read.target.name), k);
-            broken_unless(!late, rule, read.target.at)
+            let write = facts.named.writes.get(&read.target.name)?;
+            let fault = StageFault::ReadLate { write, here: k };
+            broken_unless(k as u64 <= write, fault, read.target.at)
         }
         (Rule::E20, StmtKind::Set(named, _, _)) => {
-            let late = is_before(facts.named.write_stages.get(&named.name), k);
-            broken_unless(!late, rule, named.at)
+            let write = facts.named.write_stages.get(&named.name)?;
+            let fault = StageFault::SetLate { write, here: k };
+            broken_unless(k as u64 <= write, fault, named.at)
         }
         (Rule::E21, StmtKind::Set(named, _, _)) => {
-            broken_unless(is_first_set(facts, k, j, &named.name), rule, named.at)
+            let first = first_set(facts, k, &named.name);
+            let fault = StageFault::SetAgain {
+                index: first.unwrap_or(j),
+            };
+            broken_unless(is_index(first, j), fault, named.at)
         }
         (Rule::E21, StmtKind::Aim(named, _)) => {
-            broken_unless(
-                is_here(facts.given.aims.get(&named.name), k, j),
-                rule,
-                named.at,
-            )
+            let aim = facts.given.aims.get(&named.name);
+            let first = or_here(&aim, k, j);
+            let fault = StageFault::AimedAgain {
+                stage: first.stage,
+                index: first.index,
+            };
+            broken_unless(is_here(&aim, k, j), fault, named.at)
         }
-        (Rule::E23, StmtKind::Read(read)) => broken_unless(
-            may_guess(facts, k, read),
-            rule,
-            read.target.at,
-        ),
+        (Rule::E23, StmtKind::Read(read)) => {
+            if may_guess(facts, k, read) {
+                return None;
+            }
+            broken_unless(false, guess_fault(facts, k, read), read.target.at)
+        }
         (Rule::E25, _) => in_values(facts, Rule::E25, k, stmt),
         (Rule::E34, _) => first_of(
             in_values(facts, Rule::E34, k, stmt),
@@ -313,7 +363,7 @@ fn of_stmt(facts: &Facts, rule: Rule, k: usize, j: usize, stmt: &StmtKind) -> Op
 }
 
 // The first name outside a guess and an aim at which the rule is violated.
-fn in_values(facts: &Facts, rule: Rule, k: usize, stmt: &StmtKind) -> Option<Refusal>
+fn in_values(facts: &Facts, rule: Rule, k: usize, stmt: &StmtKind) -> Option<Found>
     ensures { result ≡ ask_values (facts_in facts.now) rule k stmt.now }
 {
     match stmt {
@@ -331,7 +381,7 @@ fn in_values(facts: &Facts, rule: Rule, k: usize, stmt: &StmtKind) -> Option<Ref
 }
 
 // The first name in a guess or an aim at which the rule is violated.
-fn in_guesses(facts: &Facts, rule: Rule, k: usize, stmt: &StmtKind) -> Option<Refusal>
+fn in_guesses(facts: &Facts, rule: Rule, k: usize, stmt: &StmtKind) -> Option<Found>
     ensures { result ≡ ask_guesses (facts_in facts.now) rule k stmt.now }
 {
     match stmt {
@@ -341,16 +391,16 @@ fn in_guesses(facts: &Facts, rule: Rule, k: usize, stmt: &StmtKind) -> Option<Re
     }
 }
 
-fn first_of(a: Option<Refusal>, b: Option<Refusal>) -> Option<Refusal>
+fn first_of(a: Option<Found>, b: Option<Found>) -> Option<Found>
     ensures { result ≡ first (a ∷ b ∷ []) }
 {
     match a {
-        Some(refusal) => Some(refusal),
+        Some(finding) => Some(finding),
         None => b,
     }
 }
 
-fn in_option(facts: &Facts, rule: Rule, k: usize, e: &Option<Expr>) -> Option<Refusal>
+fn in_option(facts: &Facts, rule: Rule, k: usize, e: &Option<Expr>) -> Option<Found>
     ensures { result ≡ ask_option (facts_in facts.now) rule k e.now }
 {
     match e {
@@ -361,7 +411,7 @@ fn in_option(facts: &Facts, rule: Rule, k: usize, e: &Option<Expr>) -> Option<Re
 
 // The first name in an expression at which the rule is violated.
 #[cycle(names)]
-fn in_expr(facts: &Facts, rule: Rule, k: usize, e: &Expr) -> Option<Refusal>
+fn in_expr(facts: &Facts, rule: Rule, k: usize, e: &Expr) -> Option<Found>
     ensures { result ≡ ask_expr (facts_in facts.now) rule k e.now }
 {
     match &e.kind {
@@ -386,7 +436,7 @@ fn in_expr(facts: &Facts, rule: Rule, k: usize, e: &Expr) -> Option<Refusal>
 }
 
 #[cycle(names)]
-fn in_exprs(facts: &Facts, rule: Rule, k: usize, es: &[Expr]) -> Option<Refusal>
+fn in_exprs(facts: &Facts, rule: Rule, k: usize, es: &[Expr]) -> Option<Found>
     ensures { result ≡ first (map (ask_expr (facts_in facts.now) rule k) es.now) }
 {
     for e in es {
@@ -398,25 +448,45 @@ fn in_exprs(facts: &Facts, rule: Rule, k: usize, es: &[Expr]) -> Option<Refusal>
     None
 }
 
-fn of_name(facts: &Facts, rule: Rule, k: usize, name: &Name, at: Place) -> Option<Refusal>
+fn of_name(facts: &Facts, rule: Rule, k: usize, name: &Name, at: Place) -> Option<Found>
     ensures { result ≡ ask_name (facts_in facts.now) rule k name.now at }
 {
     match rule {
         Rule::E17 => {
-            let early = match facts.given.puts.get(name) {
-                Some(spot) => k <= spot.stage,
-                None => false,
+            let put = facts.given.puts.get(name)?;
+            let fault = StageFault::UsedEarly {
+                put: put.stage,
+                index: put.index,
+                here: k,
             };
-            broken_unless(!early, rule, at)
+            broken_unless(put.stage < k, fault, at)
         }
-        Rule::E25 => broken_unless(facts.named.hints.get(name).is_none(), rule, at),
-        Rule::E34 => broken_unless(!is_elsewhere(facts.named.samples.get(name), k), rule, at),
+        Rule::E25 => broken_unless(
+            facts.named.hints.get(name).is_none(),
+            StageFault::HintAsValue,
+            at,
+        ),
+        Rule::E34 => {
+            let stage = facts.named.samples.get(name)?;
+            let fault = StageFault::SampleElsewhere { stage, here: k };
+            broken_unless(stage == k as u64, fault, at)
+        }
         _ => None,
     }
 }
 
-fn is_here(spot: Option<Spot>, k: usize, j: usize) -> bool
-    ensures { result ≡ holds_of (is_at k j) spot }
+// The statement that is found, or this one.
+fn or_here(spot: &Option<Spot>, k: usize, j: usize) -> Spot
+    ensures { result ≡ or_here k j spot.now }
+{
+    match spot {
+        Some(spot) => *spot,
+        None => Spot { stage: k, index: j },
+    }
+}
+
+fn is_here(spot: &Option<Spot>, k: usize, j: usize) -> bool
+    ensures { result ≡ holds_of (is_at k j) spot.now }
 {
     match spot {
         Some(spot) => spot.stage == k && spot.index == j,
@@ -424,34 +494,21 @@ fn is_here(spot: Option<Spot>, k: usize, j: usize) -> bool
     }
 }
 
-// Whether the name is a sample of another stage.
-fn is_elsewhere(stage: Option<u64>, k: usize) -> bool
-    ensures { result ≡ holds_of (λ w. not (w == k)) stage }
+// The first statement of the stage that sets a result.
+fn first_set(facts: &Facts, k: usize, name: &Name) -> Option<usize>
+    ensures { result ≡ (facts_in facts.now).set_in k name.now }
 {
-    match stage {
-        Some(w) => w != k as u64,
-        None => false,
-    }
-}
-
-fn is_first_set(facts: &Facts, k: usize, j: usize, name: &Name) -> bool
-    ensures { result ≡ holds_of (λ i. i == j) ((facts_in facts.now).set_in k name.now) }
-{
-    let first = match facts.given.sets.get(k) {
+    match facts.given.sets.get(k) {
         Some(table) => table.get(name),
         None => None,
-    };
-    match first {
-        Some(i) => i == j,
-        None => false,
     }
 }
 
-fn is_before(stage: Option<u64>, k: usize) -> bool
-    ensures { result ≡ holds_of (λ w. nat_lt w k) stage }
+fn is_index(first: Option<usize>, index: usize) -> bool
+    ensures { result ≡ holds_of (λ i. i == index) first }
 {
-    match stage {
-        Some(w) => w < k as u64,
+    match first {
+        Some(i) => i == index,
         None => false,
     }
 }
@@ -471,12 +528,25 @@ fn may_guess(facts: &Facts, k: usize, read: &ReadStmt) -> bool
     }
 }
 
+// What is wrong with a guess that may not be made.
+fn guess_fault(facts: &Facts, k: usize, read: &ReadStmt) -> StageFault
+    ensures { result ≡ guess_fault (facts_in facts.now) k read.now }
+{
+    if read.address.is_some() {
+        return StageFault::GuessedFile;
+    }
+    match facts.named.writes.get(&read.target.name) {
+        Some(write) => StageFault::GuessLate { write, here: k },
+        None => StageFault::GuessWithoutResult,
+    }
+}
+
 // The rule is violated if the test fails.
-fn broken_unless(holds: bool, rule: Rule, place: Place) -> Option<Refusal>
-    ensures { result ≡ broken_unless holds rule place }
+fn broken_unless(holds: bool, fault: StageFault, place: Place) -> Option<Found>
+    ensures { result ≡ broken_unless holds fault place }
 {
     if holds {
         return None;
     }
-    Some(Refusal::e(rule.number(), place))
+    Some(Found { place, fault })
 }

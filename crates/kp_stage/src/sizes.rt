@@ -1,32 +1,21 @@
 // The expanded size of a machine.
 ghost use Rattle.std.specs.Prelude.{◌≡◌, ◌≤◌, ◌+◌, min, IfOk};
-ghost use Rattle.kp_base.specs.First.{Answers, first};
-ghost use Rattle.kp_base.specs.Check.{Gives};
 ghost use Rattle.kp_ast.specs.Size.{capped_bodies};
 ghost use Rattle.kp_stage.specs.Sizes.{size_of_option, size_of_kind, stmts_sized, blocks_sized, sizes_of};
 
-use kp_ast::{Block, CAP, Decl, Expr, Job, Stmt, StmtKind, body_sizes, expanded_size};
-use kp_base::{Refusal, Refused};
-use std::alloc::Global;
+use crate::fault::{Found, StageFault};
+use kp_ast::{Block, CAP, Decl, Expr, Job, Stmt, StmtKind, expanded_size};
 
 // The size of a machine, or a violation of E28.
-pub(crate) fn size_of(alloc: Global, job: &Job) -> Result<u32, Refused>
-    ensures { Answers result (first (sizes_of job.now).asked) (λ size. size ≡ (sizes_of job.now).value) }
-{
-    by_steps(alloc, job)
-}
-
 #[tactic(auto, unfolding(crate::specs::Sizes::sizes_of))]
-fn by_steps(alloc: Global, job: &Job) -> Result<u32, Refused>
-    ensures { Gives result (sizes_of job.now).found (λ size. size) }
+pub(crate) fn size_of(job: &Job, bodies: &[u32]) -> Result<u32, Found>
+    requires { bodies.now ≡ capped_bodies job.now.decls }
+    ensures { result ≡ (sizes_of job.now).found }
 {
-    let decls = job.decls.as_slice();
-    let bodies = body_sizes(alloc, decls)?;
-    let size = add_blocks(decls, bodies.as_slice(), job.blocks.as_slice())?;
-    Ok(size)
+    add_blocks(job.decls.as_slice(), bodies, job.blocks.as_slice())
 }
 
-fn add_blocks(decls: &[Decl], bodies: &[u32], blocks: &[Block]) -> Result<u32, Refusal>
+fn add_blocks(decls: &[Decl], bodies: &[u32], blocks: &[Block]) -> Result<u32, Found>
     requires { bodies.now ≡ capped_bodies decls.now }
     ensures { result ≡ (blocks_sized decls.now 0 blocks.now).found }
 {
@@ -37,7 +26,7 @@ fn add_blocks(decls: &[Decl], bodies: &[u32], blocks: &[Block]) -> Result<u32, R
     Ok(total)
 }
 
-fn add_stmts(decls: &[Decl], bodies: &[u32], from: u32, stmts: &[Stmt]) -> Result<u32, Refusal>
+fn add_stmts(decls: &[Decl], bodies: &[u32], from: u32, stmts: &[Stmt]) -> Result<u32, Found>
     requires bodies { bodies.now ≡ capped_bodies decls.now }
     requires within { from ≤ 100000 }
     ensures sum { result ≡ (stmts_sized decls.now from stmts.now).found }
@@ -47,7 +36,10 @@ fn add_stmts(decls: &[Decl], bodies: &[u32], from: u32, stmts: &[Stmt]) -> Resul
     for stmt in stmts {
         let size = total + stmt_size(decls, bodies, &stmt.kind);
         if size > 100_000 {
-            return Err(Refusal::e(28, stmt.at));
+            return Err(Found {
+                place: stmt.at,
+                fault: StageFault::TooLarge,
+            });
         }
         total = size;
     }

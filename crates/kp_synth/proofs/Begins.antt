@@ -2,13 +2,15 @@
 use Rattle.std.proofs.Common.{◌≡◌, ℕ, zero, suc, ◌+◌, ◌^◌, ◌<◌, ◌≤◌, ◌∙◌, List, [], ◌∷◌, true, false, cond, length, take, get_or, All, refl, ap, sym, subst, arith}
 use Rattle.std.proofs.lemmas.{Option.slice_get-get_or, Bool.ltb-true, Bool.eqb-true, Nat.pow_pos}
 use Rattle.std.specs.{Prelude.slice_index, Prelude.slice_get, Prelude.not, Prelude.is_some, Prelude.nat_lt, Prelude.◌==◌, List.filter}
-use Rattle.kp_base.specs.{Refusal.e_rule, Check.ok, Check.wants, Check.◌>>=◌}
+use Rattle.kp_base.specs.{Check.ok, Check.wants, Check.◌>>=◌}
 use Rattle.kp_bits.specs.Word.{Word, word, IsWord}
 use Rattle.kp_ast.specs.declared.tree.{Named.Named, Num.Num, Lit.Lit, Decl.Decl, Job.Job}
 use Rattle.kp_ast.specs.declared.tree.Decl.TheVariants as decls
 use Rattle.kp_ast.specs.declared.widths.NameKind.TheVariants as kinds
 use Rattle.kp_width.specs.Names.{Scoped, nothing, passed, sense, find, declared_text}
 use Rattle.kp_width.specs.Expressions.{is_width, literal_of}
+use Rattle.kp_width.specs.Faults.{found_at}
+use Rattle.kp_width.specs.declared.fault.WidthFault.TheVariants as faults
 use Rattle.kp_width.specs.Declarations.{declared, start_of, started_of, after_name, declaration_of, declarations_of, functions_in}
 use Rattle.kp_width.{specs.Widths.widths_of, proofs.Unbroken.Unbroken, proofs.Unbroken.bind_unbroken, proofs.Unbroken.answer_unbroken}
 use Rattle.kp_stage.specs.{Start.AreRegs, Start.AreFiles, declared.start.Start.Start}
@@ -29,15 +31,15 @@ hints_started (_ ∷ ds) = hints_started ds
 hint_fits : (width : Num) (start : Lit) → Unbroken (start_of start width.value) → start.literal.value < 2 ^ width.value
 hint_fits width start u =
     let l = start.literal in
-    let a = bind_unbroken (literal_of l start.at) (λ x. wants (x == width.value) (e_rule 10 start.at) passed) u in
-    let b = answer_unbroken (is_width l.width) (e_rule 8 start.at) (wants (nat_lt l.value (2 ^ l.width)) (e_rule 13 start.at) (ok l.width)).asked a.0 in
-    let c = answer_unbroken (nat_lt l.value (2 ^ l.width)) (e_rule 13 start.at) [] b.1 in
-    let d = answer_unbroken (l.width == width.value) (e_rule 10 start.at) [] a.1 in
+    let a = bind_unbroken (literal_of l start.at) (λ x. wants (x == width.value) (found_at start.at (faults.Start x width.value)) passed) u in
+    let b = answer_unbroken (is_width l.width) _ (wants (nat_lt l.value (2 ^ l.width)) (found_at start.at (faults.LiteralValue l.value l.width)) (ok l.width)).asked a.0 in
+    let c = answer_unbroken (nat_lt l.value (2 ^ l.width)) _ [] b.1 in
+    let d = answer_unbroken (l.width == width.value) _ [] a.1 in
     subst (λ n. l.value < 2 ^ n) (eqb-true l.width width.value d.0) (ltb-true l.value (2 ^ l.width) c.0)
 
 begun : (ds : List Decl) (i k : ℕ) (s : Scoped) (n : Named) (width : Num) (start : Lit) → Unbroken (declaration_of ds i k s (decls.Hint n width start)) → start.literal.value < 2 ^ width.value
 begun ds i k s n width start u =
-    let y = (answer_unbroken (not (is_some (find s n.name))) (e_rule 5 n.at) (after_name ds i k s (decls.Hint n width start)).asked u).1 in
+    let y = (answer_unbroken (not (is_some (find s n.name))) _ (after_name ds i k s (decls.Hint n width start)).asked u).1 in
     let a = bind_unbroken (started_of width start) (λ w. ok (declared_text s n.name (sense kinds.Hint w i))) y in
     let b = bind_unbroken (declared width) (λ w. start_of start w >>= (λ x. ok w)) a.0 in
     let c = bind_unbroken (start_of start width.value) (λ x. ok width.value) b.1 in

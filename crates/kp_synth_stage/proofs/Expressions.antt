@@ -1,7 +1,6 @@
 -- The value of an expression in a stage, provided that the nodes of the names have their values.
 use Rattle.std.proofs.Common.{◌≡◌, ◌∙◌, ℕ, ◌<◌, List, [], ◌∷◌, ◌++◌, length, Option, Some, None, Bool, true, false, cond, not, refl, ap, sym, subst}
 use Rattle.std.specs.{Prelude.is_some, Prelude.unwrap_or, Option.option_map}
-use Rattle.kp_base.specs.{Check.Answer, declared.place.Place.Place}
 use Rattle.kp_bits.specs.{Word.Word, Word.IsWord, Operators.no_word}
 use Rattle.kp_ast.specs.Expressions.{Env, eval, env_of, names_of, calls_of, is_same_name}
 use Rattle.kp_ast.specs.{Checked.checked, Checked.checked_calls_of, declared.tree.Expr.Expr, declared.tree.Job.Job, declared.widths.NameKind.NameKind}
@@ -10,7 +9,7 @@ use Rattle.kp_ast.specs.declared.widths.Scope.TheVariants as scopes
 use Rattle.kp_ast.specs.declared.widths.NameKind.TheVariants as kinds
 use Rattle.kp_width.specs.Names.{Sense, Names, Scoped, look_up, find, is_value_in, is_callee, is_hint}
 use Rattle.kp_width.specs.{Expressions.width_of, Expressions.params_of, Widths.widths_of, Soundness.HasWidth, Soundness.AreArguments}
-use Rattle.kp_width.proofs.{Unbroken.Unbroken, Calls.is_of_text, Found.Found, Found.Meets, Found.found, Found.no_answer}
+use Rattle.kp_width.proofs.{Unbroken.Unbroken, Calls.is_of_text, Found.Found, Found.Meets, Found.found, Found.no_question, Found.no_answer}
 use Rattle.kp_stage.specs.{Facts.facts_of, declared.rules.Rule.Rule, Rules.ask_name, Rules.ask_expr}
 use Rattle.kp_machine.{specs.Slots.hints_of, specs.Slots.words_of, proofs.Scopes.Placed}
 use Rattle.kp_machine.proofs.Text.{local_no, found_where, no_hint, same_question, placed, calls_open}
@@ -79,9 +78,6 @@ look_second ((n, v) ∷ a) b q e = by (is_same_name q n) (look_second a b q) e
     by : (t : Bool) → (values.look_up a q ≡ None → values.look_up (a ++ b) q ≡ values.look_up b q) → cond t (Some v) (values.look_up a q) ≡ None → cond t (Some v) (values.look_up (a ++ b) q) ≡ values.look_up b q
     by true go f = cc
     by false go f = go f
-
-abbrev no_question : List ℕ → Place → Answer
-no_question q at = None
 
 module _ (job : Job) (unbroken : Unbroken (widths_of job)) (k j : ℕ) (p : Held) (env : Scope) (right : AllRight p.nodes) (bound : Bound job (scope_at job k j) p env) (c : Cells) where
   abbrev s : Scoped

@@ -1,7 +1,7 @@
 -- A statement of a job that violates no rule: what is in scope before it and after it, and which rules it satisfies.
 use Rattle.std.proofs.Common.{◌≡◌, ◌∙◌, ℕ, zero, suc, ◌+◌, List, [], ◌∷◌, take, Option, Some, None, true, refl, ap, sym, subst, arith}
 use Rattle.std.specs.Prelude.{slice_get}
-use Rattle.kp_base.specs.{Refusal.e_rule, First.first, Check.ok, Check.◌>>=◌}
+use Rattle.kp_base.specs.{First.first, Check.ok, Check.◌>>=◌}
 use Rattle.kp_ast.specs.declared.tree.{Decl.Decl, Stmt.Stmt, StmtKind.StmtKind, Block.Block, Job.Job}
 use Rattle.kp_ast.specs.declared.tree.StmtKind.TheVariants as stmts
 use Rattle.kp_ast.specs.declared.widths.Scope.TheVariants as scopes
@@ -99,7 +99,7 @@ unfolding scope_at
 scope_start job k = refl
 
 guess_right : (facts : Facts) (k j : ℕ) (x : StmtKind) → ask_stmt facts Rule.E23 k j x ≡ None → GuessRight facts k x
-guess_right facts k j (stmts.Read r) e = answer_none (may_guess facts k r) (e_rule 23 r.target.at) e
+guess_right facts k j (stmts.Read r) e = answer_none (may_guess facts k r) _ e
 guess_right facts k j _ e = tt
 
 pub is_right : (job : Job) (k j : ℕ) (x : Stmt) → first (widths_of job).asked ≡ None → broken_of job ≡ None → slice_get (stmts_at job k) j ≡ Some x → StmtRight job k j x.kind

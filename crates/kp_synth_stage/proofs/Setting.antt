@@ -8,6 +8,8 @@ use Rattle.kp_ast.specs.declared.tree.{Expr.Expr, ResultDecl.ResultDecl, Job.Job
 use Rattle.kp_ast.specs.declared.tree.Named as tree
 use Rattle.kp_ast.specs.declared.tree.StmtKind.TheVariants as stmts
 use Rattle.kp_width.specs.{Names.Sense, Names.nothing, Names.find, Names.look_up, Names.used, Names.is_result, Expressions.value_of, Expressions.part_of}
+use Rattle.kp_width.specs.declared.fault.Position.{Position}
+use Rattle.kp_width.specs.declared.fault.Destination.TheVariants as to
 use Rattle.kp_width.specs.{Declarations.address_width, Statements.given, Statements.when_of, Widths.widths_of}
 use Rattle.kp_width.proofs.{Unbroken.Unbroken, Unbroken.bind_unbroken, Found.none_of_two, Parts.given_parts}
 use Rattle.kp_stage.specs.{Facts.facts_of, declared.rules.Rule.Rule, Rules.ask_expr, Rules.ask_option}
@@ -55,11 +57,11 @@ target_is job u k j n m e h =
 pub set_right : (job : Job) (u : Unbroken (widths_of job)) (k j : ℕ) (n : tree.Named) (e : Expr) (when : Option Expr) → StmtRight job k j (stmts.Set n e when) → SetRight job k j n e when
 set_right job u k j n e when is =
     let s = scope_at job k j in
-    let all = bind_unbroken (given job.decls s is_result n e) (λ y. when_of job.decls s when >>= (λ z. ok s)) is.right in
-    let x = bind_unbroken (used s is_result n.name n.at) (λ m. value_of (part_of job.decls (length job.decls) s e) m.width) all.0 in
+    let all = bind_unbroken (given job.decls s Position.Result n e) (λ y. when_of job.decls s when >>= (λ z. ok s)) is.right in
+    let x = bind_unbroken (used s Position.Result n.name n.at) (λ m. value_of (part_of job.decls (length job.decls) s e) m.width (to.Named m.kind m.from)) all.0 in
     let w = (bind_unbroken (when_of job.decls s when) (λ z. ok s) all.1).0 in
-    let f = found_sense is_result n.at (find s n.name) x.0 in
-    let g = given_parts job.decls (length job.decls) s e (used s is_result n.name n.at).value.width x.1 in
+    let f = found_sense s.here _ Position.Result n.at (find s n.name) x.0 in
+    let g = given_parts job.decls (length job.decls) s e (used s Position.Result n.name n.at).value.width _ x.1 in
     let r : (r : ResultDecl) × (result_named job.decls n.name ≡ Some r) × ((a : ℕ) × IsSlot (targets_of job.decls) r.target.name f.0.width a) = found_where s n.name f.0 f.1
     (λ l. local_no is_result refl refl f.0.kind (scope_locals job k j n.name f.0 l) f.2)
     (λ none z. target_is job u k j n.name f.0 z f.2) in

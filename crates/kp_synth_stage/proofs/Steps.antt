@@ -2,13 +2,17 @@
 use Rattle.std.proofs.Common.{◌≡◌, ◌∙◌, ℕ, suc, ◌<◌, List, [], ◌∷◌, ◌++◌, length, get_or, set, Option, Some, None, Bool, true, false, cond, not, refl, ap, sym, subst, arith, get_or-set_same, get_or-set_other}
 use Rattle.std.proofs.lemmas.{List.append-nil, List.length-set, Bool.eqb-true, Bool.eqb-false, Bool.eq-eqb}
 use Rattle.std.specs.{Prelude.is_some, Prelude.◌==◌, Vec.with_item}
-use Rattle.kp_base.specs.{Check.ok, Check.◌>>=◌, Refusal.e_rule}
+use Rattle.kp_base.specs.{Check.ok, Check.◌>>=◌}
 use Rattle.kp_bits.specs.Word.{Word}
 use Rattle.kp_ast.specs.declared.{tree.Expr.Expr, tree.StmtKind.StmtKind, tree.Job.Job, widths.NameKind.NameKind}
 use Rattle.kp_ast.specs.declared.tree.Named as tree
 use Rattle.kp_ast.specs.declared.tree.StmtKind.TheVariants as stmts
 use Rattle.kp_ast.specs.declared.widths.NameKind.TheVariants as kinds
+use Rattle.kp_ast.specs.declared.widths.Scope.{Scope as Opened}
 use Rattle.kp_width.specs.Names.{Sense, sense, Names, find, look_up, used, is_pipe, is_hint, declared_local}
+use Rattle.kp_width.specs.declared.fault.Position.{Position}
+use Rattle.kp_width.specs.declared.fault.Destination.TheVariants as to
+use Rattle.kp_width.specs.Names as names
 use Rattle.kp_width.specs.{Expressions.width_of, Expressions.value_of, Expressions.part_of, Statements.given, Widths.widths_of}
 use Rattle.kp_width.proofs.{Parts.given_parts, Unbroken.Unbroken, Unbroken.bind_unbroken, Unbroken.answer_unbroken}
 use Rattle.kp_machine.specs.Slots.{Slot, pipes_of, hints_of, number_of}
@@ -36,7 +40,7 @@ pub let_right : (job : Job) (k j : ℕ) (n : tree.Named) (e : Expr) → StmtRigh
     → (find (scope_at job k j) n.name ≡ None) × statements.IsRight job k j e
 let_right job k j n e h =
     let s = scope_at job k j in
-    let a = answer_unbroken (not (is_some (find s n.name))) (e_rule 5 n.at) (width_of job.decls (length job.decls) s e >>= (λ w. ok (declared_local s n.name (sense kinds.Let w 0)))).asked h.right in
+    let a = answer_unbroken (not (is_some (find s n.name))) _ (width_of job.decls (length job.decls) s e >>= (λ w. ok (declared_local s n.name (sense kinds.Let w 0)))).asked h.right in
     (fresh_none (find s n.name) a.0, (bind_unbroken (width_of job.decls (length job.decls) s e) (λ w. ok (declared_local s n.name (sense kinds.Let w 0))) a.1).0)
 
 module _ (job : Job) (k j : ℕ) (p q : Held) (m : ℕ) (g : Kept p q m) (w : Work) (old : WorkOk job k j p w) where
@@ -113,26 +117,27 @@ module _ (job : Job) (unbroken : Unbroken (widths_of job)) (k j : ℕ) where
   pub text_sense : (q : List ℕ) (m : Sense) → look_up (scope_at job k j).text q ≡ Some m → Placed job.decls q m
   text_sense q m e = placed_in job unbroken q m (ap (λ (names : Names). look_up names q) (sym (scope_text job k j)) ∙ e)
 
-  given_right : (takes : NameKind → Bool) (slots : List Slot) → takes kinds.Read ≡ false → takes kinds.Let ≡ false
+  given_right : (position : Position) (takes : NameKind → Bool) (slots : List Slot) → ((here : Opened) → names.takes position here ≡ takes) → takes kinds.Read ≡ false → takes kinds.Let ≡ false
       → ((q : List ℕ) (m : Sense) → Placed job.decls q m → takes m.kind ≡ true → IsSlot slots q m.width 0)
-      → (n : tree.Named) (e : Expr) → Unbroken (given job.decls (scope_at job k j) takes n e) → Given job k j slots n.name e
-  given_right takes slots no_read no_let placed n e u =
+      → (n : tree.Named) (e : Expr) → Unbroken (given job.decls (scope_at job k j) position n e) → Given job k j slots n.name e
+  given_right position takes slots same no_read no_let placed n e u =
       let s = scope_at job k j in
-      let x = bind_unbroken (used s takes n.name n.at) (λ m. value_of (part_of job.decls (length job.decls) s e) m.width) u in
-      let f = found_sense takes n.at (find s n.name) x.0 in
-      let g = given_parts job.decls (length job.decls) s e (used s takes n.name n.at).value.width x.1 in
+      let x = bind_unbroken (used s position n.name n.at) (λ m. value_of (part_of job.decls (length job.decls) s e) m.width (to.Named m.kind m.from)) u in
+      let f = found_sense s.here _ position n.at (find s n.name) x.0 in
+      let right : takes f.0.kind ≡ true = ap (λ g. g f.0.kind) (sym (same s.here)) ∙ f.2 in
+      let g = given_parts job.decls (length job.decls) s e (used s position n.name n.at).value.width _ x.1 in
       let slot : IsSlot slots n.name f.0.width 0 = found_where s n.name f.0 f.1
-      (λ l. local_no takes no_read no_let f.0.kind (scope_locals job k j n.name f.0 l) f.2)
-      (λ none z. placed n.name f.0 (text_sense n.name f.0 z) f.2) in
+      (λ l. local_no takes no_read no_let f.0.kind (scope_locals job k j n.name f.0 l) right)
+      (λ none z. placed n.name f.0 (text_sense n.name f.0 z) right) in
       record { inside = slot.inside; right = g.0; width = g.1 ∙ sym (ap (λ (m : Sense). m.width) f.3) ∙ sym slot.width ∙ sym (width_there n.name slots slot.inside) }
 
   pub put_right : (n : tree.Named) (e : Expr) → StmtRight job k j (stmts.Put n e) → Given job k j (pipes_of job.decls) n.name e
-  put_right n e h = given_right is_pipe (pipes_of job.decls) refl refl (λ q m p. p.pipe) n e
-      (bind_unbroken (given job.decls (scope_at job k j) is_pipe n e) (λ y. ok (scope_at job k j)) h.right).0
+  put_right n e h = given_right Position.Pipe is_pipe (pipes_of job.decls) (λ here. refl) refl refl (λ q m p. p.pipe) n e
+      (bind_unbroken (given job.decls (scope_at job k j) Position.Pipe n e) (λ y. ok (scope_at job k j)) h.right).0
 
   pub aim_right : (n : tree.Named) (e : Expr) → StmtRight job k j (stmts.Aim n e) → Given job k j (hints_of job.decls) n.name e
-  aim_right n e h = given_right is_hint (hints_of job.decls) refl refl (λ q m p. p.hinted) n e
-      (bind_unbroken (given job.decls (scope_at job k j) is_hint n e) (λ y. ok (scope_at job k j)) h.right).0
+  aim_right n e h = given_right Position.Hint is_hint (hints_of job.decls) (λ here. refl) refl refl (λ q m p. p.hinted) n e
+      (bind_unbroken (given job.decls (scope_at job k j) Position.Hint n e) (λ y. ok (scope_at job k j)) h.right).0
 
 module _ (job : Job) (k j : ℕ) (p q : Held) (m : ℕ) (g : Kept p q m) (w : Work) (old : WorkOk job k j p w) (unbroken : Unbroken (widths_of job)) (right : AllRight p.nodes) (n : tree.Named) (e : Expr) (node : NodeId) (wire : Wire q node (width_in job k j e).value) (gives : Gives p w.env e q node) where
   module _ (is : StmtRight job k j (stmts.Put n e)) (x : ℕ) (x_is : x ≡ number_of (pipes_of job.decls) n.name) where

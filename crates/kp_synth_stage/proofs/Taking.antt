@@ -1,7 +1,7 @@
 -- A read: which rules it keeps, and what its nodes mean.
 use Rattle.std.proofs.Common.{◌≡◌, ◌∙◌, ℕ, suc, ◌+◌, ◌<◌, ◌^◌, List, [], ◌++◌, length, Option, Some, None, Bool, true, cond, not, ◌||◌, ◌&&◌, refl, ap, sym, subst, arith}
 use Rattle.std.{proofs.lemmas.Bool.eqb-true, specs.Prelude.slice_get, specs.Prelude.is_some, specs.Prelude.◌==◌}
-use Rattle.kp_base.specs.{Check.ok, Check.◌>>=◌, Check.wants, Refusal.e_rule}
+use Rattle.kp_base.specs.{Check.ok, Check.◌>>=◌, Check.wants}
 use Rattle.kp_bits.specs.Word.{Word}
 use Rattle.kp_ast.specs.declared.{tree.Expr.Expr, tree.ReadStmt.ReadStmt, tree.Job.Job, tree.Decl.Decl, widths.NameKind.NameKind}
 use Rattle.kp_ast.specs.declared.tree.StmtKind.TheVariants as stmts
@@ -9,8 +9,11 @@ use Rattle.kp_ast.specs.declared.widths.NameKind.TheVariants as kinds
 use Rattle.kp_width.specs.Names.{Sense, sense, Scoped, find, is_register, is_file, passed, declared_local}
 use Rattle.kp_width.specs.Expressions.{width_of, value_of, part_of}
 use Rattle.kp_width.specs.Declarations.{kept, storage_of, address_width}
+use Rattle.kp_width.specs.{Faults.found_at, declared.fault.Position.Position, declared.fault.Destination.Destination}
+use Rattle.kp_width.specs.declared.fault.WidthFault.TheVariants as faults
+use Rattle.kp_width.specs.declared.fault.Destination.TheVariants as to
 use Rattle.kp_width.specs.{Statements.when_of, Statements.address_of, Statements.read_of, Widths.widths_of}
-use Rattle.kp_width.proofs.{Unbroken.Unbroken, Unbroken.bind_unbroken, Unbroken.answer_unbroken, Found.none_of_two, Parts.given_parts}
+use Rattle.kp_width.proofs.{Unbroken.Unbroken, Unbroken.bind_unbroken, Unbroken.answer_unbroken, Found.none_of_two, Found.storage_takes, Parts.given_parts}
 use Rattle.kp_stage.specs.{Facts.facts_of, declared.rules.Rule.Rule, Rules.ask_option}
 use Rattle.kp_machine.specs.{Slots.targets_of, Trees.Progress}
 use Rattle.kp_machine.proofs.{Scopes.IsSlot, Scopes.fresh_none, Scopes.found_sense, Scopes.storage_kind, Text.local_no, Text.found_where}
@@ -62,8 +65,8 @@ pub when_right : (job : Job) (k j : ℕ) (o : Option Expr) → Unbroken (when_of
 when_right job k j None u = (tt, tt)
 when_right job k j (Some e) u =
     let s = scope_at job k j in
-    let x = bind_unbroken (width_of job.decls (length job.decls) s e) (λ x. wants (x == 1) (e_rule 11 (part_of job.decls (length job.decls) s e).at) passed) u in
-    let y = (answer_unbroken ((width_in job k j e).value == 1) (e_rule 11 (part_of job.decls (length job.decls) s e).at) [] x.1).0 in
+    let x = bind_unbroken (width_of job.decls (length job.decls) s e) (λ x. wants (x == 1) (found_at (part_of job.decls (length job.decls) s e).at (faults.Condition x)) passed) u in
+    let y = (answer_unbroken ((width_in job k j e).value == 1) _ [] x.1).0 in
     (x.0, eqb-true _ _ y)
 
 plain_guess : (g a : Option Expr) (b : Bool) → (not (is_some g) || (not (is_some a) && b)) ≡ true → (e : Expr) → g ≡ Some e → a ≡ None
@@ -75,39 +78,40 @@ module _ (job : Job) (unbroken : Unbroken (widths_of job)) (k j : ℕ) (r : Read
   abbrev s : Scoped
   s = scope_at job k j
 
-  asks_of : (o : Option Expr) (kind : NameKind) → cond (is_some o) is_file is_register kind ≡ true → Unbroken (kept o (λ e. address_of (part_of job.decls (length job.decls) s e) (address_width kind)))
+  asks_of : (o : Option Expr) (kind : NameKind) (file : ℕ) → cond (is_some o) is_file is_register kind ≡ true → Unbroken (kept o (λ e. address_of (part_of job.decls (length job.decls) s e) (address_width kind) file))
       → OptionRight job k j o × Asks job k j (address_width kind) o
-  asks_of None kind t u = (tt, no_address kind t)
-  asks_of (Some e) kind t u =
-      let x = bind_unbroken (width_of job.decls (length job.decls) s e) (λ x. wants (x == address_width kind) (e_rule 14 (part_of job.decls (length job.decls) s e).at) passed) u in
-      let y = (answer_unbroken ((width_in job k j e).value == address_width kind) (e_rule 14 (part_of job.decls (length job.decls) s e).at) [] x.1).0 in
+  asks_of None kind file t u = (tt, no_address kind t)
+  asks_of (Some e) kind file t u =
+      let x = bind_unbroken (width_of job.decls (length job.decls) s e) (λ x. wants (x == address_width kind) (found_at (part_of job.decls (length job.decls) s e).at (faults.Address x (address_width kind) file)) passed) u in
+      let y = (answer_unbroken ((width_in job k j e).value == address_width kind) _ [] x.1).0 in
       (x.0, eqb-true _ _ y)
 
-  fits_of : (o : Option Expr) (w : ℕ) → Unbroken (kept o (λ e. value_of (part_of job.decls (length job.decls) s e) w)) → OptionRight job k j o × HasWidths job k j w o
-  fits_of None w u = (tt, tt)
-  fits_of (Some e) w u = given_parts job.decls (length job.decls) s e w u
+  fits_of : (o : Option Expr) (w : ℕ) (goes : Destination) → Unbroken (kept o (λ e. value_of (part_of job.decls (length job.decls) s e) w goes)) → OptionRight job k j o × HasWidths job k j w o
+  fits_of None w goes u = (tt, tt)
+  fits_of (Some e) w goes u = given_parts job.decls (length job.decls) s e w goes u
 
   pub read_right : ReadRight job k j r
   read_right =
-      let a = answer_unbroken (not (is_some (find s r.name.name))) (e_rule 5 r.name.at) (read_of job.decls s r >>= (λ w. ok (declared_local s r.name.name (sense kinds.Read w 0)))).asked is.right in
+      let a = answer_unbroken (not (is_some (find s r.name.name))) _ (read_of job.decls s r >>= (λ w. ok (declared_local s r.name.name (sense kinds.Read w 0)))).asked is.right in
       let x = (bind_unbroken (read_of job.decls s r) (λ w. ok (declared_local s r.name.name (sense kinds.Read w 0))) a.1).0 in
       let st = storage_of s r.target (is_some r.address) in
-      let y = bind_unbroken st (λ z. kept r.address (λ e. address_of (part_of job.decls (length job.decls) s e) (address_width z.kind)) >>= (λ v. when_of job.decls s r.when >>= (λ p. kept r.guess (λ e. value_of (part_of job.decls (length job.decls) s e) z.width) >>= (λ q. ok z.width)))) x in
-      let z = bind_unbroken (kept r.address (λ e. address_of (part_of job.decls (length job.decls) s e) (address_width st.value.kind))) (λ v. when_of job.decls s r.when >>= (λ p. kept r.guess (λ e. value_of (part_of job.decls (length job.decls) s e) st.value.width) >>= (λ q. ok st.value.width))) y.1 in
-      let w = bind_unbroken (when_of job.decls s r.when) (λ p. kept r.guess (λ e. value_of (part_of job.decls (length job.decls) s e) st.value.width) >>= (λ q. ok st.value.width)) z.1 in
-      let g = (bind_unbroken (kept r.guess (λ e. value_of (part_of job.decls (length job.decls) s e) st.value.width)) (λ q. ok st.value.width) w.1).0 in
-      let f = found_sense (cond (is_some r.address) is_file is_register) r.target.at (find s r.target.name) y.0 in
+      let y = bind_unbroken st (λ z. kept r.address (λ e. address_of (part_of job.decls (length job.decls) s e) (address_width z.kind) z.from) >>= (λ v. when_of job.decls s r.when >>= (λ p. kept r.guess (λ e. value_of (part_of job.decls (length job.decls) s e) z.width (to.Named z.kind z.from)) >>= (λ q. ok z.width)))) x in
+      let z = bind_unbroken (kept r.address (λ e. address_of (part_of job.decls (length job.decls) s e) (address_width st.value.kind) st.value.from)) (λ v. when_of job.decls s r.when >>= (λ p. kept r.guess (λ e. value_of (part_of job.decls (length job.decls) s e) st.value.width (to.Named st.value.kind st.value.from)) >>= (λ q. ok st.value.width))) y.1 in
+      let w = bind_unbroken (when_of job.decls s r.when) (λ p. kept r.guess (λ e. value_of (part_of job.decls (length job.decls) s e) st.value.width (to.Named st.value.kind st.value.from)) >>= (λ q. ok st.value.width)) z.1 in
+      let g = (bind_unbroken (kept r.guess (λ e. value_of (part_of job.decls (length job.decls) s e) st.value.width (to.Named st.value.kind st.value.from))) (λ q. ok st.value.width) w.1).0 in
+      let f = found_sense s.here _ (cond (is_some r.address) Position.File Position.Register) r.target.at (find s r.target.name) y.0 in
       let m : Sense = f.0 in
+      let stored = storage_takes (is_some r.address) s.here m.kind f.2 in
       let e : m ≡ st.value = f.3 in
-      let kind = storage_kind (is_some r.address) m.kind f.2 in
+      let kind = storage_kind (is_some r.address) m.kind stored in
       let slot : IsSlot (targets_of job.decls) r.target.name m.width (address_width m.kind) = found_where s r.target.name m f.1
       (λ l. local_no (λ y. is_register y || is_file y) refl refl m.kind (scope_locals job k j r.target.name m l) kind)
       (λ none v. (text_sense job unbroken k j r.target.name m v).target kind) in
       let wide : (target_at job (target_of job.decls r)).width ≡ st.value.width = width_there r.target.name (targets_of job.decls) slot.inside ∙ slot.width ∙ ap (λ (v : Sense). v.width) e in
       let far : (target_at job (target_of job.decls r)).address ≡ address_width st.value.kind = address_there r.target.name (targets_of job.decls) slot.inside ∙ slot.address ∙ ap (λ (v : Sense). address_width v.kind) e in
-      let asks1 = asks_of r.address st.value.kind (subst (λ (v : Sense). cond (is_some r.address) is_file is_register v.kind ≡ true) e f.2) z.0 in
+      let asks1 = asks_of r.address st.value.kind st.value.from (subst (λ (v : Sense). cond (is_some r.address) is_file is_register v.kind ≡ true) e stored) z.0 in
       let on_ = when_right job k j r.when w.0 in
-      let fs = fits_of r.guess st.value.width g in
+      let fs = fits_of r.guess st.value.width _ g in
       record {
         new = fresh_none (find s r.name.name) a.0;
         inside = slot.inside;

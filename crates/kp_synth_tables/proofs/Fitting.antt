@@ -14,13 +14,13 @@ use Rattle.kp_width.specs.Expressions.{is_width}
 use Rattle.kp_width.specs.Declarations.{declared, start_of, started_of, addresses_of, address_width, name_of, after_name, declaration_of, declarations_of, functions_in}
 use Rattle.kp_width.{specs.Widths.widths_of, proofs.Unbroken.Unbroken, proofs.Unbroken.bind_unbroken, proofs.Unbroken.answer_unbroken}
 use Rattle.kp_width.specs.Names as names
-use Rattle.kp_stage.specs.{Facts.Facts, Facts.facts_of, Facts.stmts_in, Rules.holds_of, Rules.may_guess, Rules.ask_stmt, Rules.ask_stmts, Rules.all_rules}
-use Rattle.kp_stage.{specs.Stages.broken_of, proofs.Unbroken.first_none, proofs.Unbroken.answer_none}
+use Rattle.kp_stage.specs.{Facts.Facts, Facts.facts_of, Facts.stmts_in, Rules.holds_of, Rules.may_guess, Rules.ask_stmt, Rules.ask_stmts, declared.rules.Rule.Rule, Stages.broken_of}
+use Rattle.kp_stage.proofs.{Unbroken.first_none, Unbroken.answer_none, Unbroken.stages_kept, Kept.rules_kept, Kept.decl_kept, Kept.stmts_kept}
 use Rattle.kp_pipeline.proofs.Lists.{all-append}
 use Rattle.kp_machine.specs.Slots.{Slot, targets_of, pipes_of, hints_of, samples_of, number_of, width_of}
 use Rattle.kp_machine.{specs.Machine.result_for, specs.Machine.write_stage_of, proofs.Aims.aims_inside, proofs.Names.IsIn}
 use Rattle.kp_machine.proofs.{Apart.Apart, Apart.pipes_apart, Apart.samples_apart, Cases.by_test, Placing.result_placed, Placing.own, Placing.stands}
-use Rattle.kp_machine.proofs.{Results.written_by, Rules.rules_kept, Rules.head_kept, Rules.decl_kept, Rules.stmts_kept}
+use Rattle.kp_machine.proofs.Results.{written_by}
 use Rattle.kp_machine.proofs.{Scopes.addresses, Scopes.PipeFits, Scopes.results_fit, Scopes.storage_kind, Text.text, Text.declared_right, Text.placed}
 use Rattle.kp_synth_tables.specs.Keys.{no_slot, target_at, pipe_at, no_guess, guess_slot, with_read, with_guess, guesses_in, guesses_from, guesses_of, guess_at}
 use Rattle.kp_synth_tables.specs.declared.key.GuessSlot.{GuessSlot}
@@ -40,20 +40,20 @@ record IsSized (s : Slot) : Type 0 where
 
 width_right : (n : Num) → Unbroken (declared n) → IsWidth n.value
 width_right n u =
-    let both = and_parts (nat_le 1 n.value) (nat_le n.value 64) (answer_unbroken (is_width n.value) (e_rule 8 n.at) [] u).0 in
+    let both = and_parts (nat_le 1 n.value) (nat_le n.value 64) (answer_unbroken (is_width n.value) _ [] u).0 in
     record { positive = leb-true 1 n.value both.0; at_most = leb-true n.value 64 both.1 }
 
 started_right : (n : Num) (l : Lit) → Unbroken (started_of n l) → IsWidth n.value
 started_right n l u = width_right n (bind_unbroken (declared n) (λ w. start_of l w >>= (λ x. ok w)) u).0
 
 addresses_right : (n : Num) → Unbroken (addresses_of n) → n.value ≤ 16
-addresses_right n u = leb-true n.value 16 (and_parts (nat_le 1 n.value) (nat_le n.value 16) (answer_unbroken (nat_le 1 n.value && nat_le n.value 16) (e_rule 14 n.at) [] u).0).1
+addresses_right n u = leb-true n.value 16 (and_parts (nat_le 1 n.value) (nat_le n.value 16) (answer_unbroken (nat_le 1 n.value && nat_le n.value 16) _ [] u).0).1
 
 module _ (ds : List Decl) where
   -- a declaration that violates no rule, and those after it
   here_right : (i k : ℕ) (s : Scoped) (d : Decl) (rest : List Decl) → Unbroken (declarations_of ds i k s (d ∷ rest)) → Unbroken (after_name ds i k s d)
   here_right i k s d rest u =
-      (answer_unbroken (not (is_some (find s (name_of d).name))) (e_rule 5 (name_of d).at) (after_name ds i k s d).asked
+      (answer_unbroken (not (is_some (find s (name_of d).name))) _ (after_name ds i k s d).asked
       (bind_unbroken (declaration_of ds i k s d) (λ x. declarations_of ds (i + 1) (k + functions_in d) x rest) u).0).1
 
   targets_right : (i k : ℕ) (s : Scoped) (rest : List Decl) → Unbroken (declarations_of ds i k s rest) → AllByRecursion IsSized (targets_of rest)
@@ -158,7 +158,7 @@ module _ (job : Job) (right : Unbroken (widths_of job)) (kept : broken_of job �
   result_fits t (Some r) e =
       let s = stands job right t r e in
       let f = results_fit job.decls 0 0 nothing job.decls refl declarations s.0.index r s.0.there in
-      let w : nat_lt r.stage.value facts.stages ≡ true = answer_none _ (e_rule 15 r.stage.at) (decl_kept facts job (rules_kept job kept) 0 _ refl s.0.index (decls.Target r) s.0.there) in (
+      let w : nat_lt r.stage.value facts.stages ≡ true = answer_none _ _ (decl_kept facts job (rules_kept job kept) Rule.E15 s.0.index (decls.Target r) s.0.there) in (
         ltb-true r.stage.value job.stages.value w,
         enable_fits r.enable f.enable,
         subst (λ n. AddressFits job n (pipe_number job r.address)) s.1 (address_fits r.target.name f.sense r.address f.found f.stored f.address),
@@ -177,7 +177,7 @@ module _ (job : Job) (right : Unbroken (widths_of job)) (kept : broken_of job �
       let stage : write_stage_of (result_for job (number_of targets r.target.name)) ≡ w.0 =
       ap (λ n. write_stage_of (result_for job (number_of targets n))) (sym q.1.1.0) ∙ ap write_stage_of (own job right kept q.0 q.1.0) ∙ q.1.1.1 in
       let after : k + 2 ≤ w.0 = w.1.1 in
-      let e : nat_lt q.0.stage.value facts.stages ≡ true = answer_none _ (e_rule 15 q.0.stage.at) (decl_kept facts job (rules_kept job kept) 0 _ refl q.1.0.index (decls.Target q.0) q.1.0.there) in
+      let e : nat_lt q.0.stage.value facts.stages ≡ true = answer_none _ _ (decl_kept facts job (rules_kept job kept) Rule.E15 q.1.0.index (decls.Target q.0) q.1.0.there) in
       let last : q.0.stage.value < job.stages.value = ltb-true q.0.stage.value job.stages.value e in
       record {
         width = subst (λ n. IsWidth n) (width_there r.target.name targets inside) (target_sized (number_of targets r.target.name) inside).width;
@@ -188,7 +188,7 @@ module _ (job : Job) (right : Unbroken (widths_of job)) (kept : broken_of job �
       }
 
   abbrev Asked : ℕ → ℕ → StmtKind → Type 0
-  Asked k j s = (n : ℕ) (rule : _) → slice_get all_rules n ≡ Some rule → ask_stmt facts rule k j s ≡ None
+  Asked k j s = (rule : Rule) → ask_stmt facts rule k j s ≡ None
 
   -- n guessed reads precede these, and there are no more than those of the job
   abbrev Fit : ℕ → List GuessSlot → Type 0
@@ -197,35 +197,35 @@ module _ (job : Job) (right : Unbroken (widths_of job)) (kept : broken_of job �
   guess_in : (k j i : ℕ) (r : ReadStmt) (o : Option Expr) (rest : ℕ → List GuessSlot) → r.guess ≡ o → Asked k j (stmts.Read r) → ((m : ℕ) → Fit m (rest m)) → Fit i (with_read job k i r o rest)
   guess_in k j i r None rest is asked more l = more i l
   guess_in k j i r (Some e) rest is asked more l =
-      (guess_right k i r e is (answer_none (may_guess facts k r) (e_rule 23 r.target.at) (asked 8 _ refl)) (omega (arith, l)), more (suc i) (omega (arith, l)))
+      (guess_right k i r e is (answer_none (may_guess facts k r) _ (asked Rule.E23)) (omega (arith, l)), more (suc i) (omega (arith, l)))
 
   guess_of : (k j i : ℕ) (s : StmtKind) (rest : ℕ → List GuessSlot) → Asked k j s → ((m : ℕ) → Fit m (rest m)) → Fit i (with_guess job k i s rest)
   guess_of k j i (stmts.Read r) rest asked more = guess_in k j i r r.guess rest refl asked more
   guess_of k j i s rest asked more = more i
 
-  guesses_right : (k j i : ℕ) (ss : List Stmt) → ((n : ℕ) (rule : _) → slice_get all_rules n ≡ Some rule → first (ask_stmts facts rule k j ss) ≡ None) → Fit i (guesses_in job k i ss)
+  guesses_right : (k j i : ℕ) (ss : List Stmt) → ((rule : Rule) → first (ask_stmts facts rule k j ss) ≡ None) → Fit i (guesses_in job k i ss)
   guesses_right k j i [] asked l = tt
   guesses_right k j i (s ∷ ss) asked l =
-      guess_of k j i s.kind (λ m. guesses_in job k m ss) (λ n rule at. (first_none (ask_stmt facts rule k j s.kind) (ask_stmts facts rule k (j + 1) ss) (asked n rule at)).0)
-      (λ m. guesses_right k (j + 1) m ss (λ n rule at. (first_none (ask_stmt facts rule k j s.kind) (ask_stmts facts rule k (j + 1) ss) (asked n rule at)).1)) l
+      guess_of k j i s.kind (λ m. guesses_in job k m ss) (λ rule. (first_none (ask_stmt facts rule k j s.kind) (ask_stmts facts rule k (j + 1) ss) (asked rule)).0)
+      (λ m. guesses_right k (j + 1) m ss (λ rule. (first_none (ask_stmt facts rule k j s.kind) (ask_stmts facts rule k (j + 1) ss) (asked rule)).1)) l
 
-  all_guesses_right : (k : ℕ) (bs : List Block) → ((i n : ℕ) (rule : _) → slice_get all_rules n ≡ Some rule → first (ask_stmts facts rule (k + i) 0 (stmts_in (slice_get bs i))) ≡ None)
+  all_guesses_right : (k : ℕ) (bs : List Block) → ((i : ℕ) (rule : Rule) → first (ask_stmts facts rule (k + i) 0 (stmts_in (slice_get bs i))) ≡ None)
       → Fit 0 (guesses_from job k bs)
   all_guesses_right k [] asked l = tt
   all_guesses_right k (b ∷ bs) asked l =
       let here : k + 0 ≡ k = omega arith in
       let total = length-append (guesses_in job k 0 b.stmts) (guesses_from job (suc k) bs) in
       all-append (IsGuess job) (guesses_in job k 0 b.stmts) (guesses_from job (suc k) bs)
-      (guesses_right k 0 0 b.stmts (λ n rule at. subst (λ m. first (ask_stmts facts rule m 0 b.stmts) ≡ None) here (asked 0 n rule at)) (omega (arith, l, total)))
-      (all_guesses_right (suc k) bs (λ i n rule at.
+      (guesses_right k 0 0 b.stmts (λ rule. subst (λ m. first (ask_stmts facts rule m 0 b.stmts) ≡ None) here (asked 0 rule)) (omega (arith, l, total)))
+      (all_guesses_right (suc k) bs (λ i rule.
       let next : k + suc i ≡ suc k + i = omega arith in
-      subst (λ m. first (ask_stmts facts rule m 0 (stmts_in (slice_get bs i))) ≡ None) next (asked (suc i) n rule at)) (omega (arith, l, total)))
+      subst (λ m. first (ask_stmts facts rule m 0 (stmts_in (slice_get bs i))) ≡ None) next (asked (suc i) rule)) (omega (arith, l, total)))
 
   every_guess : AllByRecursion (IsGuess job) (guesses_of job)
   unfolding guesses_of
-  every_guess = all_guesses_right 0 job.blocks (λ i n rule at.
+  every_guess = all_guesses_right 0 job.blocks (λ i rule.
       let here : i ≡ 0 + i = omega arith in
-      subst (λ m. first (ask_stmts facts rule m 0 (stmts_in (slice_get job.blocks i))) ≡ None) here (stmts_kept facts job (rules_kept job kept) n rule at i)) (omega arith)
+      subst (λ m. first (ask_stmts facts rule m 0 (stmts_in (slice_get job.blocks i))) ≡ None) here (stmts_kept facts job (rules_kept job kept) rule i)) (omega arith)
 
   pub guess_there : (g : ℕ) → g < length (guesses_of job) → IsGuess job (guess_at job g)
   guess_there g l = all_at (IsGuess job) (guesses_of job) no_guess every_guess g l
@@ -233,10 +233,8 @@ module _ (job : Job) (right : Unbroken (widths_of job)) (kept : broken_of job �
   -- STAGES
   stages_right : (2 ≤ job.stages.value) × (job.stages.value ≤ 12)
   stages_right =
-      let n = job.stages.value in
-      let both = and_parts (nat_le 2 n && nat_le n 12) (nat_le n (length job.blocks)) (answer_none _ (e_rule 15 job.stages.at) (head_kept facts job (rules_kept job kept) 0 _ refl)) in
-      let limits = and_parts (nat_le 2 n) (nat_le n 12) both.0 in
-      (leb-true 2 n limits.0, leb-true n 12 limits.1)
+      let all = stages_kept facts job (rules_kept job kept) in
+      (all.0, all.1)
 
   -- A job that violates no rule of names, widths and stages fits.
   pub fits : Fits job

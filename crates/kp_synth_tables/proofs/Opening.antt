@@ -2,11 +2,11 @@
 use Rattle.std.proofs.Common.{◌≡◌, ◌∙◌, ℕ, zero, suc, ◌+◌, ◌-◌, ◌<◌, ◌≤◌, max, List, [], ◌∷◌, ◌++◌, map, Option, Some, None, Bool, true, false, cond, ◌&&◌, ◌||◌, length, get_or, refl, ap, sym, subst, ◌==◌, arith}
 use Rattle.std.proofs.lemmas.{List.get_or-map, List.length-map, List.map-id, Option.slice_get-get_or, Bool.ltb-true}
 use Rattle.std.specs.{Prelude.is_some, Prelude.nat_lt, Prelude.nat_le, Prelude.slice_get, List.list_any}
-use Rattle.kp_base.specs.{First.first, Refusal.e_rule}
-use Rattle.kp_stage.proofs.Unbroken.{answer_none}
+use Rattle.kp_base.specs.First.{first}
+use Rattle.kp_stage.proofs.{Unbroken.answer_none, Kept.rules_kept, Kept.decl_kept}
 use Rattle.kp_stage.specs.Facts.{At, Facts, facts_of, put_at, puts_in, puts_of, aim_at, aims_in, aims_of}
-use Rattle.kp_stage.specs.{Stages.broken_of, Design.Plan, Design.IsSound, Uses.puts, Uses.aims}
-use Rattle.kp_machine.proofs.{Rules.rules_kept, Rules.decl_kept, Cases.by_test, Stages.stages_inside}
+use Rattle.kp_stage.specs.{declared.rules.Rule.Rule, Stages.broken_of, Design.Plan, Design.IsSound, Uses.puts, Uses.aims}
+use Rattle.kp_machine.proofs.{Cases.by_test, Stages.stages_inside}
 use Rattle.kp_machine.specs.Slots.{Slot, targets_of, pipes_of, hints_of, samples_of}
 use Rattle.kp_machine.specs.Machine.{machine_of, result_for, write_stage_of, after_put, stage_or_zero, known_after, known_from_of, aim_stage}
 use Rattle.kp_ast.specs.declared.tree.{Named.Named, ResultDecl.ResultDecl, Decl.Decl, Stmt.Stmt, StmtKind.StmtKind, Block.Block, Job.Job}
@@ -237,7 +237,7 @@ module _ (job : Job) (right : Unbroken (widths_of job)) (kept : broken_of job �
 
   results_early : (i : ℕ) (r : ResultDecl) → slice_get job.decls i ≡ Some (decls.Target r) → r.stage.value ≤ 12
   results_early i r e =
-      let w : nat_lt r.stage.value facts.stages ≡ true = answer_none _ (e_rule 15 r.stage.at) (decl_kept facts job (rules_kept job kept) 0 _ refl i (decls.Target r) e) in
+      let w : nat_lt r.stage.value facts.stages ≡ true = answer_none _ _ (decl_kept facts job (rules_kept job kept) Rule.E15 i (decls.Target r) e) in
       let l = ltb-true r.stage.value job.stages.value w in
       omega (arith, l, fit.at_most)
 

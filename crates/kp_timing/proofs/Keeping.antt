@@ -1,11 +1,10 @@
 -- The invariant of a timeline, cycle by cycle.
 use Rattle.std.proofs.Common.{◌≡◌, ◌∙◌, ℕ, zero, suc, ◌+◌, ◌-◌, ◌<◌, ◌≤◌, List, [], ◌∷◌, Option, Some, None, Bool, true, false, cond, not, ◌&&◌, length, get_or, set, replicate, ◌^◌, refl, ap, sym, subst, arith, inr}
-use Rattle.std.proofs.lemmas.{Bool.and_parts, Bool.and_right, Bool.leb-true, List.length-set, List.get_or-set_same, List.get_or-set_other}
-use Rattle.std.{proofs.lemmas.List.Sums.sum_by-cons, specs.Prelude.is_some, specs.Prelude.unwrap_or, specs.Prelude.sum_by, specs.Prelude.nat_le}
-use Rattle.kp_base.specs.Refusal.{e_rule}
+use Rattle.std.proofs.lemmas.{Bool.and_right, List.length-set, List.get_or-set_same, List.get_or-set_other}
+use Rattle.std.{proofs.lemmas.List.Sums.sum_by-cons, specs.Prelude.is_some, specs.Prelude.unwrap_or, specs.Prelude.sum_by}
 use Rattle.kp_stage.specs.{Facts.facts_of, Stages.broken_of, Counts.summary_of, Counts.samples_in, declared.start.Start.Start}
-use Rattle.kp_stage.proofs.Unbroken.{answer_none}
-use Rattle.kp_machine.{proofs.Rules.rules_kept, proofs.Rules.head_kept, proofs.Cases.by_test, proofs.Stages.stages_inside, specs.Slots.samples_of}
+use Rattle.kp_stage.proofs.{Unbroken.stages_kept, Kept.rules_kept}
+use Rattle.kp_machine.{proofs.Cases.by_test, proofs.Stages.stages_inside, specs.Slots.samples_of}
 use Rattle.kp_machine.specs.{Machine.machine_of, Machine.state_of, Machine.values_in, Words.after_one}
 use Rattle.kp_ast.specs.declared.tree.{Decl.Decl, Job.Job}
 use Rattle.kp_ast.specs.declared.tree.Decl.TheVariants as decls
@@ -240,10 +239,8 @@ row_shown n row f u hf hu hb =
 
 pub few_stages : (job : Job) → broken_of job ≡ None → (2 ≤ job.stages.value) × (job.stages.value ≤ 12)
 few_stages job kept =
-    let n = job.stages.value in
-    let holds = answer_none (nat_le 2 n && nat_le n 12 && nat_le n (length job.blocks)) (e_rule 15 job.stages.at) (head_kept (facts_of job) job (rules_kept job kept) 0 _ refl) in
-    let both = and_parts (nat_le 2 n) (nat_le n 12) (and_parts (nat_le 2 n && nat_le n 12) (nat_le n (length job.blocks)) holds).0 in
-    (leb-true 2 n both.0, leb-true n 12 both.1)
+    let all = stages_kept (facts_of job) job (rules_kept job kept) in
+    (all.0, all.1)
 
 -- after opening, stage 0 contains instruction 0, which the machine has executed
 abbrev pub first_hold : List (Option ℕ)

@@ -3,7 +3,8 @@ use Rattle.std.proofs.Common.{◌∙◌, ◌≡◌, ℕ, true, List, [], ◌∷�
 use Rattle.std.{proofs.Math.Path.fun_ext, proofs.lemmas.Bool.cond-true, specs.declared.option.Option.Option}
 use Rattle.kp_base.specs.{First.first, declared.refusal.Refusal.Refusal}
 use Rattle.kp_ast.specs.declared.tree.Job.{Job}
-use Rattle.kp_width.specs.Widths.{widths_of}
+use Rattle.kp_width.specs.Widths.{widths_of, width_broken}
+use Rattle.kp_width.proofs.Listed.{unbroken_widths as names_unbroken}
 use Rattle.kp_image.specs.Sections.{sections_of}
 use Rattle.kp_frontend.specs.Judging.{Judges, JudgesHead, broken_in}
 use Rattle.kp_frontend.proofs.Verdicts.{one_verdict}
@@ -124,12 +125,12 @@ check_is_right input text (Err refusal, judged, said) = absurd (omega (arith, sa
 -- the rules of widths and of sections, which are among those of a job
 unbroken_widths : (job : Job) → broken_in job ≡ None → first (widths_of job).asked ≡ None
 unfolding broken_in
-unbroken_widths job none = (first_none (first (widths_of job).asked) (broken_of job ∷ first (sections_of job).asked ∷ []) none).0
+unbroken_widths job none = names_unbroken job (first_none (width_broken job) (broken_of job ∷ first (sections_of job).asked ∷ []) none).0
 
 unbroken_sections : (job : Job) → broken_in job ≡ None → first (sections_of job).asked ≡ None
 unfolding broken_in
 unbroken_sections job none =
-    let names = first_none (first (widths_of job).asked) (broken_of job ∷ first (sections_of job).asked ∷ []) none in
+    let names = first_none (width_broken job) (broken_of job ∷ first (sections_of job).asked ∷ []) none in
     let stages = first_none (broken_of job) (first (sections_of job).asked ∷ []) names.1 in
     (first_none (first (sections_of job).asked) [] stages.1).0
 

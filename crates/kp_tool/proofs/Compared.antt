@@ -14,7 +14,7 @@ use Rattle.kp_run.{specs.Boards.due_behind, specs.Cycles.HasRows, specs.Cycles.o
 use Rattle.kp_run.specs.declared.difference.Difference.{Difference}
 use Rattle.kp_watch.specs.Watching.{own_due, Agrees, IsFirstDifference}
 use Rattle.kp_report.specs.{Runs.run_text, Runs.count_line, States.State, Texts.differs_line}
-use Rattle.kp_report.specs.inner.Differing as shown
+use Rattle.kp_report.specs.Differing as shown
 use Rattle.kp_tool.proofs.OwnText.{run_text_alike}
 use Rattle.kp_tool.specs.{Watched.own_text, Watched.differing_text, Watched.DueOfRun, Watched.agrees, Watched.differs, Watching.status_by, Watching.text_by}
 

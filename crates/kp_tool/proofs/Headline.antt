@@ -16,6 +16,7 @@ use Rattle.kp_sched.proofs.Runs.{alike_is_legal, alike_moves, alike_stays}
 use Rattle.kp_implements.specs.{Legal.IsLegalFrom, Anew.trace_from, Anew.left_by_reset, Anew.HasMemory, Anew.BeginsAnew}
 use Rattle.kp_implements.specs.{Naming.module_name, Naming.value_shown, Naming.value_of, Shows.Shows, Traces.inputs_seen, Traces.trace_of, Traces.no_state}
 use Rattle.kp_implements.proofs.Legal.{alike_is_legal_from}
+use Rattle.kp_width.proofs.Listed.{unbroken_widths}
 use Rattle.kp_frontend.specs.Judging.{Judges, broken_in, JudgesHead, Judges.within, JudgesText.accepted as no_rule_broken, JudgesHeadText.head_accepted}
 use Rattle.kp_frontend.specs.Judging.JudgesHead.{head_within}
 use Rattle.kp_words.specs.declared.commands.JobCommand.TheVariants.{Sim, Vcd, Timing, Pipe}
@@ -48,7 +49,7 @@ unfolding broken_in
 accepted_machine job none =
     let names = first_none _ _ none in
     let stages = first_none _ _ names.1 in
-    accepted job names.0 stages.0
+    accepted job (unbroken_widths job names.0) stages.0
 
 -- a fact about each accepted pipeline
 abbrev pub HoldsOfPipe : (Job → List Inputs → Trace → Type 0) → Type 0

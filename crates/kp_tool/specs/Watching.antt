@@ -2,7 +2,7 @@
 use Rattle.std.specs.Prelude.{ℕ, List, Option, Some, None}
 use Rattle.kp_sched.specs.Rows.{rows_seen}
 use Rattle.kp_run.specs.{Boards.due_behind, declared.board.Board.Board, declared.difference.Difference.Difference}
-use Rattle.kp_report.specs.{Runs.run_text, inner.Differing.differing_text}
+use Rattle.kp_report.specs.{Runs.run_text, Differing.differing_text}
 
 -- by the first difference from the sequential machine, if there is one
 abbrev pub status_by : Option Difference → ℕ

@@ -5,7 +5,7 @@ use Rattle.kp_base.specs.declared.place.Place.{Place}
 use Rattle.kp_vcd.specs.Reading.{Fault, Next, given, module_name, declaration, signal_kind, signal_width, signal_code, signal_name, first_time, change, begins, goes_on, State, Step, at, named, with_signal, these, end_word, foot_words, begin, verdict, walk, ends, step, says}
 use Rattle.kp_vcd.specs.{declared.dump.Change.Change, declared.dump.Moment.Moment, declared.dump.Dump.Dump, Words.Spot}
 use Rattle.kp_vcd.specs.Forms.{Form, same_bytes, name_of, more_of, kind_of, width_of, code_of, time_of, said_by}
-use Rattle.kp_vcd.specs.inner.{Left.Left, Left.left_at, Meeting.gives_from, Meeting.Fails, Meeting.Meets, Meeting.refusing, Meeting.Wants, Meeting.Takes}
+use Rattle.kp_vcd.specs.{Verdicts.Fails, Verdicts.Meets, inner.Left.Left, inner.Left.left_at, inner.Meeting.gives_from, inner.Meeting.refusing, inner.Meeting.Wants, inner.Meeting.Takes}
 use Rattle.kp_vcd.specs.declared.refused.DumpRefused.{DumpRefused}
 use Rattle.kp_vcd.specs.declared.refused.DumpRefused.TheVariants as refused
 

@@ -2,7 +2,8 @@
 use Rattle.std.proofs.Common.{◌≡◌, ◌∙◌, ℕ, ◌<◌, ◌^◌, List, [], ◌∷◌, None, Result, Ok, sym, map}
 use Rattle.kp_base.specs.First.{first}
 use Rattle.kp_ast.specs.declared.tree.Job.{Job}
-use Rattle.kp_width.specs.{TextOrder.declared_names, Widths.widths_of}
+use Rattle.kp_width.specs.{TextOrder.declared_names, Widths.widths_of, Widths.width_broken}
+use Rattle.kp_width.proofs.Listed.{unbroken_widths}
 use Rattle.kp_stage.{specs.Stages.broken_of, proofs.Unbroken.first_none}
 use Rattle.kp_image.specs.Sections.{sections_of}
 use Rattle.kp_frontend.specs.Judging.{Judges, JudgesHead, IsSentenceOf, broken_in, Judges.within, JudgesText.accepted, JudgesHead.head_within}
@@ -21,10 +22,10 @@ record Kept (job : Job) : Type 0 where
 kept : (text : List ℕ) (lexed : Lexed) (job : Job) → IsSentenceOf text lexed job → broken_in job ≡ None → Kept job
 unfolding broken_in
 kept text lexed job sentence e =
-    let a = first_none (first (widths_of job).asked) (broken_of job ∷ first (sections_of job).asked ∷ []) e in
+    let a = first_none (width_broken job) (broken_of job ∷ first (sections_of job).asked ∷ []) e in
     let b = first_none (broken_of job) (first (sections_of job).asked ∷ []) a.1 in
     let c = first_none (first (sections_of job).asked) [] b.1 in
-    record { named = job_named text lexed job sentence.tokens sentence.tree; widths = a.0; stages = b.0; sections = c.0 }
+    record { named = job_named text lexed job sentence.tokens sentence.tree; widths = unbroken_widths job a.0; stages = b.0; sections = c.0 }
 
 input_kept : (input : List ℕ) (job : Job) → Judges input (Ok job) → Kept job
 input_kept input job (within short (accepted describes e)) = kept input describes.lexed job describes.sentence e

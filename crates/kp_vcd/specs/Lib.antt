@@ -5,6 +5,7 @@ pub mod Recording
 pub mod Words
 pub mod Forms
 pub mod Reading
+pub mod Verdicts
 pub mod Fitting
 pub mod Dumps
 pub mod Accepted

@@ -1,4 +1,4 @@
--- For private contracts and proofs of this crate only: no public clause depends on it.
+-- For private contracts and proofs only: a reader need not trust it.
 pub mod Left
 pub mod Meeting
 pub mod Shown

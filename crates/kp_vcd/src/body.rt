@@ -1,6 +1,6 @@
 // The changes.
 ghost use Rattle.std.specs.Prelude.{◌≡◌, ◌+◌, ◌<◌, ◌≤◌, ◌^◌, ℕ, List, length, [], Ok, IfOk, is_some, if◌then◌else◌};
-ghost use Rattle.kp_vcd.specs.{declared.dump.Change.Change, Forms.said_by, inner.Meeting.gives_from, inner.Meeting.gives_behind, inner.Meeting.Meets};
+ghost use Rattle.kp_vcd.specs.{declared.dump.Change.Change, Forms.said_by, inner.Meeting.gives_from, inner.Meeting.gives_behind, Verdicts.Meets};
 ghost use Rattle.kp_vcd.specs.declared.dump.Dump.{Dump};
 ghost use Rattle.kp_vcd.specs.Reading.{first_time, change, change_code, at, with_moment, begins, changed, walk};
 

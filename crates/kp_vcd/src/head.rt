@@ -2,7 +2,7 @@
 ghost use Rattle.std.specs.Prelude.{◌≡◌, ◌+◌, ◌≤◌, ℕ, List, length, map, vec_len, [], ◌∷◌, ◌++◌, if◌then◌else◌, IfOk};
 ghost use Rattle.kp_vcd.specs.{declared.dump.Dump.Dump, Forms.name_of, Forms.more_of, Forms.kind_of, Forms.width_of, Forms.code_of};
 ghost use Rattle.kp_vcd.specs.Reading.{Next, declaration, signal_kind, first_time, at, named, these, begin};
-ghost use Rattle.kp_vcd.specs.inner.Meeting.{gives_from, Meets, Takes, refusing};
+ghost use Rattle.kp_vcd.specs.{Verdicts.Meets, inner.Meeting.gives_from, inner.Meeting.Takes, inner.Meeting.refusing};
 
 use crate::forms::{code_of, is_name, kind_of, more_of, width_of};
 use crate::refused::DumpRefused;

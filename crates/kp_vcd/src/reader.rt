@@ -1,6 +1,6 @@
 // The complete text.
 ghost use Rattle.std.specs.Prelude.{◌≡◌, ◌≤◌, ◌-◌, ◌^◌, length, Ok};
-ghost use Rattle.kp_vcd.specs.{Reading.verdict, inner.Meeting.Meets};
+ghost use Rattle.kp_vcd.specs.{Reading.verdict, Verdicts.Meets};
 
 use crate::Dump;
 use crate::body::read_moments;

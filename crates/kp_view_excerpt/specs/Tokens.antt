@@ -1,6 +1,7 @@
 -- The length of the token at the head of a text.
-use Rattle.std.specs.Prelude.{ℕ, ◌+◌, ◌==◌, ◌&&◌, ◌||◌, Bool, List, [], ◌∷◌, drop, if◌then◌else◌}
-use Rattle.kp_base.specs.Characters.{run_length, is_word}
+use Rattle.std.specs.Prelude.{ℕ, ◌+◌, ◌==◌, ◌&&◌, ◌||◌, Bool, List, [], ◌∷◌, drop, take, if◌then◌else◌}
+use Rattle.kp_base.specs.{Characters.run_length, Characters.is_word, declared.place.Place.Place}
+use Rattle.kp_view_excerpt.specs.Lines.{from_place}
 
 -- `->`, `==`, `<<` and `>>`
 abbrev pub is_pair : ℕ → ℕ → Bool
@@ -23,3 +24,7 @@ word_or_sign word text = if word == 0 then sign_length text else word + quoted_l
 
 abbrev pub token_length : List ℕ → ℕ
 token_length text = word_or_sign (run_length is_word text) text
+
+-- THE TOKEN at a place of a text
+abbrev pub token_at : List ℕ → Place → List ℕ
+token_at text place = take (token_length (from_place text place)) (from_place text place)

@@ -10,4 +10,4 @@ mod place;
 
 pub use excerpt::Excerpt;
 pub use note::{excerpt_at, write_fault};
-pub use place::{line_from, offset_of};
+pub use place::{line_from, offset_of, token_at};

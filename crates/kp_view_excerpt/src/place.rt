@@ -1,7 +1,7 @@
 // Offsets, lines and tokens of a text.
 ghost use Rattle.std.specs.Prelude.{◌≡◌, ◌-◌, ◌≤◌, length, drop};
 ghost use Rattle.kp_view_excerpt.specs.Lines.{after_lines, from_place, is_in_line, line_at, offset_at};
-ghost use Rattle.kp_view_excerpt.specs.Tokens.{sign_length, token_length};
+ghost use Rattle.kp_view_excerpt.specs.Tokens.{sign_length, token_at, token_length};
 
 use kp_base::{Place, run_length, word_length};
 
@@ -58,6 +58,14 @@ fn is_in_line(byte: u8) -> bool
     ensures { result ≡ is_in_line byte }
 {
     !matches!(byte, b'\n' | b'\r')
+}
+
+/// The token at a place: no bytes where the text has no such place.
+pub fn token_at(text: &[u8], place: Place) -> &[u8]
+    ensures { result.now ≡ token_at text.now place }
+{
+    let line = line_from(text, place);
+    &line[..token_length(line)]
 }
 
 // The length of the token at the head of the text.

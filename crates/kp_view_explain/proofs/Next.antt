@@ -18,7 +18,7 @@ use Rattle.kp_view_message.specs.declared.reading_fault.ReadingFault.TheVariants
 use Rattle.kp_view_findings.specs.Messages.{AppendsMessage}
 use Rattle.kp_view_texts.specs.Heads.{rule_head}
 use Rattle.kp_view_explain.specs.Listing.{IsNext, ListsNext, index_at, token_text, tokens_before}
-use Rattle.kp_view_explain.specs.inner.Naming.{ListsAt, NamesAt, NamesNext, NamesWrong}
+use Rattle.kp_view_explain.specs.inner.Naming.{ListsAfter, ListsAt, NamesAt, NamesNext, NamesWrong}
 
 -- where no item passes, the first that does is past all
 pub none_passes : {X : Type 0} (test : X → Bool) (xs : List X) → None ≡ position test xs → length xs ≡ position_or_len test xs
@@ -73,9 +73,9 @@ pub no_line : (text : List ℕ) (refusal : Refusal) (said : List ℕ) → NamesA
 no_line text refusal said names lexed four h broken = absurd (names four)
 
 -- the text of a job that violates a rule
-pub refused_next : (file text facts said : List ℕ) (refusal : Refusal) → length text ≤ most_bytes → JudgesText text (Err refusal) → ListsAt text refusal facts
-    → said ≡ rule_head file refusal ++ facts → ListsNext file text said
-refused_next file text facts said refusal few judged lists whole lexed p h w =
+pub text_next : (file text said : List ℕ) (refusal : Refusal) → length text ≤ most_bytes → JudgesText text (Err refusal) → ListsAfter file text refusal said
+    → ListsNext file text said
+text_next file text said refusal few judged (facts, lists, whole) lexed p h w =
     let broken : Breaks text lexed.tokens (e_rule 4 p) = wrong_token w in
     let same : refusal ≡ e_rule 4 p = cc (one_verdict text _ _ (within few judged) (within few (no_sentence h broken))) in
     let here = subst (λ (r : Refusal). ListsAt text r facts) same lists in
@@ -87,9 +87,9 @@ accepted_next file text said job few judged lexed p h w =
     absurd (cc (one_verdict text _ _ (within few judged) (within few (no_sentence h (wrong_token w)))))
 
 -- the same at the head of a text
-pub refused_head_next : (file text facts said : List ℕ) (refusal : Refusal) → length text ≤ most_bytes → JudgesHeadText text (Err refusal) → ListsAt text refusal facts
-    → said ≡ rule_head file refusal ++ facts → ListsNext file text said
-refused_head_next file text facts said refusal few judged lists whole lexed p h w =
+pub head_next : (file text said : List ℕ) (refusal : Refusal) → length text ≤ most_bytes → JudgesHeadText text (Err refusal) → ListsAfter file text refusal said
+    → ListsNext file text said
+head_next file text said refusal few judged (facts, lists, whole) lexed p h w =
     let broken : Breaks text lexed.tokens (e_rule 4 p) = wrong_token w in
     let same : refusal ≡ e_rule 4 p = cc (one_head text _ _ (head_within few judged) (head_within few (no_head_sentence h broken))) in
     let here = subst (λ (r : Refusal). ListsAt text r facts) same lists in

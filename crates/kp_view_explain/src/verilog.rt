@@ -7,7 +7,7 @@ ghost use Rattle.kp_view_explain.specs.declared.words.Subject.TheVariants as sub
 ghost use Rattle.kp_view_explain.specs.inner.Shown.{ExplainsModule, ExplainsShown, ShowsMarked};
 
 use crate::explanation::Explanation;
-use crate::of_job::facts;
+use crate::of_job::explain_head;
 use kp_base::{NoMemory, Refusal, Refused};
 use kp_frontend::{Head, judge_head};
 use kp_net::Netlist;
@@ -73,10 +73,7 @@ pub(crate) fn explain_watched(
             Ok(said)
         }
         Err(Refused::NoMemory) => Err(NoMemory),
-        Err(Refused::Rule(refusal)) => {
-            let facts = facts(alloc, file, text, refusal)?;
-            Ok(Explanation::refused(alloc, file, refusal, facts.as_slice())?)
-        }
+        Err(Refused::Rule(refusal)) => Ok(explain_head(alloc, file, text, refusal)?),
     }
 }
 

@@ -1,9 +1,5 @@
 pub mod Messages
 pub mod Noted
 pub mod Tables
-pub mod Search
-pub mod Widths
-pub mod PrintedWidths
 pub mod Sets
 pub mod Claims
-pub mod inner

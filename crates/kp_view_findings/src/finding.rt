@@ -1,10 +1,7 @@
 // What a pass over a job finds.
-ghost use Rattle.std.specs.Prelude.{◌≡◌, is_some, leb, true, vec_len, OnErr, OnOk};
-ghost use Rattle.kp_view_findings.specs.Noted.{IsQuiet, noted, with_finding};
-ghost use Rattle.kp_view_findings.specs.Tables.{value_of, with_first};
+ghost use Rattle.std.specs.Prelude.{◌≡◌, [], OnErr, OnOk};
+ghost use Rattle.kp_view_findings.specs.Noted.{noted, with_finding};
 
-use crate::table::Table;
-use kp_ast::Name;
 use kp_base::{NoMemory, Place};
 use kp_view_message::{Message, Warning};
 use std::alloc::Global;
@@ -27,28 +24,18 @@ pub struct Caution<'t> {
 }
 
 /// The first findings of a pass, in its order.
+#[derive(Drop)]
 pub struct Findings<'t> {
     all: Vec<Finding<'t>>,
-    /// The names whose declarations are missing or doubtful. Of these no more is said, since it may follow from that.
-    doubtful: Table<bool>,
-}
-
-impl Drop for Findings<'_> {
-    fn drop(self) {
-        let Findings { all, doubtful } = self;
-        drop(all);
-        drop(doubtful);
-    }
 }
 
 impl<'t> Findings<'t> {
     /// No findings.
     pub fn new(alloc: Global) -> Findings<'t>
-        ensures { IsQuiet result }
+        ensures { noted result ≡ [] }
     {
         Findings {
             all: Vec::new(alloc),
-            doubtful: Table::new(alloc),
         }
     }
 
@@ -56,41 +43,11 @@ impl<'t> Findings<'t> {
     pub fn add(&mut self, place: Place, message: Message<'t>) -> Result<(), NoMemory>
         ensures noted { OnOk result (noted self.new ≡ with_finding (noted self.old) (record { place = place; message = message.entry })) }
         ensures unchanged { OnErr result (noted self.new ≡ noted self.old) }
-        ensures doubtful { self.new.doubtful ≡ self.old.doubtful }
     {
         if self.all.len() < MOST {
             self.all.push(Finding { place, message })?;
         }
         Ok(())
-    }
-
-    /// Notes a finding of a name whose declaration is missing or doubtful.
-    pub fn add_name(
-        &mut self,
-        name: &Name,
-        place: Place,
-        message: Message<'t>,
-    ) -> Result<(), NoMemory>
-        ensures noted { OnOk result (noted self.new ≡ with_finding (noted self.old) (record { place = place; message = message.entry })) }
-        ensures unchanged { OnErr result (noted self.new ≡ noted self.old) }
-        ensures doubtful { OnOk result (value_of self.new.doubtful ≡ with_first (value_of self.old.doubtful) name.now true) }
-    {
-        self.doubtful.set_first(name, true)?;
-        self.add(place, message)
-    }
-
-    /// Whether the declaration of a name is missing or doubtful.
-    pub fn is_doubtful(&self, name: &Name) -> bool
-        ensures { result ≡ is_some (value_of self.now.doubtful name.now) }
-    {
-        self.doubtful.get(name).is_some()
-    }
-
-    /// Whether no more are noted.
-    pub fn is_full(&self) -> bool
-        ensures { result ≡ leb 20 (vec_len self.now.all) }
-    {
-        self.all.len() >= MOST
     }
 
     /// The findings in the order in which they were noted.

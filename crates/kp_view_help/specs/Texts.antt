@@ -1,6 +1,8 @@
 -- The texts of terms: a word, the token at a place, a kind of names, a number of bits.
 use Rattle.std.specs.Prelude.{ℕ, List, ◌++◌, Bool, true, false, ◌&&◌, take, length, nat_lt, ◌==◌, if◌then◌else◌, flat_map, codes, decimal}
 use Rattle.std.specs.Char.{encode_utf8}
+use Rattle.kp_ast.specs.declared.widths.NameKind.{NameKind}
+use Rattle.kp_ast.specs.declared.widths.NameKind.TheVariants as names
 use Rattle.kp_view_expected.specs.Texts.{class_text}
 use Rattle.kp_view_help.specs.declared.{word.Word.Word, found.FoundToken.FoundToken, kind.Kind.Kind, kind.Wanted.Wanted, phrase.Term.Term}
 use Rattle.kp_view_help.specs.declared.found.FoundToken.TheVariants as tokens
@@ -25,6 +27,19 @@ found_text tokens.End = codes "the end of the text"
 
 abbrev pub bits_text : ℕ → List ℕ
 bits_text count = if count == 1 then codes "1 bit" else decimal count ++ codes " bits"
+
+-- what a name of this kind names
+abbrev pub kind_of : NameKind → Kind
+kind_of names.Reg = kinds.Register
+kind_of (names.File bits) = kinds.File
+kind_of names.Pipe = kinds.Pipe
+kind_of names.Target = kinds.Output
+kind_of names.Hint = kinds.Hint
+kind_of names.Sample = kinds.Sample
+kind_of names.Func = kinds.Function
+kind_of names.Param = kinds.Parameter
+kind_of names.Read = kinds.Read
+kind_of names.Let = kinds.Local
 
 abbrev pub kind_text : Kind → List ℕ
 kind_text kinds.Register = codes "register"

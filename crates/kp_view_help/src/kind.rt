@@ -1,7 +1,8 @@
 // What names are, and what is wanted at a place.
 ghost use Rattle.std.specs.Prelude.{◌≡◌, Some};
-ghost use Rattle.kp_view_help.specs.Texts.{kind_text, takes, wanted_text};
+ghost use Rattle.kp_view_help.specs.Texts.{kind_of, kind_text, takes, wanted_text};
 
+use kp_ast::NameKind;
 use std::fmt;
 
 /// What a name names.
@@ -20,6 +21,24 @@ pub enum Kind {
 }
 
 impl Kind {
+    /// What a name of this kind names.
+    pub fn of(kind: NameKind) -> Kind
+        ensures { result ≡ kind_of kind }
+    {
+        match kind {
+            NameKind::Reg => Kind::Register,
+            NameKind::File(_) => Kind::File,
+            NameKind::Pipe => Kind::Pipe,
+            NameKind::Target => Kind::Output,
+            NameKind::Hint => Kind::Hint,
+            NameKind::Sample => Kind::Sample,
+            NameKind::Func => Kind::Function,
+            NameKind::Param => Kind::Parameter,
+            NameKind::Read => Kind::Read,
+            NameKind::Let => Kind::Local,
+        }
+    }
+
     fn text(self) -> &'static str
         ensures { result.now ≡ kind_text self }
     {

@@ -1,7 +1,7 @@
--- The text of a message that lists the tokens which can be at a place (E4).
+-- The text of a message that lists the tokens which can be at a place (E4), and that of a sentence.
 use Rattle.std.specs.Prelude.{ℕ, List, ◌++◌, Option, Some, None, codes}
 use Rattle.kp_view_expected.specs.Texts.{expected_text}
-use Rattle.kp_view_help.specs.Texts.{found_text}
+use Rattle.kp_view_help.specs.{Phrases.phrase_text, Phrases.terms_texts, Texts.found_text}
 use Rattle.kp_view_message.specs.declared.{reading_fault.ReadingFault.ReadingFault, message.Message.Message}
 use Rattle.kp_view_message.specs.declared.reading_fault.ReadingFault.TheVariants as faults
 use Rattle.kp_view_message.specs.declared.message.Message.TheVariants as messages
@@ -13,4 +13,5 @@ reading_text _ = None
 
 abbrev pub message_text : Message → Option (List ℕ)
 message_text (messages.Reading fault) = reading_text fault
+message_text (messages.Rule number said) = Some (phrase_text said.text.now (terms_texts said.terms))
 message_text _ = None

@@ -3,20 +3,21 @@
 //! The messages own nothing: names are slices of the source text or of its tree.
 #![tactic(auto)]
 
-mod guess_fault;
+mod earlier;
 mod message;
 mod name_fault;
 mod reading_fault;
 mod section_fault;
+mod sentence;
+mod site;
 mod stage_fault;
 mod warning;
 mod width_fault;
 
-pub use guess_fault::GuessFault;
 pub use message::Message;
-pub use name_fault::NameFault;
 pub use reading_fault::ReadingFault;
-pub use section_fault::SectionFault;
-pub use stage_fault::{Counted, StageFault};
+pub use section_fault::SectionMessage;
+pub use sentence::Sentence;
+pub use stage_fault::StageMessage;
 pub use warning::Warning;
-pub use width_fault::{Goal, WidthFault};
+pub use width_fault::width_message;

@@ -1,14 +1,12 @@
 // The message for a violated rule.
 ghost use Rattle.std.specs.Prelude.{◌≡◌};
 ghost use Rattle.kp_view_message.specs.{Helps.AreHelps, Helps.IsHelp, Helps.second_help, Rules.rule_of, Texts.message_text};
-ghost use Rattle.kp_view_message.specs.inner.Places.{count, of_message, places};
+ghost use Rattle.kp_view_message.specs.inner.Places.{HasPlaces, HasTerms, places};
 
-use crate::guess_fault::GuessFault;
-use crate::name_fault::NameFault;
 use crate::reading_fault::ReadingFault;
-use crate::section_fault::SectionFault;
-use crate::stage_fault::StageFault;
-use crate::width_fault::WidthFault;
+use crate::section_fault::SectionMessage;
+use crate::sentence::Sentence;
+use crate::stage_fault::StageMessage;
 use kp_view_help::{Help, Terms, write_phrase};
 use std::fmt::{self, Display};
 
@@ -16,11 +14,10 @@ use std::fmt::{self, Display};
 #[derive(Clone, Copy)]
 pub enum Message<'t> {
     Reading(ReadingFault<'t>),
-    Name(NameFault<'t>),
-    Width(WidthFault<'t>),
-    Stage(StageFault<'t>),
-    Guess(GuessFault<'t>),
-    Section(SectionFault<'t>),
+    Stage(StageMessage<'t>),
+    Section(SectionMessage<'t>),
+    /// A rule by its number, and what is said of it.
+    Rule(u8, Sentence<'t>),
     /// A rule of which no more is known, by its number.
     Fixed(u8),
 }
@@ -32,12 +29,9 @@ impl<'t> Message<'t> {
     {
         match self {
             Message::Reading(fault) => fault.rule(),
-            Message::Name(fault) => fault.rule(),
-            Message::Width(fault) => fault.rule(),
-            Message::Stage(fault) => fault.rule(),
-            Message::Guess(fault) => fault.rule(),
-            Message::Section(fault) => fault.rule(),
-            Message::Fixed(number) => *number,
+            Message::Stage(said) => said.fault.rule(),
+            Message::Section(said) => said.fault.rule(),
+            Message::Rule(number, _) | Message::Fixed(number) => *number,
         }
     }
 
@@ -53,11 +47,9 @@ impl<'t> Message<'t> {
     {
         match self {
             Message::Reading(fault) => fault.help(),
-            Message::Name(fault) => fault.help(),
-            Message::Width(fault) => fault.help(),
-            Message::Stage(fault) => fault.help(),
-            Message::Guess(fault) => fault.help(),
-            Message::Section(fault) => fault.help(),
+            Message::Stage(said) => said.help(),
+            Message::Section(said) => said.help(),
+            Message::Rule(_, sentence) => sentence.helps.0,
             Message::Fixed(_) => None,
         }
     }
@@ -66,35 +58,31 @@ impl<'t> Message<'t> {
         ensures { result ≡ second_help self.now }
     {
         match self {
-            Message::Name(fault) => fault.second_help(),
+            Message::Rule(_, sentence) => sentence.helps.1,
             _ => None,
         }
     }
 
     fn text(&self) -> &'static str
-        ensures { places result.now ≡ of_message self.now }
+        ensures { HasPlaces self.now result.now }
     {
         match self {
             Message::Reading(fault) => fault.text(),
-            Message::Name(fault) => fault.text(),
-            Message::Width(fault) => fault.text(),
-            Message::Stage(fault) => fault.text(),
-            Message::Guess(fault) => fault.text(),
-            Message::Section(fault) => fault.text(),
+            Message::Stage(said) => said.text(),
+            Message::Section(said) => said.text(),
+            Message::Rule(_, sentence) => sentence.text,
             Message::Fixed(number) => fixed(*number),
         }
     }
 
     fn terms(&self) -> Terms<'t>
-        ensures { count result ≡ of_message self.now }
+        ensures { HasTerms self.now result }
     {
         match self {
             Message::Reading(fault) => fault.terms(),
-            Message::Name(fault) => fault.terms(),
-            Message::Width(fault) => fault.terms(),
-            Message::Stage(fault) => fault.terms(),
-            Message::Guess(fault) => fault.terms(),
-            Message::Section(fault) => fault.terms(),
+            Message::Stage(said) => said.terms(),
+            Message::Section(said) => said.terms(),
+            Message::Rule(_, sentence) => sentence.terms,
             Message::Fixed(_) => Terms::None,
         }
     }
@@ -134,15 +122,6 @@ fn fixed(number: u8) -> &'static str
         12 => "this slice lies outside its operand",
         13 => "the value doesn't fit the width of the literal",
         14 => "an address has another width",
-        15 => "the stages aren't right",
-        29 => "more of these than a machine may have",
-        28 =>
-            "with this statement the expressions of the machine, functions written out, have more than 100,000 parts",
-        30 => "the image fills registers and files: a file with an address, a register without",
-        31 => "this lies after the last word, or a register has one value",
-        32 => "no such stage, or a step of 0",
-        36 => "inputs are the values of samples",
-        37 => "a step is 1 or more",
         _ => "this breaks a rule (docs/LANGUAGE.md)",
     }
 }

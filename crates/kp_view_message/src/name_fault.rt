@@ -1,213 +1,204 @@
-// A wrong name.
-ghost use Rattle.std.specs.Prelude.{◌≡◌};
-ghost use Rattle.kp_view_message.specs.{Helps.instead, Helps.name_help, Helps.name_second_help, Rules.name_rule};
-ghost use Rattle.kp_view_message.specs.inner.Places.{count, of_name, places};
+// Sentences on names (E5, E6, E7 and E26).
+ghost use Rattle.std.specs.Prelude.{◌≡◌, [], None, Some, position};
+ghost use Rattle.kp_view_help.specs.declared.help.Help.TheVariants as help;
+ghost use Rattle.kp_view_message.specs.{Sites.binds_in, Widths.bits_in, inner.Places.places};
+ghost use Rattle.kp_view_message.specs.Names.{again_help, instead, kind_help, needs_address, scope_helps, stage_helps, through_pipe, wanted_in};
 
+use crate::sentence::Sentence;
+use crate::site::{
+    bound_name, bound_stage, declared, first_declared, function_named, in_scope, line_of, local,
+};
+use kp_ast::{Job, NameKind, Scope, StmtKind};
 use kp_view_help::{Help, Kind, Term, Terms, Wanted, Word};
+use kp_width::Position;
 
-/// A wrong name.
-#[derive(Clone, Copy)]
-pub enum NameFault<'t> {
-    // E5
-    Redeclared {
-        name: Word<'t>,
-        kind: Kind,
-        line: u32,
-        read: bool,
-    },
-    // E6
-    Undeclared {
-        name: Word<'t>,
-    },
-    DeclaredBelow {
-        name: Word<'t>,
-        line: u32,
-    },
-    OtherStage {
-        name: Word<'t>,
-        kind: Kind,
-        line: u32,
-        stage: usize,
-        width: Option<u8>,
-        here: usize,
-    },
-    // E7
-    WrongKind {
-        name: Word<'t>,
-        kind: Kind,
-        line: u32,
-        wanted: Wanted,
-    },
-    NoAddress {
-        name: Word<'t>,
-        line: u32,
-    },
-    NeedlessAddress {
-        name: Word<'t>,
-        line: u32,
-    },
-    Arguments {
-        name: Word<'t>,
-        line: u32,
-        wanted: usize,
-        found: usize,
-    },
-    // E26
-    CalledEarly {
-        name: Word<'t>,
-        line: u32,
-        own: bool,
-    },
+/// A name that is in scope already is declared.
+pub(crate) fn declared_again<'t>(
+    job: &'t Job,
+    name: Word<'t>,
+    found: NameKind,
+    from: usize,
+    here: Scope,
+) -> Sentence<'t>
+    ensures helps { result.helps ≡ (again_help found here, None) }
+    ensures widths { bits_in result.terms ≡ [] }
+{
+    let earlier = in_scope(job, name, found, from, here);
+    let terms = Terms::Three(
+        Term::Word(name),
+        Term::Kind(Kind::of(found)),
+        Term::Number(line_of(earlier)),
+    );
+    Sentence::new("`{}` is declared already, as a {} (line {})", terms).with(
+        again_help(found, here),
+        None,
+    )
 }
 
-impl<'t> NameFault<'t> {
-    /// The number of the rule.
-    pub fn rule(&self) -> u8
-        ensures { result ≡ name_rule self.now }
-    {
-        match self {
-            NameFault::Redeclared { .. } => 5,
-            NameFault::Undeclared { .. }
-            | NameFault::DeclaredBelow { .. }
-            | NameFault::OtherStage { .. } => 6,
-            NameFault::WrongKind { .. }
-            | NameFault::NoAddress { .. }
-            | NameFault::NeedlessAddress { .. }
-            | NameFault::Arguments { .. } => 7,
-            NameFault::CalledEarly { .. } => 26,
-        }
+fn again_help<'t>(found: NameKind, here: Scope) -> Option<Help<'t>>
+    ensures { result ≡ again_help found here }
+{
+    match (found, here) {
+        (NameKind::Pipe, Scope::Stage(_)) => Some(Help::PipeIsPut),
+        _ => None,
     }
+}
 
-    // What helps, if anything is known to.
-    pub(crate) fn help(&self) -> Option<Help<'t>>
-        ensures { result ≡ name_help self.now }
-    {
-        Some(match self {
-            NameFault::Redeclared {
-                kind: Kind::Pipe,
-                read: true,
-                ..
-            } => Help::PipeIsPut,
-            NameFault::DeclaredBelow { .. } => Help::MoveUp,
-            NameFault::OtherStage { stage, .. } => Help::KnownThere(*stage),
-            NameFault::WrongKind {
-                name,
-                kind,
-                wanted,
-                ..
-            } => return instead(*name, *kind, *wanted),
-            NameFault::NoAddress { name, .. } => Help::WithAddress(*name),
-            _ => return None,
-        })
+/// A name that isn't in scope: where it is declared, if it is anywhere.
+pub(crate) fn not_in_scope<'t>(
+    job: &'t Job,
+    name: Word<'t>,
+    here: Scope,
+    width: Option<u8>,
+) -> Sentence<'t>
+    ensures helps { result.helps ≡ scope_helps name.entry job.now here width }
+    ensures widths { bits_in result.terms ≡ [] }
+{
+    if let Some(number) = first_declared(job, name) {
+        return declared_below(name, line_of(declared(job, number)));
     }
-
-    // A second thing that helps.
-    pub(crate) fn second_help(&self) -> Option<Help<'t>>
-        ensures { result ≡ name_second_help self.now }
-    {
-        match self {
-            NameFault::OtherStage {
-                name,
-                stage,
-                width,
-                here,
-                ..
-            } if *stage < *here => Some(Help::ThroughPipe {
-                name: *name,
-                stage: *stage,
-                width: *width,
-            }),
-            _ => None,
-        }
+    match here {
+        Scope::Stage(here) => not_in_stage(job, name, here as usize, width),
+        _ => undeclared(name),
     }
+}
 
-    // The sentence, in which the terms are printed.
-    pub(crate) fn text(&self) -> &'static str
-        ensures { places result.now ≡ of_name self.now }
-    {
-        match self {
-            NameFault::Redeclared { .. } => "`{}` is declared already, as a {} (line {})",
-            NameFault::Undeclared { .. } => "`{}` is declared nowhere before this",
-            NameFault::DeclaredBelow { .. } => "`{}` is declared only in line {}, after this use",
-            NameFault::OtherStage {
-                kind: Kind::Read,
-                ..
-            } => "`{}` isn't known here: it is read in stage {} (line {})",
-            NameFault::OtherStage { .. } =>
-                "`{}` isn't known here: it is defined by `let` in stage {} (line {})",
-            NameFault::WrongKind { .. } => "`{}` is a {} (line {}); {} is wanted here",
-            NameFault::NoAddress { .. } => "`{}` is a file (line {}), and needs an address",
-            NameFault::NeedlessAddress { .. } => "`{}` is a register (line {}), and has no address",
-            NameFault::Arguments { .. } =>
-                "the function `{}` (line {}) takes {} arguments; this call has {}",
-            NameFault::CalledEarly { own: true, .. } => "the function `{}` can't call itself",
-            NameFault::CalledEarly { own: false, .. } =>
-                "the function `{}` is declared only in line {}, after this call",
-        }
+// The same for a name that isn't declared before the stages.
+fn not_in_stage<'t>(job: &'t Job, name: Word<'t>, here: usize, width: Option<u8>) -> Sentence<'t>
+    ensures helps { result.helps ≡ stage_helps name.entry here width (position (binds_in name.entry.0.now) job.now.blocks) }
+    ensures widths { bits_in result.terms ≡ [] }
+{
+    let Some(stage) = bound_stage(job, name) else {
+        return undeclared(name);
+    };
+    let stmt = local(job, stage, name);
+    let line = line_of(bound_name(stmt));
+    if stage == here {
+        return declared_below(name, line);
     }
+    let terms = Terms::Three(
+        Term::Word(name),
+        Term::Number(stage as u64),
+        Term::Number(line),
+    );
+    Sentence::new(elsewhere(stmt), terms).with(
+        Some(Help::KnownThere(stage)),
+        through_pipe(name, here, width, stage),
+    )
+}
 
-    // The terms of the sentence.
-    pub(crate) fn terms(&self) -> Terms<'t>
-        ensures { count result ≡ of_name self.now }
-    {
-        match self {
-            NameFault::Undeclared { name }
-            | NameFault::CalledEarly {
-                name,
-                own: true,
-                ..
-            } => { Terms::One(Term::Word(*name)) }
-            NameFault::DeclaredBelow { name, line }
-            | NameFault::NoAddress { name, line }
-            | NameFault::NeedlessAddress { name, line }
-            | NameFault::CalledEarly {
-                name,
+fn undeclared<'t>(name: Word<'t>) -> Sentence<'t>
+    ensures helps { result.helps ≡ (None, None) }
+    ensures widths { bits_in result.terms ≡ [] }
+{
+    Sentence::new(
+        "`{}` is declared nowhere before this",
+        Terms::One(Term::Word(name)),
+    )
+}
+
+fn declared_below<'t>(name: Word<'t>, line: u64) -> Sentence<'t>
+    ensures helps { result.helps ≡ (Some help.MoveUp, None) }
+    ensures widths { bits_in result.terms ≡ [] }
+{
+    let terms = Terms::Two(Term::Word(name), Term::Number(line));
+    Sentence::new("`{}` is declared only in line {}, after this use", terms).with(
+        Some(Help::MoveUp),
+        None,
+    )
+}
+
+// The text for a name that this statement of another stage binds.
+fn elsewhere(stmt: Option<&StmtKind>) -> &'static str
+    ensures { places result.now ≡ 3 }
+{
+    match stmt {
+        Some(StmtKind::Read(_)) => "`{}` isn't known here: it is read in stage {} (line {})",
+        _ => "`{}` isn't known here: it is defined by `let` in stage {} (line {})",
+    }
+}
+
+// A later stage gets the value through a pipe.
+fn through_pipe<'t>(
+    name: Word<'t>,
+    here: usize,
+    width: Option<u8>,
+    stage: usize,
+) -> Option<Help<'t>>
+    ensures { result ≡ through_pipe name.entry here width stage }
+{
+    if stage < here {
+        Some(Help::ThroughPipe { name, stage, width })
+    } else {
+        None
+    }
+}
+
+/// A name of another kind than is wanted at its place.
+pub(crate) fn wrong_kind<'t>(
+    job: &'t Job,
+    name: Word<'t>,
+    found: NameKind,
+    from: usize,
+    wanted: Position,
+    here: Scope,
+) -> Sentence<'t>
+    ensures helps { result.helps ≡ (kind_help name.entry found wanted here, None) }
+    ensures widths { bits_in result.terms ≡ [] }
+{
+    let word = Term::Word(name);
+    let line = Term::Number(line_of(in_scope(job, name, found, from, here)));
+    let sentence = match (found, wanted) {
+        (NameKind::File(_), Position::Register) => Sentence::new(
+            "`{}` is a file (line {}), and needs an address",
+            Terms::Two(word, line),
+        ),
+        (NameKind::Reg, Position::File) => Sentence::new(
+            "`{}` is a register (line {}), and has no address",
+            Terms::Two(word, line),
+        ),
+        _ => Sentence::new(
+            "`{}` is a {} (line {}); {} is wanted here",
+            Terms::Four(
+                word,
+                Term::Kind(Kind::of(found)),
                 line,
-                own: false,
-            } => { Terms::Two(Term::Word(*name), Term::Number(*line as u64)) }
-            NameFault::Redeclared {
-                name,
-                kind,
-                line,
-                ..
-            } => Terms::Three(
-                Term::Word(*name),
-                Term::Kind(*kind),
-                Term::Number(*line as u64),
+                Term::Wanted(wanted_in(wanted, here)),
             ),
-            NameFault::OtherStage {
-                name,
-                line,
-                stage,
-                ..
-            } => Terms::Three(
-                Term::Word(*name),
-                Term::Number(*stage as u64),
-                Term::Number(*line as u64),
-            ),
-            NameFault::WrongKind {
-                name,
-                kind,
-                line,
-                wanted,
-            } => Terms::Four(
-                Term::Word(*name),
-                Term::Kind(*kind),
-                Term::Number(*line as u64),
-                Term::Wanted(*wanted),
-            ),
-            NameFault::Arguments {
-                name,
-                line,
-                wanted,
-                found,
-            } => Terms::Four(
-                Term::Word(*name),
-                Term::Number(*line as u64),
-                Term::Number(*wanted as u64),
-                Term::Number(*found as u64),
-            ),
-        }
+        ),
+    };
+    sentence.with(kind_help(name, found, wanted, here), None)
+}
+
+// What helps there.
+fn kind_help<'t>(name: Word<'t>, found: NameKind, wanted: Position, here: Scope) -> Option<Help<'t>>
+    ensures { result ≡ kind_help name.entry found wanted here }
+{
+    if needs_address(found, wanted) {
+        return Some(Help::WithAddress(name));
+    }
+    instead(name, Kind::of(found), wanted_in(wanted, here))
+}
+
+// Whether a file is where a register may stand.
+fn needs_address(found: NameKind, wanted: Position) -> bool
+    ensures { result ≡ needs_address found wanted }
+{
+    matches!((found, wanted), (NameKind::File(_), Position::Register))
+}
+
+fn wanted_in(position: Position, here: Scope) -> Wanted
+    ensures { result ≡ wanted_in position here }
+{
+    match (position, here) {
+        (Position::Value, Scope::Function(_)) => Wanted::Parameter,
+        (Position::Value, _) => Wanted::Value,
+        (Position::Register, _) => Wanted::Register,
+        (Position::File, _) => Wanted::File,
+        (Position::Pipe, _) => Wanted::Pipe,
+        (Position::Result, _) => Wanted::Output,
+        (Position::Hint, _) => Wanted::Hint,
+        (Position::Callee, _) => Wanted::Function,
     }
 }
 
@@ -224,4 +215,42 @@ fn instead<'t>(name: Word<'t>, kind: Kind, wanted: Wanted) -> Option<Help<'t>>
         (Kind::Hint, Wanted::Pipe | Wanted::Output) => Help::WriteAim(name),
         _ => return None,
     })
+}
+
+/// A call with another number of arguments than its function has parameters.
+pub(crate) fn argument_count<'t>(
+    job: &'t Job,
+    name: Word<'t>,
+    found: usize,
+    wanted: usize,
+    function: usize,
+) -> Sentence<'t>
+    ensures helps { result.helps ≡ (None, None) }
+    ensures widths { bits_in result.terms ≡ [] }
+{
+    let terms = Terms::Four(
+        Term::Word(name),
+        Term::Number(line_of(declared(job, function))),
+        Term::Number(wanted as u64),
+        Term::Number(found as u64),
+    );
+    Sentence::new(
+        "the function `{}` (line {}) takes {} arguments; this call has {}",
+        terms,
+    )
+}
+
+/// A call of a function that is declared only where this many declarations precede, or later.
+pub(crate) fn called_early<'t>(job: &'t Job, name: Word<'t>, before: usize) -> Sentence<'t>
+    ensures helps { result.helps ≡ (None, None) }
+    ensures widths { bits_in result.terms ≡ [] }
+{
+    let word = Term::Word(name);
+    match function_named(job, name) {
+        Some(number) if number != before => Sentence::new(
+            "the function `{}` is declared only in line {}, after this call",
+            Terms::Two(word, Term::Number(line_of(declared(job, number)))),
+        ),
+        _ => Sentence::new("the function `{}` can't call itself", Terms::One(word)),
+    }
 }

@@ -1,324 +1,343 @@
-// A wrong width.
-ghost use Rattle.std.specs.Prelude.{◌≡◌, is_some};
-ghost use Rattle.kp_view_message.specs.{Helps.IsWidthHelp, Helps.fit, Helps.widen, Rules.width_rule};
-ghost use Rattle.kp_view_message.specs.inner.Places.{count, has_largest, of_goal, of_named, of_slice, of_value, of_width, places};
+// Sentences on names and widths (E5 to E14 and E26).
+ghost use Rattle.std.specs.Prelude.{◌≡◌, [], ◌∷◌, None, Some, is_some};
+ghost use Rattle.kp_width.specs.declared.fault.WidthFault.TheVariants as faults;
+ghost use Rattle.kp_view_help.specs.declared.phrase.Term.TheVariants as term;
+ghost use Rattle.kp_view_help.specs.declared.help.Help.TheVariants as help;
+ghost use Rattle.kp_view_message.specs.Sites.{literal_at};
+ghost use Rattle.kp_view_message.specs.inner.Places.{count, has_largest, of_value, places};
+ghost use Rattle.kp_view_message.specs.Widths.{AreNumberHelps, AreWidthHelps, AreNameHelps, IsWidthMessage, bits_in, fit, number_widths, value_widths, widen, widths_in, with_width};
 
-use kp_lex::Mark;
-use kp_view_expected::TokenClass;
+use crate::message::Message;
+use crate::name_fault::{argument_count, called_early, declared_again, not_in_scope, wrong_kind};
+use crate::sentence::Sentence;
+use crate::site::{Site, declared, line_of, parameter, word_of};
+use kp_ast::{Job, NameKind, Named};
+use kp_base::{Finding, Place};
+use kp_bits::Literal;
 use kp_view_help::{Help, Kind, Term, Terms, Word};
+use kp_width::{Destination, WidthFault};
 
-/// What a value goes to, or comes from.
-#[derive(Clone, Copy)]
-pub enum Goal<'t> {
-    /// A register, a pipe, a result or a hint.
-    Named(Kind, Word<'t>),
-    /// The parameter of a function.
-    Argument(Word<'t>),
-    /// The expression of a function.
-    Body(Word<'t>),
-}
-
-/// A wrong width.
-#[derive(Clone, Copy)]
-pub enum WidthFault<'t> {
-    // E8
-    WidthRange(u64),
-    LiteralWidth(u64),
-    JoinedWidth,
-    // E9
-    Operands {
-        mark: Mark,
-        left: u8,
-        right: u8,
-        literal: Option<(u8, u64)>,
-    },
-    Branches {
-        yes: u8,
-        no: u8,
-        literal: Option<(u8, u64)>,
-    },
-    // E10
-    ValueWidth {
-        found: u8,
-        wanted: u64,
-        goal: Goal<'t>,
-        literal: Option<u64>,
-    },
-    StartWidth {
-        found: u8,
-        wanted: u8,
-        name: Word<'t>,
-        value: u64,
-    },
-    TargetWidth {
-        result: u8,
-        target: u8,
-        name: Word<'t>,
-        kind: Kind,
-        line: u32,
-    },
-    // E11
-    Condition {
-        found: u8,
-    },
-    Enable {
-        found: u8,
-        name: Word<'t>,
-        line: u32,
-    },
-    // E12
-    Slice {
-        hi: u64,
-        lo: u64,
-        width: u8,
-    },
-    Shortened {
-        to: u64,
-        from: u8,
-    },
-    // E13
-    LiteralValue {
-        value: u64,
-        width: u64,
-    },
-    // E14
-    AddressRange(u64),
-    Address {
-        found: u8,
-        wanted: u8,
-        file: Word<'t>,
-        line: u32,
-    },
-}
-
-impl<'t> WidthFault<'t> {
-    /// The number of the rule.
-    pub fn rule(&self) -> u8
-        ensures { result ≡ width_rule self.now }
-    {
-        match self {
-            WidthFault::WidthRange(_) | WidthFault::LiteralWidth(_) | WidthFault::JoinedWidth => 8,
-            WidthFault::Operands { .. } | WidthFault::Branches { .. } => 9,
-            WidthFault::ValueWidth { .. }
-            | WidthFault::StartWidth { .. }
-            | WidthFault::TargetWidth { .. } => 10,
-            WidthFault::Condition { .. } | WidthFault::Enable { .. } => 11,
-            WidthFault::Slice { .. } | WidthFault::Shortened { .. } => 12,
-            WidthFault::LiteralValue { .. } => 13,
-            WidthFault::AddressRange(_) | WidthFault::Address { .. } => 14,
-        }
-    }
-
-    // What helps, if anything is known to.
-    pub(crate) fn help(&self) -> Option<Help<'t>>
-        ensures { IsWidthHelp self.now result }
-    {
-        Some(match self {
-            WidthFault::Operands {
-                left: a,
-                right: b,
-                literal,
-                ..
-            }
-            | WidthFault::Branches {
-                yes: a,
-                no: b,
-                literal,
-            } => widen(*a, *b, *literal),
-            WidthFault::ValueWidth {
-                found,
-                wanted,
-                literal,
-                ..
-            } => fit(*found, *wanted, *literal),
-            WidthFault::StartWidth { wanted, value, .. } => {
-                Help::Literal(*wanted as u64, *value)
-            }
-            WidthFault::Condition { .. } => Help::Compare,
-            WidthFault::LiteralValue { value, .. } => Help::LiteralBits(*value),
-            WidthFault::AddressRange(value) => return Help::words(*value),
-            WidthFault::Address { found, wanted, .. } => fit(*found, *wanted as u64, None),
-            _ => return None,
-        })
-    }
-
-    // The sentence, in which the terms are printed.
-    pub(crate) fn text(&self) -> &'static str
-        ensures { places result.now ≡ of_width self.now }
-    {
-        match self {
-            WidthFault::WidthRange(_) => "a width is 1 to 64, not {}",
-            WidthFault::LiteralWidth(_) => "a literal has 1 to 64 bits, not {}",
-            WidthFault::JoinedWidth => "the parts have more than 64 bits together",
-            WidthFault::Operands { .. } => "the operands of {} have different widths: {} and {}",
-            WidthFault::Branches { .. } =>
-                "the branches of this choice have different widths: {} and {}",
-            WidthFault::ValueWidth { goal, .. } => goal.text(),
-            WidthFault::StartWidth { .. } => "the start value has {}; `{}` has {}",
-            WidthFault::TargetWidth { .. } => "the result has {}; the {} `{}` (line {}) has {}",
-            WidthFault::Condition { .. } => "a condition has 1 bit; this has {}",
-            WidthFault::Enable { .. } => "an enable has 1 bit; the pipe `{}` (line {}) has {}",
-            WidthFault::Slice { hi, lo, .. } if *hi < *lo =>
-                "the high number stands first: `[{}:{}]`",
-            WidthFault::Slice { .. } => "bits {} to {} of {}: the bits are numbered {} to 0",
-            WidthFault::Shortened { .. } => "an extension of {} can't give {}",
-            WidthFault::LiteralValue { width, .. } if largest(*width).is_some() =>
-                "{} doesn't fit {}: the largest value is {}",
-            WidthFault::LiteralValue { .. } => "{} doesn't fit {}",
-            WidthFault::AddressRange(_) => "an address has 1 to 16 bits, not {}",
-            WidthFault::Address { .. } =>
-                "this address has {}; addresses of `{}` (line {}) have {}",
-        }
-    }
-
-    // The terms of the sentence.
-    pub(crate) fn terms(&self) -> Terms<'t>
-        ensures { count result ≡ of_width self.now }
-    {
-        match self {
-            WidthFault::WidthRange(value)
-            | WidthFault::LiteralWidth(value)
-            | WidthFault::AddressRange(value) => Terms::One(Term::Number(*value)),
-            WidthFault::JoinedWidth => Terms::None,
-            WidthFault::Branches { yes, no, .. } => Terms::Two(bits(*yes), bits(*no)),
-            WidthFault::ValueWidth {
-                found,
-                wanted,
-                goal,
-                ..
-            } => goal.terms(bits(*found), Term::Bits(*wanted)),
-            WidthFault::Condition { found } => Terms::One(bits(*found)),
-            WidthFault::Slice { hi, lo, width } => slice(*hi, *lo, *width),
-            WidthFault::Shortened { to, from } => Terms::Two(bits(*from), Term::Bits(*to)),
-            WidthFault::LiteralValue { value, width } => literal_value(*value, *width),
-            _ => self.named_terms(),
-        }
-    }
-
-    // The terms of a sentence with a name or an operator in it.
-    fn named_terms(&self) -> Terms<'t>
-        ensures { count result ≡ of_named self.now }
-    {
-        match self {
-            WidthFault::Operands {
-                mark,
-                left,
-                right,
-                ..
-            } => Terms::Three(
-                Term::Class(TokenClass::Mark(*mark)),
-                bits(*left),
-                bits(*right),
-            ),
-            WidthFault::StartWidth {
-                found,
-                wanted,
-                name,
-                ..
-            } => Terms::Three(bits(*found), Term::Word(*name), bits(*wanted)),
-            WidthFault::TargetWidth {
-                result,
-                target,
-                name,
-                kind,
-                line,
-            } => Terms::Five(
-                bits(*result),
-                Term::Kind(*kind),
-                Term::Word(*name),
-                Term::Number(*line as u64),
-                bits(*target),
-            ),
-            WidthFault::Enable { found, name, line } => Terms::Three(
-                Term::Word(*name),
-                Term::Number(*line as u64),
-                bits(*found),
-            ),
-            WidthFault::Address {
-                found,
-                wanted,
-                file,
-                line,
-            } => Terms::Four(
-                bits(*found),
-                Term::Word(*file),
-                Term::Number(*line as u64),
-                bits(*wanted),
-            ),
-            _ => Terms::None,
-        }
-    }
-}
-
-impl<'t> Goal<'t> {
-    // The sentence for a value of another width.
-    fn text(self) -> &'static str
-        ensures { places result.now ≡ of_goal self.entry }
-    {
-        match self {
-            Goal::Named(_, _) => "this value has {}; the {} `{}` has {}",
-            Goal::Argument(_) => "this value has {}; the parameter `{}` has {}",
-            Goal::Body(_) => "this value has {}; the function `{}` has {}",
-        }
-    }
-
-    // Its terms.
-    fn terms(self, found: Term<'t>, wanted: Term<'t>) -> Terms<'t>
-        ensures { count result ≡ of_goal self.entry }
-    {
-        match self {
-            Goal::Named(kind, name) => {
-                Terms::Four(found, Term::Kind(kind), Term::Word(name), wanted)
-            }
-            Goal::Argument(name) | Goal::Body(name) => {
-                Terms::Three(found, Term::Word(name), wanted)
-            }
-        }
-    }
-}
-
-fn bits<'t>(count: u8) -> Term<'t> {
-    Term::Bits(count as u64)
-}
-
-// Two values that are to have one width. A literal among them, with the width of the other, is what to change where its value fits.
-fn widen<'t>(left: u8, right: u8, literal: Option<(u8, u64)>) -> Help<'t>
-    ensures { result ≡ widen left right literal }
+/// What is said of a violated rule of names or widths in a text, which has this tree.
+#[tactic(auto, using(crate::proofs::Said::said))]
+pub fn width_message<'t>(text: &'t [u8], job: &'t Job, finding: Finding<WidthFault>) -> Message<'t>
+    ensures { IsWidthMessage text.now job.now finding result }
 {
-    match literal {
-        Some((width, value)) => Help::Literal(width as u64, value),
-        None => Help::Extend(left.max(right) as u64),
+    let Finding { place, fault } = finding;
+    let site = Site { text, job, place };
+    Message::Rule(fault.rule(), name_sentence(site, site.word(), fault))
+}
+
+// The sentence on the name at the place, or on widths.
+fn name_sentence<'t>(site: Site<'t>, name: Word<'t>, fault: WidthFault) -> Sentence<'t>
+    ensures helps { AreNameHelps site.entry.text.now site.entry.job.now site.entry.place name.entry fault result.helps }
+    ensures widths { bits_in result.terms ≡ widths_in fault }
+{
+    let job = site.job;
+    match fault {
+        WidthFault::DeclaredAgain { found, from, here } => {
+            declared_again(job, name, found, from, here)
+        }
+        WidthFault::NotInScope { here, bound } => not_in_scope(job, name, here, bound),
+        WidthFault::WrongKind {
+            found,
+            from,
+            wanted,
+            here,
+        } => wrong_kind(job, name, found, from, wanted, here),
+        WidthFault::ArgumentCount {
+            found,
+            wanted,
+            function,
+        } => argument_count(job, name, found, wanted, function),
+        WidthFault::CalledEarly { before } => called_early(job, name, before),
+        WidthFault::Target {
+            result,
+            target,
+            kind,
+            from,
+        } => Sentence::new(
+            "the result has {}; the {} `{}` (line {}) has {}",
+            Terms::Five(
+                bits(result),
+                Term::Kind(Kind::of(kind)),
+                Term::Word(name),
+                Term::Number(line_of(declared(job, from))),
+                bits(target),
+            ),
+        ),
+        WidthFault::Enable { found, from } => Sentence::new(
+            "an enable has 1 bit; the pipe `{}` (line {}) has {}",
+            Terms::Three(
+                Term::Word(name),
+                Term::Number(line_of(declared(job, from))),
+                bits(found),
+            ),
+        ),
+        fault => width_sentence(site, name, fault),
     }
 }
 
-// A value that is to have another width.
-fn fit<'t>(found: u8, wanted: u64, literal: Option<u64>) -> Help<'t>
-    ensures { result ≡ fit found wanted literal }
+// The sentence on the widths of expressions, with the word at the place.
+fn width_sentence<'t>(site: Site<'t>, word: Word<'t>, fault: WidthFault) -> Sentence<'t>
+    ensures helps { AreWidthHelps site.entry.text.now site.entry.place fault result.helps }
+    ensures widths { bits_in result.terms ≡ value_widths fault }
 {
-    match literal {
-        Some(value) => Help::Literal(wanted, value),
-        None if (found as u64) < wanted => Help::Extend(wanted),
+    match fault {
+        WidthFault::Operands {
+            left,
+            right,
+            left_at,
+            right_at,
+            ..
+        } => Sentence::new(
+            "the operands of `{}` have different widths: {} and {}",
+            Terms::Three(Term::Word(word), bits(left), bits(right)),
+        )
+        .with(
+            Some(widen(
+                (site.literal(left_at), left),
+                (site.literal(right_at), right),
+            )),
+            None,
+        ),
+        WidthFault::Branches {
+            left,
+            right,
+            left_at,
+            right_at,
+        } => Sentence::new(
+            "the branches of this choice have different widths: {} and {}",
+            Terms::Two(bits(left), bits(right)),
+        )
+        .with(
+            Some(widen(
+                (site.literal(left_at), left),
+                (site.literal(right_at), right),
+            )),
+            None,
+        ),
+        WidthFault::Value { found, wanted, to } => value_width(site, found, wanted, to),
+        WidthFault::Start { found, wanted } => Sentence::new(
+            "the start value has {}; `{}` has {}",
+            Terms::Three(
+                bits(found),
+                Term::Word(word_of(site.started())),
+                Term::Bits(wanted),
+            ),
+        )
+        .with(with_width(site.literal(site.place), wanted), None),
+        WidthFault::Condition { found } => Sentence::new(
+            "a condition has 1 bit; this has {}",
+            Terms::One(bits(found)),
+        )
+        .with(Some(Help::Compare), None),
+        WidthFault::Address {
+            found,
+            wanted,
+            file,
+        } => address_width(site, found, wanted, declared(site.job, file)),
+        fault => number_sentence(fault),
+    }
+}
+
+// The sentence on numbers in the text.
+#[tactic(auto, using(crate::proofs::Said::words))]
+fn number_sentence<'t>(fault: WidthFault) -> Sentence<'t>
+    ensures helps { AreNumberHelps fault result.helps }
+    ensures widths { bits_in result.terms ≡ number_widths fault }
+{
+    match fault {
+        WidthFault::DeclaredWidth { width } => Sentence::new(
+            "a width is 1 to 64, not {}",
+            Terms::One(Term::Number(width)),
+        ),
+        WidthFault::LiteralWidth { width } => literal_width(width),
+        WidthFault::JoinedWidth => Sentence::new(
+            "the parts have more than 64 bits together",
+            Terms::None,
+        ),
+        WidthFault::Slice { hi, lo, width } => slice(hi, lo, width),
+        WidthFault::Extension { from, to } => Sentence::new(
+            "an extension of {} can't give {}",
+            Terms::Two(bits(from), Term::Bits(to)),
+        ),
+        WidthFault::LiteralValue { value, width } => literal_value(value, width),
+        WidthFault::DeclaredAddress { width } => Sentence::new(
+            "an address has 1 to 16 bits, not {}",
+            Terms::One(Term::Number(width)),
+        )
+        .with(Help::words(width), None),
+        _ => Sentence::new("the declaration of this name breaks a rule", Terms::None),
+    }
+}
+
+fn bits<'t>(count: u8) -> Term<'t>
+    ensures { result ≡ term.Bits count }
+{
+    Term::Bits(u64::from(count))
+}
+
+// A value of another width than what it goes to.
+fn value_width<'t>(site: Site<'t>, found: u8, wanted: u64, to: Destination) -> Sentence<'t>
+    ensures helps { result.helps ≡ (Some (fit (literal_at site.entry.text.now site.entry.place) found wanted), None) }
+    ensures widths { bits_in result.terms ≡ found ∷ wanted ∷ [] }
+{
+    let (kind, named) = destination(site.job, to);
+    let found = u64::from(found);
+    other_width(kind, word_of(named), found, wanted).with(
+        Some(fit(site.literal(site.place), found, wanted)),
+        None,
+    )
+}
+
+// A value for a name of this kind, with another width.
+pub(crate) fn other_width<'t>(kind: Kind, name: Word<'t>, found: u64, wanted: u64) -> Sentence<'t>
+    ensures places { places result.text.now ≡ 4 }
+    ensures terms { count result.terms ≡ 4 }
+    ensures widths { bits_in result.terms ≡ found ∷ wanted ∷ [] }
+{
+    Sentence::new(
+        "this value has {}; the {} `{}` has {}",
+        Terms::Four(
+            Term::Bits(found),
+            Term::Kind(kind),
+            Term::Word(name),
+            Term::Bits(wanted),
+        ),
+    )
+}
+
+// What a value goes to.
+fn destination(job: &Job, to: Destination) -> (Kind, Option<&Named>) {
+    match to {
+        Destination::Named { kind, from } => (Kind::of(kind), declared(job, from)),
+        Destination::Parameter { function, index } => {
+            (Kind::Parameter, parameter(job, function, index))
+        }
+        Destination::Body { function } => (Kind::Function, declared(job, function)),
+    }
+}
+
+// An address of another width than those of its file.
+fn address_width<'t>(site: Site<'t>, found: u8, wanted: u8, file: Option<&'t Named>) -> Sentence<'t>
+    ensures helps { result.helps ≡ (Some (fit (literal_at site.entry.text.now site.entry.place) found wanted), None) }
+    ensures widths { bits_in result.terms ≡ found ∷ wanted ∷ [] }
+{
+    Sentence::new(
+        "this address has {}; addresses of `{}` (line {}) have {}",
+        Terms::Four(
+            bits(found),
+            Term::Word(word_of(file)),
+            Term::Number(line_of(file)),
+            bits(wanted),
+        ),
+    )
+    .with(
+        Some(fit(
+            site.literal(site.place),
+            u64::from(found),
+            u64::from(wanted),
+        )),
+        None,
+    )
+}
+
+// Two values that are to have one width, each with the literal that it is, if it is one. A literal among them, with the width of the other, is what to
+// change where its value fits.
+fn widen<'t>(left: (Option<Literal>, u8), right: (Option<Literal>, u8)) -> Help<'t>
+    ensures { result ≡ widen left right }
+{
+    let given = match with_width(right.0, u64::from(left.1)) {
+        Some(help) => Some(help),
+        None => with_width(left.0, u64::from(right.1)),
+    };
+    given.unwrap_or(Help::Extend(u64::from(left.1.max(right.1))))
+}
+
+// A value that is to have another width, with the literal that it is, if it is one.
+pub(crate) fn fit<'t>(literal: Option<Literal>, found: u64, wanted: u64) -> Help<'t>
+    ensures { result ≡ fit literal found wanted }
+{
+    match with_width(literal, wanted) {
+        Some(help) => help,
+        None if found < wanted => Help::Extend(wanted),
         None => Help::Cut(wanted),
     }
 }
 
-fn slice<'t>(hi: u64, lo: u64, width: u8) -> Terms<'t>
-    ensures { count result ≡ of_slice hi lo }
+// The literal with another width, where its value fits.
+fn with_width<'t>(literal: Option<Literal>, width: u64) -> Option<Help<'t>>
+    ensures { result ≡ with_width literal width }
 {
-    if hi < lo {
-        Terms::Two(Term::Number(lo), Term::Number(hi))
-    } else {
-        let last = Term::Number(width.saturating_sub(1) as u64);
-        Terms::Four(Term::Number(hi), Term::Number(lo), bits(width), last)
+    let value = literal?.value;
+    match (Literal { width, value }).fit() {
+        Ok(_) => Some(Help::Literal(width, value)),
+        Err(_) => None,
     }
 }
 
-fn literal_value<'t>(value: u64, width: u64) -> Terms<'t>
-    ensures { count result ≡ of_value width }
+// Bits that a value of this width doesn't have.
+fn slice<'t>(hi: u64, lo: u64, width: u8) -> Sentence<'t>
+    ensures helps { result.helps ≡ (None, None) }
+    ensures widths { bits_in result.terms ≡ number_widths (faults.Slice hi lo width) }
+{
+    let (high, low) = (Term::Number(hi), Term::Number(lo));
+    if hi < lo {
+        return Sentence::new(
+            "the high number stands first: `[{}:{}]`",
+            Terms::Two(low, high),
+        );
+    }
+    let last = Term::Number(u64::from(width.saturating_sub(1)));
+    Sentence::new(
+        "bits {} to {} of {}: the bits are numbered {} to 0",
+        Terms::Four(high, low, bits(width), last),
+    )
+}
+
+// A literal of a width that isn't one.
+pub(crate) fn literal_width<'t>(width: u64) -> Sentence<'t>
+    ensures places { places result.text.now ≡ 1 }
+    ensures terms { count result.terms ≡ 1 }
+    ensures widths { bits_in result.terms ≡ [] }
+    ensures helps { result.helps ≡ (None, None) }
+{
+    Sentence::new(
+        "a literal has 1 to 64 bits, not {}",
+        Terms::One(Term::Number(width)),
+    )
+}
+
+// A literal whose value doesn't fit in its width.
+fn literal_value<'t>(value: u64, width: u64) -> Sentence<'t>
+    ensures helps { result.helps ≡ (Some (help.LiteralBits value), None) }
+    ensures widths { bits_in result.terms ≡ width ∷ [] }
+{
+    Sentence::new(value_text(width), value_terms(value, width)).with(
+        Some(Help::LiteralBits(value)),
+        None,
+    )
+}
+
+// The text for it: the largest value is named that fits.
+pub(crate) fn value_text(width: u64) -> &'static str
+    ensures { places result.now ≡ of_value width }
 {
     match largest(width) {
-        Some(most) => Terms::Three(Term::Number(value), Term::Bits(width), Term::Number(most)),
-        None => Terms::Two(Term::Number(value), Term::Bits(width)),
+        Some(_) => "{} doesn't fit {}: the largest value is {}",
+        None => "{} doesn't fit {}",
+    }
+}
+
+// Its terms.
+pub(crate) fn value_terms<'t>(value: u64, width: u64) -> Terms<'t>
+    ensures terms { count result ≡ of_value width }
+    ensures widths { bits_in result ≡ width ∷ [] }
+{
+    let (number, bits) = (Term::Number(value), Term::Bits(width));
+    match largest(width) {
+        Some(most) => Terms::Three(number, bits, Term::Number(most)),
+        None => Terms::Two(number, bits),
     }
 }
 

@@ -1,2 +1,1 @@
 pub mod Cautions
-pub mod Stages

@@ -1,66 +1,43 @@
--- The instructions of the assembler (docs/DLX.md): the mnemonics, and the form of what follows each. Upper and lower case are taken as the same here, so
--- that a message can say of a mnemonic with capital letters what is wrong.
-use Rattle.std.specs.Prelude.{ℕ, List, [], ◌∷◌, Option, codes}
-use Rattle.std.specs.{Map.lookup, Str.str_eq_ignore_ascii_case}
-use Rattle.kp_view_texts.specs.declared.form.{Form.Form, Operand.Operand}
-use Rattle.kp_view_texts.specs.declared.form.Form.TheVariants as forms
-use Rattle.kp_view_texts.specs.declared.form.Operand.TheVariants as operands
+-- How messages write the instructions of the assembler (docs/DLX.md). Upper and lower case are taken as the same here, so that a message can say of a
+-- mnemonic with capital letters what is wrong.
+use Rattle.std.specs.Prelude.{ℕ, List, Option, codes, find}
+use Rattle.std.specs.Str.{str_eq_ignore_ascii_case}
+use Rattle.kp_asm.specs.{Mnemonics.all_mnemonics, Mnemonics.spelling, declared.mnemonic.Mnemonic.Mnemonic, declared.mnemonic.Piece.Piece}
+use Rattle.kp_asm.specs.declared.mnemonic.Mnemonic.TheVariants as mnemonics
+use Rattle.kp_asm.specs.declared.mnemonic.Piece.TheVariants as pieces
 
--- the mnemonics, each with its form
-abbrev pub instructions : List (List ℕ × Form)
-instructions =
-    (codes "add", forms.Registers) ∷ (codes "sub", forms.Registers) ∷ (codes "and", forms.Registers) ∷ (codes "or", forms.Registers)
-    ∷ (codes "xor", forms.Registers) ∷ (codes "sll", forms.Registers) ∷ (codes "srl", forms.Registers) ∷ (codes "mul", forms.Registers)
-    ∷ (codes "seq", forms.Registers) ∷ (codes "slt", forms.Registers) ∷ (codes "nop", forms.Alone)
-    ∷ (codes "addi", forms.Signed) ∷ (codes "slti", forms.Signed)
-    ∷ (codes "andi", forms.Unsigned) ∷ (codes "ori", forms.Unsigned) ∷ (codes "xori", forms.Unsigned) ∷ (codes "lhi", forms.High)
-    ∷ (codes "lw", forms.Memory) ∷ (codes "sw", forms.Memory) ∷ (codes "beqz", forms.Branch) ∷ (codes "bnez", forms.Branch)
-    ∷ (codes "j", forms.Jump) ∷ (codes "jal", forms.Jump) ∷ (codes "jr", forms.JumpRegister) ∷ (codes "jalr", forms.JumpRegister)
-    ∷ (codes ".word", forms.Word) ∷ []
+-- THE MNEMONIC with this text, if there is one.
+abbrev pub mnemonic_of : List ℕ → Option Mnemonic
+mnemonic_of word = find (λ m. str_eq_ignore_ascii_case (spelling m) word) all_mnemonics
 
--- THE FORM of the instruction with this mnemonic, if there is one.
-abbrev pub form_of : List ℕ → Option Form
-form_of word = lookup (λ mnemonic. str_eq_ignore_ascii_case mnemonic word) instructions
+-- how a message writes what follows the mnemonic
+abbrev pub form_text : Mnemonic → List ℕ
+form_text mnemonics.Addi = codes " rd, ra, number"
+form_text mnemonics.Slti = codes " rd, ra, number"
+form_text mnemonics.Andi = codes " rd, ra, number"
+form_text mnemonics.Ori = codes " rd, ra, number"
+form_text mnemonics.Xori = codes " rd, ra, number"
+form_text mnemonics.Lhi = codes " rd, number"
+form_text mnemonics.Lw = codes " rd, number(ra)"
+form_text mnemonics.Sw = codes " rd, number(ra)"
+form_text mnemonics.Beqz = codes " ra, label"
+form_text mnemonics.Bnez = codes " ra, label"
+form_text mnemonics.J = codes " label"
+form_text mnemonics.Jal = codes " label"
+form_text mnemonics.Jr = codes " ra"
+form_text mnemonics.Jalr = codes " ra"
+form_text mnemonics.Nop = codes ""
+form_text mnemonics.Word = codes " number"
+form_text _ = codes " rd, ra, rb"
 
--- `rd, ra, rb`, `rd, ra, s` and `rd, ra, u`
-abbrev pub two_registers_and : Operand → List Operand
-two_registers_and last = operands.Register ∷ operands.Comma ∷ operands.Register ∷ operands.Comma ∷ last ∷ operands.End ∷ []
-
--- THE PARTS of an instruction after the mnemonic, up to the end of the line.
-abbrev pub operands_of : Form → List Operand
-operands_of forms.Registers = two_registers_and operands.Register
-operands_of forms.Signed = two_registers_and operands.Signed
-operands_of forms.Unsigned = two_registers_and operands.Unsigned
-operands_of forms.High = operands.Register ∷ operands.Comma ∷ operands.Unsigned ∷ operands.End ∷ []
-operands_of forms.Memory =
-    operands.Register ∷ operands.Comma ∷ operands.Signed ∷ operands.Open ∷ operands.Register ∷ operands.Close ∷ operands.End ∷ []
-operands_of forms.Branch = operands.Register ∷ operands.Comma ∷ operands.Label ∷ operands.End ∷ []
-operands_of forms.Jump = operands.Label ∷ operands.End ∷ []
-operands_of forms.JumpRegister = operands.Register ∷ operands.End ∷ []
-operands_of forms.Alone = operands.End ∷ []
-operands_of forms.Word = operands.Any ∷ operands.End ∷ []
-
--- how a message writes these parts after the mnemonic
-abbrev pub form_text : Form → List ℕ
-form_text forms.Registers = codes " rd, ra, rb"
-form_text forms.Signed = codes " rd, ra, number"
-form_text forms.Unsigned = codes " rd, ra, number"
-form_text forms.High = codes " rd, number"
-form_text forms.Memory = codes " rd, number(ra)"
-form_text forms.Branch = codes " ra, label"
-form_text forms.Jump = codes " label"
-form_text forms.JumpRegister = codes " ra"
-form_text forms.Alone = codes ""
-form_text forms.Word = codes " number"
-
--- how a message names one of them: the punctuation by itself, and a number of any range in the same way
-abbrev pub operand_text : Operand → List ℕ
-operand_text operands.Register = codes "a register such as `r1`"
-operand_text operands.Signed = codes "a number"
-operand_text operands.Unsigned = codes "a number"
-operand_text operands.Any = codes "a number"
-operand_text operands.Label = codes "a label"
-operand_text operands.Comma = codes "`,`"
-operand_text operands.Open = codes "`(`"
-operand_text operands.Close = codes "`)`"
-operand_text operands.End = codes "the end of the line"
+-- how a message names a piece of an instruction: the punctuation by itself, and a number of any range in the same way
+abbrev pub piece_text : Piece → List ℕ
+piece_text pieces.Register = codes "a register such as `r1`"
+piece_text pieces.Signed = codes "a number"
+piece_text pieces.Unsigned = codes "a number"
+piece_text pieces.Any = codes "a number"
+piece_text pieces.Label = codes "a label"
+piece_text pieces.Comma = codes "`,`"
+piece_text pieces.Open = codes "`(`"
+piece_text pieces.Close = codes "`)`"
+piece_text pieces.End = codes "the end of the line"

@@ -1,10 +1,11 @@
 -- What helps where a rule of programs or of scripts is violated: for which violations there is a line of help, and what of the violation it prints.
 use Rattle.std.specs.Prelude.{◌≡◌, ◌==◌, ◌||◌, ℕ, if◌then◌else◌, List, [], ◌∷◌, length, take, count_by, find, Option, Some, None, IsSome, codes}
 use Rattle.std.specs.Str.{bytes_eq}
+use Rattle.kp_asm.specs.declared.mnemonic.Piece.{Piece}
 use Rattle.kp_view_texts.specs.Forms.{form_text}
-use Rattle.kp_view_texts.specs.declared.{form.Operand.Operand, sentence.Help.Help, program_fault.ProgramFault.ProgramFault}
+use Rattle.kp_view_texts.specs.declared.{sentence.Help.Help, program_fault.ProgramFault.ProgramFault}
 use Rattle.kp_view_texts.specs.declared.script_fault.{ScriptFault.ScriptFault, ScriptHelp.ScriptHelp, Verb.Verb}
-use Rattle.kp_view_texts.specs.declared.form.Operand.TheVariants as operands
+use Rattle.kp_asm.specs.declared.mnemonic.Piece.TheVariants as pieces
 use Rattle.kp_view_texts.specs.declared.program_fault.ProgramFault.TheVariants as programs
 use Rattle.kp_view_texts.specs.declared.script_fault.ScriptFault.TheVariants as scripts
 use Rattle.kp_view_texts.specs.declared.script_fault.ScriptHelp.TheVariants as helps
@@ -19,15 +20,15 @@ abbrev pub printed : Help → List (List ℕ)
 printed help = take (places help.text.now) (help.first.0.now ∷ help.second.0.now ∷ [])
 
 -- a number in two halves is advised for one of 16 bits with a sign
-abbrev pub range_help : Operand → Option (List (List ℕ))
-range_help operands.Signed = Some []
+abbrev pub range_help : Piece → Option (List (List ℕ))
+range_help pieces.Signed = Some []
 range_help _ = None
 
 -- THE HELP for a violated rule of programs, by the words that it prints; none where nothing is known to help.
 abbrev pub program_help : ProgramFault → Option (List (List ℕ))
 program_help (programs.NoToken byte) = if byte == 35 || byte == 47 then Some [] else None
 program_help (programs.SecondLabel word) = Some []
-program_help (programs.WrongOperand found wanted mnemonic form) = Some (mnemonic.0.now ∷ form_text form ∷ [])
+program_help (programs.WrongOperand found wanted mnemonic instruction) = Some (mnemonic.0.now ∷ form_text instruction ∷ [])
 program_help (programs.OutOfRange number mnemonic kind) = range_help kind
 program_help (programs.LabelNowhere name) = Some (name.0.now ∷ [])
 program_help _ = None

@@ -3,9 +3,10 @@ ghost use Rattle.std.specs.Prelude.{◌≡◌, OnOk, drop, length};
 ghost use Rattle.kp_view_excerpt.specs.{Lines.offset_at, Notes.AppendsNoteAt};
 ghost use Rattle.kp_view_texts.specs.{Marks.after_blanks, Marks.line_token_length, Marks.mark_in_line, Marks.program_mark};
 
-use crate::form::{Form, Operand};
+use crate::form::mnemonic_of;
 use crate::program_fault::{Found, ProgramFault};
 use crate::tokens::{count_tokens, is_name, next_token};
+use kp_asm::{Mnemonic, Piece};
 use kp_base::{NoMemory, Place, Refusal, word_length};
 use kp_view_excerpt::{excerpt_at, offset_of, write_fault};
 use kp_view_help::Word;
@@ -125,7 +126,7 @@ fn no_instruction(spot: Spot<'_>) -> ProgramFault<'_> {
     if spot.is_label() {
         return ProgramFault::SecondLabel(Word(token));
     }
-    match Form::of(token) {
+    match mnemonic_of(token) {
         Some(_) => ProgramFault::Capitals(Word(token)),
         None => ProgramFault::NoMnemonic(Word(token)),
     }
@@ -134,11 +135,11 @@ fn no_instruction(spot: Spot<'_>) -> ProgramFault<'_> {
 // A3.
 fn wrong_operand(spot: Spot<'_>) -> ProgramFault<'_> {
     match operand_at(spot.before) {
-        Some((mnemonic, form, wanted)) => ProgramFault::WrongOperand {
+        Some((mnemonic, instruction, wanted)) => ProgramFault::WrongOperand {
             found: spot.found(),
             wanted,
             mnemonic,
-            form,
+            instruction,
         },
         None => ProgramFault::Unknown,
     }
@@ -147,7 +148,7 @@ fn wrong_operand(spot: Spot<'_>) -> ProgramFault<'_> {
 // A5.
 fn out_of_range(spot: Spot<'_>) -> ProgramFault<'_> {
     match operand_at(spot.before) {
-        Some((mnemonic, _form, kind)) => ProgramFault::OutOfRange {
+        Some((mnemonic, _, kind)) => ProgramFault::OutOfRange {
             number: Word(spot.token()),
             mnemonic,
             kind,
@@ -180,12 +181,12 @@ fn line_of(text: &[u8], name: &[u8]) -> Option<usize> {
     None
 }
 
-// The mnemonic of the line that ends here, its form, and the operand that comes next.
-fn operand_at(line: &[u8]) -> Option<(Word<'_>, Form, Operand)> {
+// The mnemonic of the line that ends here, its instruction, and the piece that comes next.
+fn operand_at(line: &[u8]) -> Option<(Word<'_>, Mnemonic, Piece)> {
     let (mnemonic, operands) = instruction_of(line)?;
-    let form = Form::of(mnemonic)?;
-    let operand = form.operands().get(count_tokens(operands))?;
-    Some((Word(mnemonic), form, *operand))
+    let instruction = mnemonic_of(mnemonic)?;
+    let piece = instruction.form().get(count_tokens(operands))?;
+    Some((Word(mnemonic), instruction, *piece))
 }
 
 // The mnemonic of a line, after a label if there is one, and what follows it.

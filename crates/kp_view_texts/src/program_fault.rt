@@ -2,8 +2,9 @@
 ghost use Rattle.std.specs.Prelude.{◌≡◌, option_map};
 ghost use Rattle.kp_view_texts.specs.Helps.{printed, program_help};
 
-use crate::form::{Form, Operand};
+use crate::form::{form_text, piece_text};
 use crate::sentence::{Help, write_words};
+use kp_asm::{Mnemonic, Piece};
 use kp_view_help::{Term, Word};
 use std::fmt::{self, Display};
 
@@ -31,9 +32,9 @@ pub(crate) enum ProgramFault<'t> {
     // A3
     WrongOperand {
         found: Found<'t>,
-        wanted: Operand,
+        wanted: Piece,
         mnemonic: Word<'t>,
-        form: Form,
+        instruction: Mnemonic,
     },
     // A4
     NoRegister(Word<'t>),
@@ -41,7 +42,7 @@ pub(crate) enum ProgramFault<'t> {
     OutOfRange {
         number: Word<'t>,
         mnemonic: Word<'t>,
-        kind: Operand,
+        kind: Piece,
     },
     // A6
     LabelAgain {
@@ -93,7 +94,7 @@ impl<'t> ProgramFault<'t> {
             | ProgramFault::OutOfRange { mnemonic: word, .. } => *word,
             ProgramFault::NoInstruction(_) => Word(b"an instruction"),
             ProgramFault::WrongOperand { wanted, .. } => {
-                return Word(wanted.text().as_bytes());
+                return Word(piece_text(*wanted).as_bytes());
             }
             _ => Word(b""),
         }
@@ -153,10 +154,10 @@ impl<'t> Display for ProgramFault<'t> {
 }
 
 // The numbers that an operand may be.
-fn range(kind: Operand) -> &'static str {
+fn range(kind: Piece) -> &'static str {
     match kind {
-        Operand::Signed => "-32768 to 32767",
-        Operand::Unsigned => "0 to 65535",
+        Piece::Signed => "-32768 to 32767",
+        Piece::Unsigned => "0 to 65535",
         _ => "-2147483648 to 4294967295",
     }
 }
@@ -177,13 +178,17 @@ impl<'t> ProgramFault<'t> {
                 first: Word(b""),
                 second: Word(b""),
             }),
-            ProgramFault::WrongOperand { mnemonic, form, .. } => Some(Help {
+            ProgramFault::WrongOperand {
+                mnemonic,
+                instruction,
+                ..
+            } => Some(Help {
                 text: "the form is `{}{}`",
                 first: *mnemonic,
-                second: Word(form.text().as_bytes()),
+                second: Word(form_text(*instruction).as_bytes()),
             }),
             ProgramFault::OutOfRange {
-                kind: Operand::Signed,
+                kind: Piece::Signed,
                 ..
             } => Some(Help {
                 text: "a number of 32 bits comes in two halves: `lhi r1, 0x1234` and `ori r1, r1, 0x5678`",

@@ -1,7 +1,8 @@
 //! Why a Verilog text is rejected: for the rule and the place that its reader names, a sentence with the facts that the rule rests on, the line, and what
 //! helps.
 //!
-//! The facts come from a second pass over the text, its tokens or its tree, which asks the rules of kp_vlog again at the place.
+//! For V3 to V5 they are those of the first finding of kp_vread_rules; for V1, V2 and V6 they come from a second pass over the text, its tokens or the
+//! netlist.
 #![tactic(auto)]
 
 mod continuation;

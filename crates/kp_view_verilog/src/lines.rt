@@ -1,12 +1,11 @@
 // Offsets, lines and words of a text.
 ghost use Rattle.std.specs.Prelude.{◌≡◌, ◌≤◌, length};
-ghost use Rattle.kp_base.specs.Characters.{run_length};
-ghost use Rattle.kp_net.specs.Names.{is_in_identifier};
 ghost use Rattle.kp_vlog.specs.Tokens.{is_in_run};
 ghost use Rattle.kp_view_verilog.specs.Marks.{from_place, offset_in, run_or_byte, token_length, unread_length};
 
-use kp_base::{Place, is_word, run_length};
+use kp_base::{Place, run_length};
 use kp_view_excerpt::offset_of;
+use kp_view_verilog_faults::is_in_identifier;
 
 /// The offset of a place: of the end of the text where the text has no such place. Other than for an excerpt, a carriage return ends no line.
 pub(crate) fn offset_at(text: &[u8], place: Place) -> usize
@@ -60,21 +59,8 @@ fn run_or_byte(text: &[u8]) -> usize
     run_length(text, is_in_run).max(1)
 }
 
-/// The length of the run of letters, digits, `_` and `$` at the head of a text.
-pub(crate) fn name_length(text: &[u8]) -> usize
-    ensures { result ≡ run_length is_in_identifier text.now }
-{
-    run_length(text, is_in_identifier)
-}
-
 fn is_in_run(byte: u8) -> bool
     ensures { result ≡ is_in_run byte }
 {
     is_in_identifier(byte) || byte == b'\''
-}
-
-fn is_in_identifier(byte: u8) -> bool
-    ensures { result ≡ is_in_identifier byte }
-{
-    is_word(byte) || byte == b'$'
 }

@@ -1,9 +1,8 @@
 // Why no token begins at a place, or no module continues with one: V1 and V2.
 use crate::continuation::{following, front_of};
-use crate::lines::name_length;
 use kp_base::{NoMemory, is_digit, is_letter};
 use kp_view_help::{FoundToken, Word};
-use kp_view_verilog_faults::{Class, ReadingFault};
+use kp_view_verilog_faults::{Class, ReadingFault, name_length};
 use kp_vlog::{VKind, VToken};
 use std::alloc::Global;
 

@@ -5,12 +5,14 @@ ghost use Rattle.kp_view_verilog.specs.{Marks.Marks, Marks.from_place, Marks.tok
 
 use crate::lines::{from_place, offset_at, token_length, unread_length};
 use crate::syntax::{expected_at, found_at, no_token};
-use kp_base::{NoMemory, Place, Refusal, Refused};
+use kp_base::{Finding, NoMemory, Place, Refusal, Refused};
 use kp_view_excerpt::{Excerpt, excerpt_at, write_fault};
-use kp_view_verilog_faults::{Expected, ReadingFault};
-use kp_view_verilog_module::{driver_fault, name_fault, width_fault};
+use kp_view_verilog_faults::{
+    DriverMessage, Expected, NameMessage, ReadingFault, Source, WidthMessage,
+};
 use kp_vlog::{VModule, VToken, vlex};
 use kp_vread_parse::vparse;
+use kp_vread_rules::{ModuleFault, module_findings};
 use std::alloc::Global;
 
 /// Appends what follows the head of one of V1 to V5 for a text that begins at an offset: the message, the excerpt at its place, and what
@@ -84,7 +86,7 @@ fn write_wrong_token(
     }
 }
 
-// V3 to V5: the rules of a module.
+// V3 to V5: the first finding in the module.
 fn write_of_module(
     alloc: Global,
     out: &mut Vec<u8>,
@@ -92,63 +94,53 @@ fn write_of_module(
     module: &VModule,
     refusal: Refusal,
 ) -> Result<(), NoMemory>
+    requires { length text.now ≤ 2 ^ 32 - 2 }
     ensures { OnOk result (AppendsNoteAt text.now refusal.place (token_length (from_place text.now refusal.place)) out.old.items out.new.items) }
 {
     let excerpt = excerpt_of(text, refusal.place);
-    let at = offset_at(text, refusal.place);
-    match refusal.number {
-        3 => write_names(alloc, out, text, &excerpt, module, at),
-        4 => write_widths(alloc, out, text, &excerpt, module, at),
-        5 => write_drivers(alloc, out, text, &excerpt, module, at),
-        _ => write_unknown(alloc, out, &excerpt),
+    let findings = module_findings(alloc, text, module, 1)?;
+    match findings.as_slice() {
+        [finding, ..] => write_finding(alloc, out, text, &excerpt, *finding),
+        [] => write_unknown(alloc, out, &excerpt),
     }
 }
 
-fn write_names(
+fn write_finding(
     alloc: Global,
     out: &mut Vec<u8>,
     text: &[u8],
     excerpt: &Excerpt<'_>,
-    module: &VModule,
-    at: usize,
+    finding: Finding<ModuleFault>,
 ) -> Result<(), NoMemory>
     ensures { OnOk result (AppendsNote excerpt.now out.old.items out.new.items) }
 {
-    match name_fault(alloc, text, module, at)? {
-        Some(fault) => write_fault(alloc, out, excerpt, &fault, &fault.help()),
-        None => write_unknown(alloc, out, excerpt),
-    }
-}
-
-fn write_widths(
-    alloc: Global,
-    out: &mut Vec<u8>,
-    text: &[u8],
-    excerpt: &Excerpt<'_>,
-    module: &VModule,
-    at: usize,
-) -> Result<(), NoMemory>
-    ensures { OnOk result (AppendsNote excerpt.now out.old.items out.new.items) }
-{
-    match width_fault(alloc, text, module, at)? {
-        Some(fault) => write_fault(alloc, out, excerpt, &fault, &fault.help()),
-        None => write_unknown(alloc, out, excerpt),
-    }
-}
-
-fn write_drivers(
-    alloc: Global,
-    out: &mut Vec<u8>,
-    text: &[u8],
-    excerpt: &Excerpt<'_>,
-    module: &VModule,
-    at: usize,
-) -> Result<(), NoMemory>
-    ensures { OnOk result (AppendsNote excerpt.now out.old.items out.new.items) }
-{
-    match driver_fault(alloc, text, module, at)? {
-        Some(fault) => write_fault(alloc, out, excerpt, &fault, &fault.help()),
-        None => write_unknown(alloc, out, excerpt),
+    let source = Source(text);
+    let name = source.name_at(offset_at(text, finding.place));
+    match finding.fault {
+        ModuleFault::Name(fault) => {
+            let message = NameMessage {
+                source,
+                name,
+                fault,
+            };
+            write_fault(alloc, out, excerpt, &message, &message.help())
+        }
+        ModuleFault::Width(fault) => {
+            let message = WidthMessage {
+                source,
+                name,
+                fault,
+            };
+            write_fault(alloc, out, excerpt, &message, &message.help())
+        }
+        ModuleFault::Driver(fault) => {
+            let message = DriverMessage {
+                source,
+                name,
+                fault,
+            };
+            write_fault(alloc, out, excerpt, &message, &message.help())
+        }
     }
 }
 

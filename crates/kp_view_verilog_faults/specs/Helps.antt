@@ -1,14 +1,14 @@
 -- What helps where a rule of Verilog texts is violated: for which violations there is a line of help, and what of the violation it prints.
 use Rattle.std.specs.Prelude.{◌≡◌, ◌==◌, ◌||◌, ◌+◌, ◌*◌, ◌^◌, ◌<◌, ◌≤◌, ℕ, if◌then◌else◌, List, [], ◌∷◌, take, count_by, Option, Some, None}
-use Rattle.kp_view_verilog_faults.specs.declared.{driver_fault.DriverFault.DriverFault, help.Help.Help, reading_fault.ReadingFault.ReadingFault}
-use Rattle.kp_view_verilog_faults.specs.declared.name_fault.{Kind.Kind, NameFault.NameFault, Wanted.Wanted}
-use Rattle.kp_view_verilog_faults.specs.declared.width_fault.{WidthFault.WidthFault, WidthHelp.WidthHelp}
-use Rattle.kp_view_verilog_faults.specs.declared.driver_fault.DriverFault.TheVariants as drivers
+use Rattle.kp_view_help.specs.declared.word.Word.{Word}
+use Rattle.kp_vread_rules.specs.declared.fault.{DriverFault.DriverFault, Kind.Kind, NameFault.NameFault, Wanted.Wanted, WidthFault.WidthFault}
+use Rattle.kp_view_verilog_faults.specs.declared.{help.Help.Help, reading_fault.ReadingFault.ReadingFault, width_fault.WidthHelp.WidthHelp}
+use Rattle.kp_vread_rules.specs.declared.fault.DriverFault.TheVariants as drivers
 use Rattle.kp_view_verilog_faults.specs.declared.reading_fault.ReadingFault.TheVariants as readings
-use Rattle.kp_view_verilog_faults.specs.declared.name_fault.Kind.TheVariants as kinds
-use Rattle.kp_view_verilog_faults.specs.declared.name_fault.NameFault.TheVariants as names
-use Rattle.kp_view_verilog_faults.specs.declared.name_fault.Wanted.TheVariants as wanted
-use Rattle.kp_view_verilog_faults.specs.declared.width_fault.WidthFault.TheVariants as widths
+use Rattle.kp_vread_rules.specs.declared.fault.Kind.TheVariants as kinds
+use Rattle.kp_vread_rules.specs.declared.fault.NameFault.TheVariants as names
+use Rattle.kp_vread_rules.specs.declared.fault.Wanted.TheVariants as wanted
+use Rattle.kp_vread_rules.specs.declared.fault.WidthFault.TheVariants as widths
 use Rattle.kp_view_verilog_faults.specs.declared.width_fault.WidthHelp.TheVariants as helps
 
 -- the name that a line of help prints, if it has a place `{}` for one
@@ -25,14 +25,14 @@ abbrev pub wire_help : Kind → Wanted → List ℕ → Option (List (List ℕ))
 wire_help kinds.Wire wanted.Source name = Some (name ∷ [])
 wire_help _ _ name = None
 
--- THE HELP for a violation of V3.
-abbrev pub name_help : NameFault → Option (List (List ℕ))
-name_help (names.Port name port) = Some []
-name_help (names.NoPort name) = Some []
-name_help (names.Below name line) = Some []
-name_help (names.WrongKind name kind line place) = wire_help kind place name.0.now
-name_help (names.NoWire name) = Some (name.0.now ∷ [])
-name_help _ = None
+-- THE HELP for a violation of V3 by this name.
+abbrev pub name_help : List ℕ → NameFault → Option (List (List ℕ))
+name_help name (names.WrongPort port) = Some []
+name_help name names.NoPort = Some []
+name_help name (names.DeclaredLate declared) = Some []
+name_help name (names.WrongKind kind declared place) = wire_help kind place name
+name_help name names.NoWire = Some (name ∷ [])
+name_help name _ = None
 
 -- the number has this many bits, and the highest one is 1
 abbrev pub HasBits : ℕ → ℕ → Type 0
@@ -43,23 +43,23 @@ abbrev pub IsLiteral : ℕ → Option WidthHelp → Type 0
 IsLiteral value (Some (helps.Literal width number)) = (number ≡ value) × HasBits width value
 IsLiteral value _ = ⊥
 
--- THE HELP for a violation of V4: the literal with the bits that it needs, or the loop over the words of the file.
-abbrev pub HelpsWidth : WidthFault → Option WidthHelp → Type 0
-HelpsWidth (widths.LiteralValue value width) help = IsLiteral value help
-HelpsWidth (widths.Loop file words) help = help ≡ Some (helps.Loop file words)
-HelpsWidth _ help = help ≡ None
+-- THE HELP for a violation of V4 at this name: the literal with the bits that it needs, or the loop over the words of the file.
+abbrev pub HelpsWidth : Word → WidthFault → Option WidthHelp → Type 0
+HelpsWidth name (widths.LiteralValue value width) help = IsLiteral value help
+HelpsWidth name (widths.Loop words) help = help ≡ Some (helps.Loop name words)
+HelpsWidth name _ help = help ≡ None
 
--- THE HELP for a violation of V5.
-abbrev pub driver_help : DriverFault → Option (List (List ℕ))
-driver_help (drivers.NeverAssigned name) = Some (name.0.now ∷ [])
-driver_help (drivers.NoValue name) = Some (name.0.now ∷ [])
-driver_help (drivers.NoStart name) = Some (name.0.now ∷ [])
-driver_help (drivers.NoUpdate name) = Some (name.0.now ∷ [])
-driver_help (drivers.NoFill name) = Some (name.0.now ∷ [])
-driver_help (drivers.Itself name) = Some []
-driver_help (drivers.UpdatedAgain name line) = Some []
-driver_help (drivers.AssignedAgain name line) = Some []
-driver_help (drivers.AssignedLate name line) = Some []
-driver_help (drivers.Wide name) = Some []
-driver_help drivers.NoResetForm = Some []
-driver_help _ = None
+-- THE HELP for a violation of V5 by this name.
+abbrev pub driver_help : List ℕ → DriverFault → Option (List (List ℕ))
+driver_help name drivers.NeverAssigned = Some (name ∷ [])
+driver_help name drivers.NoValue = Some (name ∷ [])
+driver_help name drivers.NoStart = Some (name ∷ [])
+driver_help name drivers.NoUpdate = Some (name ∷ [])
+driver_help name drivers.NoFill = Some (name ∷ [])
+driver_help name drivers.Itself = Some []
+driver_help name (drivers.UpdatedAgain first) = Some []
+driver_help name (drivers.AssignedAgain first) = Some []
+driver_help name (drivers.AssignedLate assigned) = Some []
+driver_help name drivers.Wide = Some []
+driver_help name drivers.NoResetList = Some []
+driver_help name _ = None

@@ -1,2 +1,3 @@
 pub mod Helps
 pub mod Marks
+pub mod Sources

@@ -1,6 +1,6 @@
-//! The ways to violate the rules of Verilog texts (V1 to V6), with the facts that the rule rests on, the sentence for each, and what helps.
+//! The sentences for the ways to violate the rules of Verilog texts (V1 to V6), and what helps.
 //!
-//! They own nothing: names are slices of the source text or of its tree.
+//! They own nothing: names are slices of the source text. How a module violates V3, V4 or V5 is found by kp_vread_rules.
 #![tactic(auto)]
 
 mod class;
@@ -10,12 +10,14 @@ mod name_fault;
 mod other_fault;
 mod reading_fault;
 mod sentence;
+mod source;
 mod width_fault;
 
 pub use class::{Class, mark_text};
-pub use driver_fault::DriverFault;
+pub use driver_fault::DriverMessage;
 pub use help::Help;
-pub use name_fault::{Form, Kind, NameFault, Wanted};
+pub use name_fault::NameMessage;
 pub use other_fault::{OtherFault, OtherHelp};
 pub use reading_fault::{Expected, ReadingFault};
-pub use width_fault::{Side, WidthFault, WidthHelp};
+pub use source::{Source, is_in_identifier, name_length};
+pub use width_fault::{WidthHelp, WidthMessage};

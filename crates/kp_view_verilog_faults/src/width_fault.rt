@@ -3,101 +3,28 @@ ghost use Rattle.kp_view_verilog_faults.specs.Helps.{HasBits, HelpsWidth};
 
 use crate::class::mark_text;
 use crate::sentence::{write_bits, write_named, write_numbers};
+use crate::source::Source;
 use kp_bits::BinOp;
 use kp_view_help::{Term, Terms, Word, write_phrase};
 use kp_vlog::Mark;
+use kp_vread_rules::{Side, WidthFault};
 use std::fmt::{self, Display};
 
-/// A name with its width and the line of its declaration.
+/// The sentence for a violated rule of widths, and what helps.
 #[derive(Clone, Copy)]
-pub struct Side<'m> {
-    pub name: Word<'m>,
-    pub width: u64,
-    pub line: usize,
+pub struct WidthMessage<'t> {
+    pub source: Source<'t>,
+    /// The name at the place.
+    pub name: Word<'t>,
+    pub fault: WidthFault,
 }
 
-impl<'m> Display for Side<'m> {
-    fn fmt<W: fmt::Write>(&self, f: &mut fmt::Formatter<W>) -> fmt::Result {
-        write_named(f, "`{}` (line {})", self.name, self.line as u64)?;
-        write_bits(f, " has ", self.width)
-    }
-}
-
-/// A violated rule of widths.
-#[derive(Clone, Copy)]
-pub enum WidthFault<'m> {
-    Range,
-    StallRange(Word<'m>),
-    BackRange,
-    Words,
-    Files,
-    /// The value has another width than the target.
-    Value {
-        target: Side<'m>,
-        found: u64,
-    },
-    /// The operands have other widths than the target.
-    Operands {
-        op: BinOp,
-        a: Side<'m>,
-        b: Side<'m>,
-        target: Side<'m>,
-    },
-    /// The operands of a comparison.
-    Compared {
-        op: BinOp,
-        a: Side<'m>,
-        b: Side<'m>,
-    },
-    Comparison {
-        op: BinOp,
-        target: Side<'m>,
-    },
-    Shifted {
-        op: BinOp,
-        a: Side<'m>,
-        target: Side<'m>,
-    },
-    Test(Side<'m>),
-    Branches {
-        a: Side<'m>,
-        b: Side<'m>,
-        target: Side<'m>,
-    },
-    /// Bits that a wire doesn't have.
-    Slice {
-        high: u64,
-        low: u64,
-        a: Side<'m>,
-    },
-    Address {
-        address: Side<'m>,
-        file: Word<'m>,
-        wanted: u64,
-    },
-    LiteralWidth(u64),
-    LiteralValue {
-        value: u64,
-        width: u64,
-    },
-    /// The number of a word that the file doesn't have.
-    Index {
-        file: Word<'m>,
-        words: u64,
-        found: u64,
-    },
-    Loop {
-        file: Word<'m>,
-        words: u64,
-    },
-}
-
-impl<'m> WidthFault<'m> {
+impl<'t> WidthMessage<'t> {
     // The first part of the sentence, in which the name and the number are printed.
     fn text(&self) -> &'static str {
-        match self {
+        match self.fault {
             WidthFault::Range => "a range is `[h:0]`, where h is 63 at most",
-            WidthFault::StallRange(_) => "the range of `{}` is `[h:0]`, where h is 1 to 11",
+            WidthFault::StallRange => "the range of `{}` is `[h:0]`, where h is 1 to 11",
             WidthFault::BackRange => "the range of `back` is `[3:0]`",
             WidthFault::Words =>
                 "the words of a file are `[0:w]`, where w + 1 is 2, 4, 8 or another power of 2 up to 65,536",
@@ -121,88 +48,100 @@ impl<'m> WidthFault<'m> {
     }
 
     // The name that is printed in it. Branches that call for different texts don't join: they return.
-    fn name(&self) -> Word<'m> {
-        match self {
-            WidthFault::StallRange(name) => *name,
+    fn printed_name(&self) -> Word<'t> {
+        match self.fault {
             WidthFault::Operands { op, .. }
             | WidthFault::Compared { op, .. }
             | WidthFault::Shifted { op, .. } => {
-                return Word(spelling(*op).as_bytes());
+                return Word(spelling(op).as_bytes());
             }
-            WidthFault::Address { file, .. }
-            | WidthFault::Index { file, .. }
-            | WidthFault::Loop { file, .. } => *file,
-            _ => Word(b""),
+            WidthFault::Address { file, .. } => self.source.name_at(file as usize),
+            _ => self.name,
         }
     }
 
     // The number that is printed in it.
     fn number(&self) -> u64 {
-        match self {
+        match self.fault {
             WidthFault::Index { words, .. } => words.saturating_sub(1),
-            WidthFault::Loop { words, .. } => *words,
+            WidthFault::Loop { words } => words,
             _ => 0,
+        }
+    }
+
+    // A name with its width and the line of its declaration.
+    fn sized(&self, side: Side) -> Sized<'t> {
+        Sized {
+            name: self.source.name_at(side.name as usize),
+            line: self.source.line_at(side.declared),
+            width: bits(side.width),
         }
     }
 }
 
-impl<'m> Display for WidthFault<'m> {
+impl<'t> Display for WidthMessage<'t> {
     fn fmt<W: fmt::Write>(&self, f: &mut fmt::Formatter<W>) -> fmt::Result {
-        write_named(f, self.text(), self.name(), self.number())?;
-        match self {
+        write_named(f, self.text(), self.printed_name(), self.number())?;
+        match self.fault {
             WidthFault::Value { target, found } => {
-                write_side(f, *target, ", and this value has ", *found)
+                self.sized(target).fmt(f)?;
+                write_bits(f, ", and this value has ", bits(found))
             }
             WidthFault::Operands { a, b, target, .. } | WidthFault::Branches { a, b, target } => {
-                write_three(f, *target, *a, *b)
+                self.sized(target).fmt(f)?;
+                f.write_str(", ")?;
+                write_two(f, self.sized(a), self.sized(b))
             }
-            WidthFault::Compared { a, b, .. } => write_two(f, *a, *b),
-            WidthFault::Comparison { op, target } => write_test(f, *op, *target),
-            WidthFault::Shifted { a, target, .. } => write_two(f, *target, *a),
-            WidthFault::Test(side) => side.fmt(f),
-            WidthFault::Slice { high, low, a } => write_slice(f, *high, *low, a.width),
+            WidthFault::Compared { a, b, .. } => write_two(f, self.sized(a), self.sized(b)),
+            WidthFault::Comparison { op, target } => write_test(f, op, self.sized(target)),
+            WidthFault::Shifted { a, target, .. } => {
+                write_two(f, self.sized(target), self.sized(a))
+            }
+            WidthFault::Test(side) => self.sized(side).fmt(f),
+            WidthFault::Slice { high, low, width } => write_slice(f, high, low, bits(width)),
             WidthFault::Address {
                 address,
                 wanted,
                 ..
-            } => write_address(f, *address, *wanted),
+            } => { write_address(f, self.sized(address), u64::from(wanted)) }
             WidthFault::LiteralWidth(width) => width.fmt(f),
-            WidthFault::LiteralValue { value, width } => write_literal(f, *value, *width),
+            WidthFault::LiteralValue { value, width } => write_literal(f, value, width),
             WidthFault::Index { found, .. } => {
-                write_numbers(f, "{} isn't one of them", *found, 0)
+                write_numbers(f, "{} isn't one of them", found, 0)
             }
             _ => Ok(()),
         }
     }
 }
 
-// A name with its width, a text, and a number of bits.
-fn write_side<W: fmt::Write>(
-    f: &mut fmt::Formatter<W>,
-    side: Side<'_>,
-    text: &str,
-    count: u64,
-) -> fmt::Result {
-    side.fmt(f)?;
-    write_bits(f, text, count)
+// A width that is printed: the greatest 64-bit number where it is greater.
+fn bits(width: u128) -> u64 {
+    match u64::try_from(width) {
+        Ok(width) => width,
+        Err(_) => u64::MAX,
+    }
 }
 
-fn write_three<W: fmt::Write>(
-    f: &mut fmt::Formatter<W>,
-    target: Side<'_>,
-    a: Side<'_>,
-    b: Side<'_>,
-) -> fmt::Result {
-    target.fmt(f)?;
-    f.write_str(", ")?;
-    write_two(f, a, b)
+// A name with its width and the line of its declaration.
+#[derive(Clone, Copy)]
+struct Sized<'t> {
+    name: Word<'t>,
+    line: u64,
+    width: u64,
+}
+
+impl<'t> Display for Sized<'t> {
+    fn fmt<W: fmt::Write>(&self, f: &mut fmt::Formatter<W>) -> fmt::Result {
+        write_named(f, "`{}` (line {})", self.name, self.line)?;
+        write_bits(f, " has ", self.width)
+    }
 }
 
 // The target of a comparison, and the operator.
 fn write_test<W: fmt::Write>(
     f: &mut fmt::Formatter<W>,
     op: BinOp,
-    target: Side<'_>,
+    target: Sized<'_>,
 ) -> fmt::Result {
     target.fmt(f)?;
     write_named(
@@ -216,7 +155,7 @@ fn write_test<W: fmt::Write>(
 // The width that is wanted of an address, and the address.
 fn write_address<W: fmt::Write>(
     f: &mut fmt::Formatter<W>,
-    address: Side<'_>,
+    address: Sized<'_>,
     wanted: u64,
 ) -> fmt::Result {
     write_bits(f, "", wanted)?;
@@ -249,7 +188,7 @@ fn write_slice<W: fmt::Write>(
     )
 }
 
-fn write_two<W: fmt::Write>(f: &mut fmt::Formatter<W>, a: Side<'_>, b: Side<'_>) -> fmt::Result {
+fn write_two<W: fmt::Write>(f: &mut fmt::Formatter<W>, a: Sized<'_>, b: Sized<'_>) -> fmt::Result {
     a.fmt(f)?;
     f.write_str(" and ")?;
     b.fmt(f)
@@ -273,24 +212,24 @@ fn spelling(op: BinOp) -> &'static str {
 
 /// What helps where a rule of widths is violated.
 #[derive(Clone, Copy)]
-pub enum WidthHelp<'m> {
+pub enum WidthHelp<'t> {
     Literal { width: u64, value: u64 },
-    Loop { file: Word<'m>, words: u64 },
+    Loop { file: Word<'t>, words: u64 },
 }
 
-impl<'m> WidthFault<'m> {
+impl<'t> WidthMessage<'t> {
     /// What helps, if anything is known to.
-    pub fn help(&self) -> Option<WidthHelp<'m>>
-        ensures { HelpsWidth self.now result }
+    pub fn help(&self) -> Option<WidthHelp<'t>>
+        ensures { HelpsWidth self.now.name self.now.fault result }
     {
-        match self {
+        match self.fault {
             WidthFault::LiteralValue { value, .. } => Some(WidthHelp::Literal {
-                width: bits_of(*value),
-                value: *value,
+                width: bits_of(value),
+                value,
             }),
-            WidthFault::Loop { file, words } => Some(WidthHelp::Loop {
-                file: *file,
-                words: *words,
+            WidthFault::Loop { words } => Some(WidthHelp::Loop {
+                file: self.name,
+                words,
             }),
             _ => None,
         }
@@ -304,7 +243,7 @@ fn bits_of(value: u64) -> u64
     (64 - value.leading_zeros()) as u64
 }
 
-impl<'m> WidthHelp<'m> {
+impl<'t> WidthHelp<'t> {
     // The line, in which the terms are printed.
     fn text(&self) -> &'static str {
         match self {
@@ -314,7 +253,7 @@ impl<'m> WidthHelp<'m> {
     }
 
     // The terms of the line.
-    fn terms(&self) -> Terms<'m> {
+    fn terms(&self) -> Terms<'t> {
         match self {
             WidthHelp::Literal { width, value } => Terms::Three(
                 Term::Bits(*width),
@@ -328,7 +267,7 @@ impl<'m> WidthHelp<'m> {
     }
 }
 
-impl<'m> Display for WidthHelp<'m> {
+impl<'t> Display for WidthHelp<'t> {
     fn fmt<W: fmt::Write>(&self, f: &mut fmt::Formatter<W>) -> fmt::Result {
         write_phrase(f, self.text(), &self.terms())
     }

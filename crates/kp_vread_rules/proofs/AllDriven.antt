@@ -2,7 +2,8 @@
 use Rattle.std.proofs.Common.{◌≡◌, ◌∙◌, ℕ, ◌+◌, ◌<◌, List, [], ◌∷◌, ◌++◌, length, get_or, drop, Bool, true, false, Option, Some, None, refl, sym, ap, subst, map}
 use Rattle.std.{proofs.lemmas.List.drop_more, specs.Prelude.not, specs.Prelude.◌||◌, specs.Prelude.codes, specs.Prelude.if◌then◌else◌, specs.Option.is_some}
 use Rattle.kp_vlog.specs.Occurrences.{Occurrence, Role, occurs, declares_port, declares_wire, declares_reg, declares_file, uses_wire, uses_source, gives_no_wire, is_given, wires_used, operands, right_names, items_names, inits_names, values_names, reset_names, updates_names, samples_names, reset_port_names, wide_port_names, header_names, body_names, names}
-use Rattle.kp_vlog.specs.Rules.{Driven, drives, driver_fits, bad_driver, nothing, items_given, inits_started, inits_filled, updates_updated, updates_written, reset_values, all_driven, module_driver}
+use Rattle.kp_vlog.specs.Rules.{Driven, drives, driver_fits, nothing, items_given, inits_started, inits_filled, updates_updated, updates_written, reset_values, all_driven}
+use Rattle.kp_vread_rules.specs.DriverFaults.{driver_answer, driver_fault, drivers_asked}
 use Rattle.kp_vlog.specs.declared.tree.{Named.Named, VPort.VPort, Right.Right, Item.Item, Init.Init, ResetValue.ResetValue, ResetList.ResetList, Update.Update}
 use Rattle.kp_vlog.specs.{declared.tree.VModule.VModule, Scope.is_output_name}
 use Rattle.kp_vlog.specs.declared.tree.Right.TheVariants as sides
@@ -20,7 +21,7 @@ one_before all i o d e z h w a b =
     let first : drop i all ≡ o ∷ drop (i + 1) all = drop_more all i o h ∙ ap (λ x. x ∷ drop (i + 1) all) (sym w) in
     subst (λ xs. AlikeDriven e (all_by (map occurrence_of xs) z)) (sym first)
     (joined e (drives d (occurrence_of o).role o.named.now.name) (drives (all_by (map occurrence_of (drop (i + 1) all)) z) (occurrence_of o).role o.named.now.name) b
-    (same_drives false nothing d (all_by (map occurrence_of (drop (i + 1) all)) z) (occurrence_of o).role o.named.now.name a))
+    (same_drives [] false nothing d (all_by (map occurrence_of (drop (i + 1) all)) z) (occurrence_of o).role o.named.now.name a))
   where
     both : (xs ys zs : List (List ℕ)) → Alike xs ys → Alike ys zs → Alike xs zs
     both xs ys zs p q = record { same_names = λ n. p.same_names n ∙ q.same_names n }
@@ -43,11 +44,18 @@ fit_of_all resets d e so_far declares_reg n a = rw (a.started.same_names n, a.up
 fit_of_all resets d e so_far declares_file n a = a.filled.same_names n
 fit_of_all resets d e so_far _ n a = refl
 
-pub bad_of_all : (resets : Bool) (d e so_far : Driven) (os : List Occurrence) → AlikeDriven d e → bad_driver resets d so_far os ≡ bad_driver resets e so_far os
-bad_of_all resets d e so_far [] a = refl
-bad_of_all resets d e so_far (o ∷ os) a =
-    ap (λ b. if b then bad_driver resets d (drives so_far o.role o.named.name) os else Some o.named.at) (fit_of_all resets d e so_far o.role o.named.name a)
-    ∙ ap (λ r. if driver_fits resets e so_far o.role o.named.name then r else Some o.named.at) (bad_of_all resets d e (drives so_far o.role o.named.name) os a)
+fault_of_all : (os : List Occurrence) (d e : Driven) (r : Role) (n : Named) → AlikeDriven d e → driver_fault os d r n ≡ driver_fault os e r n
+fault_of_all os d e declares_reg n a = rw (a.started.same_names n.name, a.updated.same_names n.name) refl
+fault_of_all os d e _ n a = refl
+
+answer_of_all : (os : List Occurrence) (resets : Bool) (d e so_far : Driven) (o : Occurrence) → AlikeDriven d e → driver_answer os resets d so_far o ≡ driver_answer os resets e so_far o
+answer_of_all os resets d e so_far o a = rw (fit_of_all resets d e so_far o.role o.named.name a, fault_of_all os d e o.role o.named a) refl
+
+asked_of_all : (os : List Occurrence) (resets : Bool) (d e so_far : Driven) (xs : List Occurrence) → AlikeDriven d e → drivers_asked os resets d so_far xs ≡ drivers_asked os resets e so_far xs
+asked_of_all os resets d e so_far [] a = refl
+asked_of_all os resets d e so_far (o ∷ xs) a =
+    ap (λ x. x ∷ drivers_asked os resets d (drives so_far o.role o.named.name) xs) (answer_of_all os resets d e so_far o a)
+    ∙ ap (λ ys. driver_answer os resets e so_far o ∷ ys) (asked_of_all os resets d e (drives so_far o.role o.named.name) xs a)
 
 -- What the parts of a module drive.
 append : (xs ys : List Occurrence) (d : Driven) → all_by (xs ++ ys) d ≡ all_by xs (all_by ys d)
@@ -144,8 +152,9 @@ names_drive m =
     ∙ items_drive m.items (record (all_driven m) { given = [] })
     ∙ rw (whole_list (items_given m.items)) refl
 
--- the first violating driver of a module, by what its names drive
-pub module_bad : (m : VModule) (d : Driven) (os : List Occurrence) → os ≡ names m → AlikeDriven d (all_by os nothing) → bad_driver (is_some m.reset) d nothing os ≡ module_driver m
-module_bad m d os e a =
-    ap (bad_driver (is_some m.reset) d nothing) e
-    ∙ bad_of_all (is_some m.reset) d (all_driven m) nothing (names m) (subst (λ x. AlikeDriven d x) (ap (λ xs. all_by xs nothing) e ∙ names_drive m) a)
+-- the drivers of a module, by what its names drive
+pub module_asked : (m : VModule) (d : Driven) (os : List Occurrence) → os ≡ names m → AlikeDriven d (all_by os nothing)
+    → drivers_asked os (is_some m.reset) d nothing os ≡ drivers_asked (names m) (is_some m.reset) (all_driven m) nothing (names m)
+module_asked m d os e a =
+    ap (λ xs. drivers_asked xs (is_some m.reset) d nothing xs) e
+    ∙ asked_of_all (names m) (is_some m.reset) d (all_driven m) nothing (names m) (subst (λ x. AlikeDriven d x) (ap (λ xs. all_by xs nothing) e ∙ names_drive m) a)

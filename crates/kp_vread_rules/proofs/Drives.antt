@@ -1,12 +1,14 @@
--- Continuing past a name whose driver fits.
-use Rattle.std.proofs.Common.{◌≡◌, ◌∙◌, ℕ, ◌+◌, ◌<◌, List, [], ◌∷◌, length, get_or, drop, Bool, true, false, Option, Some, Result, Err, refl, sym, ap, subst, map}
-use Rattle.std.{proofs.lemmas.List.drop_more, specs.Prelude.not, specs.Prelude.if◌then◌else◌}
+-- Going on to the next name, and what is driven so far.
+use Rattle.std.proofs.Common.{◌≡◌, ◌∙◌, ℕ, ◌+◌, ◌<◌, List, [], ◌∷◌, length, get_or, drop, Bool, refl, ap, map}
+use Rattle.std.specs.Prelude.{not, option_map}
+use Rattle.kp_base.{specs.Check.answer, specs.Findings.Collected, specs.Findings.with_answer, specs.Findings.with_answers, specs.declared.finding.Finding.Finding, proofs.Collecting.step}
 use Rattle.kp_vlog.specs.Occurrences.{Occurrence, Role, gives, uses_wire, starts_reg, starts_word, fills_file, resets_reg, updates_reg, updates_file, is_given}
-use Rattle.kp_vlog.specs.Rules.{Driven, drives, driver_fits, bad_driver}
-use Rattle.kp_vread_rules.specs.{inner.Sets.Adds, inner.Sets.AlikeDriven, inner.Roles.role_of, inner.Says.Says, declared.fault.Fault.Fault}
-use Rattle.kp_vread_rules.specs.{inner.Listed.occurrence_of, declared.names.Occurrence.Occurrence as Listed}
-use Rattle.kp_vread_rules.proofs.Turns.{alike_itself, alike_added, one_more, when_true}
-use Rattle.kp_vread_rules.specs.declared.fault.Fault.TheVariants as faults
+use Rattle.kp_vlog.specs.Rules.{Driven, drives, driver_fits}
+use Rattle.kp_vread_rules.specs.{inner.Sets.Adds, inner.Sets.AlikeDriven, inner.Roles.role_of, inner.Listed.occurrence_of}
+use Rattle.kp_vread_rules.specs.{DriverFaults.driver_answer, DriverFaults.driver_fault, DriverFaults.drivers_asked, Faults.found, Faults.in_text, Faults.placed}
+use Rattle.kp_vread_rules.specs.declared.{names.Occurrence.Occurrence as Listed, fault.ModuleFault.ModuleFault}
+use Rattle.kp_vread_rules.proofs.Turns.{alike_itself, alike_added, one_more}
+use Rattle.kp_vread_rules.specs.declared.fault.ModuleFault.TheVariants as modules
 
 pub as_before : (d : Driven) → AlikeDriven d d
 as_before d = record {
@@ -37,7 +39,7 @@ module _ (d : Driven) (names : List (List ℕ)) (n : List ℕ) where
   pub written_more : Adds d.written names n → AlikeDriven (record d { written = names }) (record d { written = n ∷ d.written })
   written_more a = record { given = alike_itself d.given; started = alike_itself d.started; filled = alike_itself d.filled; reset = alike_itself d.reset; updated = alike_itself d.updated; written = alike_added d.written names n a }
 
-module _ (resets : Bool) (all : Driven) where
+module _ (os : List Occurrence) (resets : Bool) (all : Driven) where
   same_fit : (d e : Driven) (r : Role) (n : List ℕ) → AlikeDriven d e → driver_fits resets all d r n ≡ driver_fits resets all e r n
   same_fit d e gives n a = ap not (a.given.same_names n)
   same_fit d e uses_wire n a = a.given.same_names n
@@ -58,18 +60,21 @@ module _ (resets : Bool) (all : Driven) where
   same_drives d e updates_file n a = record { given = a.given; started = a.started; filled = a.filled; reset = a.reset; updated = a.updated; written = one_more d.written e.written n a.written }
   same_drives d e _ n a = a
 
-  same_bad : (d e : Driven) (os : List Occurrence) → AlikeDriven d e → bad_driver resets all d os ≡ bad_driver resets all e os
-  same_bad d e [] a = refl
-  same_bad d e (o ∷ os) a =
-      ap (λ b. if b then bad_driver resets all (drives d o.role o.named.name) os else Some o.named.at) (same_fit d e o.role o.named.name a)
-      ∙ ap (λ r. if driver_fits resets all e o.role o.named.name then r else Some o.named.at) (same_bad (drives d o.role o.named.name) (drives e o.role o.named.name) os (same_drives d e o.role o.named.name a))
+  same_answer : (d e : Driven) (o : Occurrence) → AlikeDriven d e → driver_answer os resets all d o ≡ driver_answer os resets all e o
+  same_answer d e o a = ap (λ b. answer b (found o.named.at (modules.Driver (driver_fault os all o.role o.named)))) (same_fit d e o.role o.named.name a)
 
-  pub turn : (whole : List Listed) (i : ℕ) (o : Listed) (d e : Driven) (bad : Option ℕ) → i < length whole → o ≡ get_or whole i o
-      → driver_fits resets all d (role_of o.role) o.named.now.name ≡ true → AlikeDriven e (drives d (role_of o.role) o.named.now.name)
-      → bad_driver resets all d (map occurrence_of (drop i whole)) ≡ bad → bad_driver resets all e (map occurrence_of (drop (i + 1) whole)) ≡ bad
-  turn whole i o d e bad h at f a b =
+  same_asked : (d e : Driven) (xs : List Occurrence) → AlikeDriven d e → drivers_asked os resets all d xs ≡ drivers_asked os resets all e xs
+  same_asked d e [] a = refl
+  same_asked d e (o ∷ xs) a =
+      ap (λ x. x ∷ drivers_asked os resets all (drives d o.role o.named.name) xs) (same_answer d e o a)
+      ∙ ap (λ ys. driver_answer os resets all e o ∷ ys) (same_asked (drives d o.role o.named.name) (drives e o.role o.named.name) xs (same_drives d e o.role o.named.name a))
+
+  -- past a name
+  pub turn : (text : List ℕ) (whole : List Listed) (i : ℕ) (o : Listed) (d e : Driven) (n n' : Collected (Finding ModuleFault)) → i < length whole → o ≡ get_or whole i o
+      → n' ≡ with_answer n (option_map (placed text) (driver_answer os resets all d (occurrence_of o))) → AlikeDriven e (drives d (role_of o.role) o.named.now.name)
+      → with_answers n' (in_text text (drivers_asked os resets all e (map occurrence_of (drop (i + 1) whole)))) ≡ with_answers n (in_text text (drivers_asked os resets all d (map occurrence_of (drop i whole))))
+  turn text whole i o d e n n' h at noted a =
       let rest = map occurrence_of (drop (i + 1) whole) in
-      same_bad e (drives d (role_of o.role) o.named.now.name) rest a
-      ∙ when_true (driver_fits resets all d (role_of o.role) o.named.now.name) (bad_driver resets all (drives d (role_of o.role) o.named.now.name) rest) (Some o.named.now.at) f
-      ∙ ap (λ x. bad_driver resets all d (occurrence_of x ∷ rest)) at
-      ∙ ap (λ xs. bad_driver resets all d (map occurrence_of xs)) (sym (drop_more whole i o h)) ∙ b
+      ap (λ xs. with_answers n' (in_text text xs)) (same_asked e (drives d (role_of o.role) o.named.now.name) rest a)
+      ∙ ap (λ k. with_answers k (in_text text (drivers_asked os resets all (drives d (role_of o.role) o.named.now.name) rest))) noted
+      ∙ step (λ xs. with_answers n (in_text text (drivers_asked os resets all d (map occurrence_of xs)))) whole i o h at

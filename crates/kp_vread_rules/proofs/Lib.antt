@@ -7,3 +7,5 @@ pub mod Breaking
 pub mod StartValues
 pub mod Firsts
 pub mod Sizing
+pub mod Noting
+pub mod Ports

@@ -1,18 +1,22 @@
 -- The sizes of names by a table, and the rules of widths by it.
 use Rattle.std.proofs.Common.{◌≡◌, ◌∙◌, ℕ, ◌+◌, ◌<◌, List, [], ◌∷◌, ◌++◌, length, get_or, drop, map, Bool, true, false, cond, Option, Some, None, refl, sym, ap, subst, arith}
-use Rattle.std.{proofs.lemmas.List.drop_more, specs.Prelude.nat_lt, specs.Prelude.◌&&◌, specs.Prelude.if◌then◌else◌, specs.Map.lookup}
+use Rattle.std.{proofs.lemmas.List.drop_more, specs.Prelude.◌^◌, specs.Prelude.nat_lt, specs.Prelude.◌&&◌, specs.Prelude.if◌then◌else◌, specs.Map.lookup}
+use Rattle.kp_base.specs.First.{first}
 use Rattle.kp_net.specs.Names.{same}
 use Rattle.kp_vlog.specs.Scope.{Scope, Sized, Sizes, scope_of, sizes_of, width_in, address_in, address_width, or_zero, place_of, port_size, item_sizes, file_names}
-use Rattle.kp_vlog.specs.Rules.{want, range_fits, words_fit, width_sum, right_fits, right_answers, items_answers, start_answers, inits_answers, init_answers, reset_values, values_answers, update_answer, updates_answers, width_answers}
+use Rattle.kp_vlog.specs.Rules.{range_fits, words_fit, width_sum, right_fits, reset_values}
 use Rattle.kp_vlog.specs.declared.tree.{Named.Named, Lit.Lit, VPort.VPort, Right.Right, Item.Item, Init.Init, ResetValue.ResetValue, Update.Update}
-use Rattle.kp_vlog.specs.{declared.tree.VModule.VModule, Occurrences.names, Occurrences.header_names, Occurrences.items_names, Occurrences.body_names}
+use Rattle.kp_vlog.specs.{declared.tree.VModule.VModule, Occurrences.Occurrence, Occurrences.names, Occurrences.header_names, Occurrences.items_names, Occurrences.body_names}
 use Rattle.kp_vlog.proofs.{Scans.NamesFit, Scans.names_front, Scans.names_behind, Known.Fresh, Known.fresh_files, Known.place_at}
 use Rattle.kp_vlog.specs.declared.tree.Right.TheVariants as sides
 use Rattle.kp_vlog.specs.declared.tree.Item.TheVariants as lines
 use Rattle.kp_vlog.specs.declared.tree.Init.TheVariants as starts
 use Rattle.kp_vlog.specs.declared.tree.Update.TheVariants as edges
 use Rattle.kp_vread_rules.specs.{declared.sizes.Size.Size, Tables.sized_of, Tables.AlikeSizes}
-use Rattle.kp_vread_rules.specs.inner.Sizing.{with_item, by_sizes, items_by, width_by}
+use Rattle.kp_vread_rules.specs.inner.Sizing.{with_item, by_sizes, items_by, widths_by}
+use Rattle.kp_vread_rules.specs.WidthFaults.{wrong, file_fault, op_fault, side, value_fault, word_fault, right_fault, literal_asked, item_asked, start_asked, words_in, init_asked, value_asked, update_asked, items_asked, inits_asked, values_asked, updates_asked, widths_asked}
+use Rattle.kp_vread_rules.specs.declared.fault.WidthFault.{WidthFault}
+use Rattle.kp_vread_rules.specs.declared.fault.WidthFault.TheVariants as faults
 use Rattle.kp_vread_rules.proofs.StartValues.{turned}
 
 -- What the table has.
@@ -132,7 +136,7 @@ all_sized m is ps none s0 s1 s2 s3 s4 s5 ei ep en a0 a1 a2 a3 a4 a5 =
 
 -- The rules of widths, by equal sizes.
 
-module _ (ss : Sizes) (s : Scope) (a : AlikeSizes ss s.sizes) where
+module _ (ss : Sizes) (s : Scope) (a : AlikeSizes ss s.sizes) (os : List Occurrence) where
   sum_same : (parts : List Named) → width_sum ss parts ≡ width_sum s.sizes parts
   sum_same [] = refl
   sum_same (n ∷ parts) = rw (a.widths n.name, sum_same parts) refl
@@ -150,30 +154,52 @@ module _ (ss : Sizes) (s : Scope) (a : AlikeSizes ss s.sizes) where
   assign_same : (t : Named) (r : Right) → right_fits ss (width_in ss t.name) r ≡ right_fits s.sizes (width_in s.sizes t.name) r
   assign_same t r = ap (λ w. right_fits ss w r) (a.widths t.name) ∙ right_same (width_in s.sizes t.name) r
 
-  start_same : (n : Named) (l : Lit) (holds more : Bool) → holds ≡ more → start_answers (by_sizes ss) n l holds ≡ start_answers s n l more
-  start_same n l holds more e = rw (a.widths n.name, e) refl
+  side_same : (n : Named) → side ss os n ≡ side s.sizes os n
+  side_same n = rw (a.widths n.name) refl
 
-  init_same : (x : Init) → init_answers (by_sizes ss) x ≡ init_answers s x
-  init_same (starts.Reg n l) = start_same n l true true refl
-  init_same (starts.Word n i l) = start_same n l _ _ (rw (a.addresses n.name) refl)
-  init_same (starts.Fill f) = start_same f.file f.value _ _ (rw (a.addresses f.file.name) refl)
+  value_same : (t : Named) (k j : ℕ) → k ≡ j → value_fault ss os t k ≡ value_fault s.sizes os t j
+  value_same t k j e = rw (side_same t, e) refl
 
-  inits_same : (xs : List Init) → inits_answers (by_sizes ss) xs ≡ inits_answers s xs
+  word_same : (f x t : Named) (k j : ℕ) → k ≡ j → word_fault ss os f x t k ≡ word_fault s.sizes os f x t j
+  word_same f x t k j e = rw (a.widths x.name, a.addresses f.name, a.widths t.name, e) refl
+
+  fault_same : (t : Named) (r : Right) → right_fault ss os t r ≡ right_fault s.sizes os t r
+  fault_same t (sides.Literal l) = value_same t _ _ refl
+  fault_same t (sides.Name n) = value_same t _ _ (a.widths n.name)
+  fault_same t (sides.Not n) = value_same t _ _ (a.widths n.name)
+  fault_same t (sides.Binary op x y) = ap (λ p. op_fault op p (side ss os y) (side ss os t)) (side_same x) ∙ ap (λ p. op_fault op (side s.sizes os x) p (side ss os t)) (side_same y) ∙ ap (op_fault op (side s.sizes os x) (side s.sizes os y)) (side_same t)
+  fault_same t (sides.Choice c x y) = rw (a.widths c.name, a.widths x.name, a.widths y.name, a.widths t.name) refl
+  fault_same t (sides.Slice x high low) = rw (a.widths x.name, a.widths t.name) refl
+  fault_same t (sides.Word f x) = word_same f x t _ _ (a.widths f.name)
+  fault_same t (sides.Concat parts) = value_same t _ _ (sum_same parts)
+
+  start_same : (n : Named) (l : Lit) (holds more : Bool) (other fault : WidthFault) → holds ≡ more → other ≡ fault → start_asked (by_sizes ss) os n l holds other ≡ start_asked s os n l more fault
+  start_same n l holds more other fault e f = rw (a.widths n.name, e, f) refl
+
+  words_same : (n : Named) → words_in (by_sizes ss) os n ≡ words_in s os n
+  words_same n = ap (λ (k : ℕ). 2 ^ k) (a.addresses n.name)
+
+  init_same : (x : Init) → init_asked (by_sizes ss) os x ≡ init_asked s os x
+  init_same (starts.Reg n l) = start_same n l true true _ _ refl (value_same n _ _ refl)
+  init_same (starts.Word n i l) = start_same n l _ _ _ _ (ap (nat_lt i.value) (words_same n)) (ap (λ k. faults.Index k i.value) (words_same n))
+  init_same (starts.Fill f) = start_same f.file f.value _ _ _ _ (rw (a.addresses f.file.name) refl) (ap faults.Loop (words_same f.file))
+
+  inits_same : (xs : List Init) → inits_asked (by_sizes ss) os xs ≡ inits_asked s os xs
   inits_same [] = refl
-  inits_same (x ∷ xs) = ap (λ os. os ++ inits_answers (by_sizes ss) xs) (init_same x) ∙ ap (λ os. init_answers s x ++ os) (inits_same xs)
+  inits_same (x ∷ xs) = ap (λ o. first o ∷ inits_asked (by_sizes ss) os xs) (init_same x) ∙ ap (λ ys. first (init_asked s os x) ∷ ys) (inits_same xs)
 
-  values_same : (xs : List ResetValue) → values_answers (by_sizes ss) xs ≡ values_answers s xs
+  values_same : (xs : List ResetValue) → values_asked (by_sizes ss) os xs ≡ values_asked s os xs
   values_same [] = refl
   values_same (x ∷ xs) =
-      ap (λ os. os ++ values_answers (by_sizes ss) xs) (start_same x.name x.value true true refl) ∙ ap (λ os. start_answers s x.name x.value true ++ os) (values_same xs)
+      ap (λ o. first o ∷ values_asked (by_sizes ss) os xs) (start_same x.name x.value true true _ _ refl (value_same x.name _ _ refl)) ∙ ap (λ ys. first (value_asked s os x) ∷ ys) (values_same xs)
 
-  update_same : (x : Update) → update_answer (by_sizes ss) x ≡ update_answer s x
+  update_same : (x : Update) → update_asked (by_sizes ss) os x ≡ update_asked s os x
   update_same (edges.Reg n v) = rw (a.widths v.name, a.widths n.name) refl
   update_same (edges.File t f x v) = rw (a.widths t.name, a.widths x.name, a.addresses f.name, a.widths v.name, a.widths f.name) refl
 
-  updates_same : (xs : List Update) → updates_answers (by_sizes ss) xs ≡ updates_answers s xs
+  updates_same : (xs : List Update) → updates_asked (by_sizes ss) os xs ≡ updates_asked s os xs
   updates_same [] = refl
-  updates_same (x ∷ xs) = ap (λ o. o ∷ updates_answers (by_sizes ss) xs) (update_same x) ∙ ap (λ os. update_answer s x ∷ os) (updates_same xs)
+  updates_same (x ∷ xs) = ap (λ o. o ∷ updates_asked (by_sizes ss) os xs) (update_same x) ∙ ap (λ ys. update_asked s os x ∷ ys) (updates_same xs)
 
   module _ (known : List (List ℕ)) (fresh : Fresh known s.files) where
     behind : (front : List (List ℕ)) (n : List ℕ) (rest : List (List ℕ)) → (get_or (front ++ n ∷ rest) (length front) [] ≡ n) × (length front < length (front ++ n ∷ rest))
@@ -194,26 +220,27 @@ module _ (ss : Sizes) (s : Scope) (a : AlikeSizes ss s.sizes) where
     longer [] n = refl
     longer (k ∷ front) n = omega (arith, longer front n)
 
-    items_same : (front : List (List ℕ)) (k : ℕ) (xs : List Item) → k ≡ length front → s.files ≡ front ++ file_names xs → items_by ss k xs ≡ items_answers s xs
+    items_same : (front : List (List ℕ)) (k : ℕ) (xs : List Item) → k ≡ length front → s.files ≡ front ++ file_names xs → items_by ss os k xs ≡ items_asked s os xs
     items_same front k [] h e = refl
-    items_same front k (lines.Reg r n ∷ xs) h e = ap (λ os. want (range_fits r) n.at ∷ os) (items_same front k xs h e)
+    items_same front k (lines.Reg r n ∷ xs) h e = ap (λ ys. first (item_asked s os (lines.Reg r n)) ∷ ys) (items_same front k xs h e)
     items_same front k (lines.File r n w ∷ xs) h e =
-        ap (λ j. want (range_fits r && (words_fit w && nat_lt j 16)) n.at ∷ items_by ss (k + 1) xs) (h ∙ sym (number front n.name (file_names xs) e))
-        ∙ ap (λ os. want (range_fits r && (words_fit w && nat_lt (place_of s.files n.name) 16)) n.at ∷ os)
+        ap (λ j. first (wrong (range_fits r && (words_fit w && nat_lt j 16)) n.at (file_fault r w) ∷ []) ∷ items_by ss os (k + 1) xs) (h ∙ sym (number front n.name (file_names xs) e))
+        ∙ ap (λ ys. first (item_asked s os (lines.File r n w)) ∷ ys)
         (items_same (front ++ n.name ∷ []) (k + 1) xs (ap (λ j. j + 1) h ∙ longer front n.name) (e ∙ one_more front n.name (file_names xs)))
-    items_same front k (lines.Integer n ∷ xs) h e = items_same front k xs h e
-    items_same front k (lines.Wire r n ∷ xs) h e = ap (λ os. want (range_fits r) n.at ∷ os) (items_same front k xs h e)
+    items_same front k (lines.Integer n ∷ xs) h e = ap (λ ys. None ∷ ys) (items_same front k xs h e)
+    items_same front k (lines.Wire r n ∷ xs) h e = ap (λ ys. first (item_asked s os (lines.Wire r n)) ∷ ys) (items_same front k xs h e)
     items_same front k (lines.Assign t r ∷ xs) h e =
-        ap (λ b. want b t.at ∷ (right_answers r ++ items_by ss k xs)) (assign_same t r)
-        ∙ ap (λ os. want (right_fits s.sizes (width_in s.sizes t.name) r) t.at ∷ (right_answers r ++ os)) (items_same front k xs h e)
+        ap (λ b. first (wrong b t.at (right_fault ss os t r) ∷ literal_asked r) ∷ items_by ss os k xs) (assign_same t r)
+        ∙ ap (λ f. first (wrong (right_fits s.sizes (width_in s.sizes t.name) r) t.at f ∷ literal_asked r) ∷ items_by ss os k xs) (fault_same t r)
+        ∙ ap (λ ys. first (item_asked s os (lines.Assign t r)) ∷ ys) (items_same front k xs h e)
 
-pub width_same : (m : VModule) (ss : Sizes) → NamesFit [] (names m) → AlikeSizes ss (sizes_of m) → width_by ss m ≡ width_answers m
+pub width_same : (m : VModule) (ss : Sizes) → NamesFit [] (names m) → AlikeSizes ss (sizes_of m) → widths_by ss (names m) m ≡ widths_asked m
 width_same m ss fit a =
     let fresh = fresh_files _ m.items (names_front _ (items_names m.items) (body_names m) (names_behind [] (header_names m) (items_names m.items ++ body_names m) fit)) in
     let s = scope_of m in
     rw (
-      items_same ss s a _ fresh [] 0 m.items refl refl,
-      inits_same ss s a m.inits,
-      values_same ss s a (reset_values m.reset),
-      updates_same ss s a m.updates,
+      items_same ss s a (names m) _ fresh [] 0 m.items refl refl,
+      inits_same ss s a (names m) m.inits,
+      values_same ss s a (names m) (reset_values m.reset),
+      updates_same ss s a (names m) m.updates,
     ) refl

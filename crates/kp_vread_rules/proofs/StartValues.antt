@@ -1,10 +1,9 @@
 -- A table of start values, line by line.
-use Rattle.std.proofs.Common.{◌≡◌, ◌∙◌, ℕ, ◌+◌, ◌<◌, List, [], ◌∷◌, length, get_or, drop, Bool, true, false, cond, Option, Some, refl, sym, ap, arith}
-use Rattle.std.{proofs.lemmas.List.drop_more, specs.Prelude.nat_eq, specs.Prelude.if◌then◌else◌}
+use Rattle.std.proofs.Common.{◌≡◌, ◌∙◌, ℕ, ◌+◌, ◌<◌, List, [], ◌∷◌, length, get_or, drop, Option, refl, sym, ap, arith}
+use Rattle.std.{proofs.lemmas.List.drop_more, specs.Prelude.nat_eq}
 use Rattle.kp_bits.specs.declared.literal.Literal.{Literal}
 use Rattle.kp_net.specs.Names.{same}
-use Rattle.kp_vlog.specs.{declared.tree.Named.Named, declared.tree.Lit.Lit, declared.tree.Init.Init, Occurrences.start_in}
-use Rattle.kp_vlog.specs.declared.tree.Init.TheVariants as starts
+use Rattle.kp_vlog.specs.{declared.tree.Init.Init, Occurrences.start_in}
 use Rattle.kp_vread_rules.specs.inner.StartValues.{StartsAt}
 
 nat_same : (a b : ℕ) → nat_eq a b ≡ nat_eq b a

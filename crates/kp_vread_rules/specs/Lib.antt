@@ -1,3 +1,10 @@
 pub mod Broken
+pub mod DriverFaults
+pub mod Faults
+pub mod Findings
+pub mod Firsts
 pub mod inner
+pub mod NameFaults
+pub mod Ports
 pub mod Tables
+pub mod WidthFaults

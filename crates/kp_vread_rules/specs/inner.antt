@@ -2,8 +2,8 @@
 pub mod Sets
 pub mod Roles
 pub mod Listed
-pub mod Says
 pub mod Starting
-pub mod Refusing
 pub mod StartValues
 pub mod Sizing
+pub mod Asking
+pub mod Driving

@@ -1,18 +1,15 @@
 // The rules V3 to V5 of a module.
-ghost use Rattle.std.specs.Prelude.{◌≡◌, ◌≤◌, ◌-◌, ◌^◌, [], None, length, MatchResult};
-ghost use Rattle.kp_base.specs.First.{first};
+ghost use Rattle.std.specs.Prelude.{◌≡◌, ◌≤◌, ◌-◌, ◌^◌, ◌||◌, nat_le, length, take, None, IfOk, MatchResult};
 ghost use Rattle.kp_vlog.specs.Occurrences.{names as names_of};
-ghost use Rattle.kp_vlog.specs.Rules.{broken, bad_name, width_answers};
-ghost use Rattle.kp_vread_rules.specs.Broken.{IsBroken};
-ghost use Rattle.kp_vread_rules.specs.inner.Refusing.{refusal_at};
-ghost use Rattle.kp_vread_rules.specs.inner.Says.{Says};
+ghost use Rattle.kp_vlog.specs.Rules.{broken};
+ghost use Rattle.kp_vread_rules.specs.{Broken.IsBroken, Findings.module_findings};
 
-use crate::bad_width;
-use crate::driver_rule::check_module_drivers;
-use crate::fault::Fault;
-use crate::name_rule::check_names;
+use crate::driver_rule::driver_findings;
+use crate::fault::{ModuleFault, refusal_of};
+use crate::name_rule::name_findings;
 use crate::names::Names;
-use kp_base::{Refusal, Refused, place_of};
+use crate::width_rule::width_findings;
+use kp_base::{Finding, Findings, NoMemory, Refused};
 use kp_vlog::VModule;
 use std::alloc::Global;
 
@@ -24,60 +21,56 @@ pub fn check_module(alloc: Global, text: &[u8], whole: &VModule) -> Result<(), R
     requires { length text.now ≤ 2 ^ 32 - 2 }
     ensures { MatchResult result (λ _. broken whole.now ≡ None) (IsBroken text.now whole.now) }
 {
-    let names = Names::new(alloc, whole)?;
-    let checked = check_rules(alloc, text, whole, &names);
-    drop(names);
-    checked
+    let findings = module_findings(alloc, text, whole, 1)?;
+    match findings.as_slice() {
+        [first, ..] => Err(Refused::Rule(refusal_of(*first))),
+        [] => Ok(()),
+    }
 }
 
-// Checks that a module with these names violates none of the rules V3 to V5.
-fn check_rules(
+/// The ways in which a module of the text violates the rules V3 to V5, up to this number. The first of them is the verdict.
+///
+/// The only error is out of memory.
+pub fn module_findings(
+    alloc: Global,
+    text: &[u8],
+    whole: &VModule,
+    most: usize,
+) -> Result<Findings<Finding<ModuleFault>>, NoMemory>
+    requires { length text.now ≤ 2 ^ 32 - 2 }
+    ensures { IfOk result (λ f. f.found ≡ take most (module_findings text.now whole.now)) }
+{
+    let names = Names::new(alloc, whole)?;
+    findings_of(alloc, text, whole, &names, most)
+}
+
+// Those of a module with these names.
+fn findings_of(
     alloc: Global,
     text: &[u8],
     whole: &VModule,
     names: &Names<'_>,
-) -> Result<(), Refused>
+    most: usize,
+) -> Result<Findings<Finding<ModuleFault>>, NoMemory>
     requires text { length text.now ≤ 2 ^ 32 - 2 }
     requires names { names.now ≡ names_of whole.now }
-    ensures { MatchResult result (λ _. broken whole.now ≡ None) (IsBroken text.now whole.now) }
+    ensures { IfOk result (λ f. f.found ≡ take most (module_findings text.now whole.now)) }
 {
-    if let Err(fault) = check_names(alloc, names) {
-        return Err(refuse(text, 3, fault));
+    let of_names = name_findings(alloc, text, names, most)?;
+    if ends(&of_names, most) {
+        return Ok(of_names);
     }
-    if let Err(fault) = check_widths(alloc, whole) {
-        return Err(refuse(text, 4, fault));
+    let of_widths = width_findings(alloc, text, whole, names, most)?;
+    if ends(&of_widths, most) {
+        return Ok(of_widths);
     }
-    if let Err(fault) = check_module_drivers(alloc, whole, names) {
-        return Err(refuse(text, 5, fault));
-    }
-    Ok(())
+    driver_findings(alloc, text, whole, names, most)
 }
 
-// Checks that a module with correct names obeys the rule of widths.
-fn check_widths(alloc: Global, whole: &VModule) -> Result<(), Fault>
-    requires { bad_name [] (names_of whole.now) ≡ None }
-    ensures { Says result (first (width_answers whole.now)) }
+// Whether no other rule is checked after these findings, of which there are up to this number.
+fn ends(findings: &Findings<Finding<ModuleFault>>, most: usize) -> bool
+    ensures { result ≡ (nat_le most (length findings.now.found) || nat_le 1 (length findings.now.found)) }
 {
-    match bad_width(alloc, whole)? {
-        Some(at) => Err(Fault::Broken(at)),
-        None => Ok(()),
-    }
-}
-
-// A rule that is violated at an offset. No offset is past the end of the text; if one were, its position would be the end.
-fn refuse(text: &[u8], rule: u8, fault: Fault) -> Refused
-    requires { length text.now ≤ 2 ^ 32 - 2 }
-    ensures { result ≡ refusal_at text.now rule fault }
-{
-    match fault {
-        Fault::Broken(at) => {
-            let end = text.len() as u32;
-            if at < end {
-                Refused::Rule(Refusal::v(rule, place_of(text, at)))
-            } else {
-                Refused::Rule(Refusal::v(rule, place_of(text, end)))
-            }
-        }
-        Fault::NoMemory => Refused::NoMemory,
-    }
+    let count = findings.as_slice().len();
+    most <= count || 1 <= count
 }

@@ -1,20 +1,22 @@
 // Rule V5: each wire, output, register and file is driven as often as required, and no wire is used before it has a value.
-ghost use Rattle.std.specs.Prelude.{◌≡◌, map, OnOk};
-ghost use Rattle.kp_vlog.specs.Rules.{Driven as Drivers, driver_fits, drives, bad_driver, module_driver, nothing};
+ghost use Rattle.std.specs.Prelude.{◌≡◌, ◌≤◌, ◌-◌, ◌^◌, length, map, take, if◌then◌else◌, IfOk, OnOk};
+ghost use Rattle.kp_base.specs.Findings.{with_answers};
+ghost use Rattle.kp_net.specs.Names.{among};
+ghost use Rattle.kp_vlog.specs.Rules.{Driven as Drivers, driver_fits, drives, nothing};
 ghost use Rattle.kp_vlog.specs.Occurrences.{names as names_of};
-ghost use Rattle.kp_vread_rules.specs.inner.Roles.{role_of};
-ghost use Rattle.kp_vread_rules.specs.inner.Listed.{occurrence_of};
-ghost use Rattle.kp_vread_rules.specs.inner.Sets.{AlikeDriven, all_by};
-ghost use Rattle.kp_vread_rules.specs.inner.Says.{Says};
+ghost use Rattle.kp_vread_rules.specs.{DriverFaults.driver_answer, DriverFaults.driver_fault, DriverFaults.unassigned, DriverFaults.unmet, Faults.in_text, Findings.driver_findings as specified, Firsts.first_that, Firsts.is_target};
+ghost use Rattle.kp_vread_rules.specs.declared.fault.DriverFault.TheVariants as faults;
+ghost use Rattle.kp_vread_rules.specs.inner.{Driving.asked_in, Listed.occurrence_of, Roles.role_of, Sets.AlikeDriven, Sets.all_by};
 
-use crate::fault::Fault;
+use crate::fault::{DriverFault, Found, ModuleFault, placed};
+use crate::first::{Sought, first, first_at};
 use crate::name_set::NameSet;
 use crate::names::{Names, Occurrence};
 use crate::role::Role;
 use crate::spelling::is_output;
-use kp_base::NoMemory;
+use kp_base::{Finding, Findings, NoMemory};
 use kp_net::Label;
-use kp_vlog::VModule;
+use kp_vlog::{Named, VModule};
 use std::alloc::Global;
 use std::marker::Model;
 
@@ -109,37 +111,29 @@ impl<'m> Driven<'m> {
     }
 }
 
-/// Checks that a module obeys the rule. Errors: the offset of the first of its names that violates it, or out of memory.
-pub(crate) fn check_module_drivers(
+/// The names of a module that violate the rule, up to this number. The only error is out of memory.
+pub(crate) fn driver_findings(
     alloc: Global,
+    text: &[u8],
     whole: &VModule,
     names: &Names<'_>,
-) -> Result<(), Fault>
-    requires { names.now ≡ names_of whole.now }
-    ensures { Says result (module_driver whole.now) }
+    most: usize,
+) -> Result<Findings<Finding<ModuleFault>>, NoMemory>
+    requires text { length text.now ≤ 2 ^ 32 - 2 }
+    requires names { names.now ≡ names_of whole.now }
+    ensures { IfOk result (λ f. f.found ≡ take most (specified text.now whole.now)) }
 {
     let mut all = Driven::new(alloc);
     let mut so_far = Driven::new(alloc);
-    let checked = check_whole(whole, names, &mut all, &mut so_far);
-    drop(so_far);
-    drop(all);
-    checked
-}
-
-// The same, with a set for what the names drive.
-fn check_whole<'m>(
-    whole: &VModule,
-    names: &Names<'m>,
-    all: &mut Driven<'m>,
-    so_far: &mut Driven<'m>,
-) -> Result<(), Fault>
-    requires names { names.now ≡ names_of whole.now }
-    requires all { all.old ≡ nothing }
-    requires so_far { so_far.old ≡ nothing }
-    ensures { Says result (module_driver whole.now) }
-{
-    drive_all(all, names.list())?;
-    check_drivers(whole.reset.is_some(), all, so_far, names.list())
+    let mut findings = Findings::new(alloc, most);
+    drive_all(&mut all, names.list())?;
+    let asked = Asked {
+        resets: whole.reset.is_some(),
+        all: &all,
+        names: names.list(),
+    };
+    note_drivers(text, &asked, &mut so_far, &mut findings)?;
+    Ok(findings)
 }
 
 // Adds what the names drive, from the last one on. The only error is out of memory.
@@ -155,22 +149,120 @@ fn drive_all<'m>(all: &mut Driven<'m>, names: &[Occurrence<'m>]) -> Result<(), N
     Ok(())
 }
 
-// Checks that no name of the list violates the rule, given what the complete module drives, and what is driven so far. Errors: the offset of the
-// first one that does, or out of memory.
-fn check_drivers<'m>(
+// The names of a module, and what they drive; whether there is a reset list.
+#[derive(Drop)]
+struct Asked<'a, 'm> {
     resets: bool,
-    all: &Driven<'m>,
+    all: &'a Driven<'m>,
+    names: &'a [Occurrence<'m>],
+}
+
+// The names that violate the rule, given what is driven so far.
+fn note_drivers<'m>(
+    text: &[u8],
+    asked: &Asked<'_, 'm>,
     so_far: &mut Driven<'m>,
-    names: &[Occurrence<'m>],
-) -> Result<(), Fault>
-    ensures { Says result (bad_driver resets all.now so_far.old (map occurrence_of names.now)) }
+    findings: &mut Findings<Finding<ModuleFault>>,
+) -> Result<(), NoMemory>
+    requires { length text.now ≤ 2 ^ 32 - 2 }
+    ensures { OnOk result (findings.new ≡ with_answers findings.old (in_text text.now (asked_in asked.now so_far.old (map occurrence_of asked.now.names.now)))) }
 {
-    for occurrence in names {
-        let name = &occurrence.named.name;
-        if !so_far.fits(resets, all, occurrence.role, name) {
-            return Err(Fault::Broken(occurrence.named.at));
+    for occurrence in asked.names {
+        if findings.is_full() {
+            return Ok(());
         }
-        so_far.drive(occurrence.role, name)?;
+        findings.note(placed(text, wrong_driver(asked, so_far, *occurrence)))?;
+        so_far.drive(occurrence.role, &occurrence.named.name)?;
     }
     Ok(())
+}
+
+// A name that violates the rule, given what is driven so far.
+fn wrong_driver<'m>(
+    asked: &Asked<'_, 'm>,
+    so_far: &Driven<'m>,
+    occurrence: Occurrence<'m>,
+) -> Option<Found>
+    ensures { result ≡ driver_answer (map occurrence_of asked.now.names.now) asked.now.resets asked.now.all.now so_far.now (occurrence_of occurrence.entry) }
+{
+    let Occurrence { role, named } = occurrence;
+    if so_far.fits(asked.resets, asked.all, role, &named.name) {
+        return None;
+    }
+    Some(Found {
+        at: named.at,
+        fault: ModuleFault::Driver(driver_fault(asked, role, named)),
+    })
+}
+
+// Why a name violates the rule.
+fn driver_fault<'m>(asked: &Asked<'_, 'm>, role: Role, named: &'m Named) -> DriverFault
+    ensures { result ≡ driver_fault (map occurrence_of asked.now.names.now) asked.now.all.now (role_of role) named.now }
+{
+    match role {
+        Role::DeclaresPort(_) => DriverFault::NoValue,
+        Role::DeclaresWire => DriverFault::NeverAssigned,
+        Role::DeclaresReg => register_fault(asked.all, &named.name),
+        Role::DeclaresFile => DriverFault::NoFill,
+        Role::Gives => DriverFault::AssignedAgain {
+            first: first_at(asked.names, Sought::Target, named),
+        },
+        Role::UsesWire => unassigned(asked.names, named),
+        Role::StartsReg => DriverFault::StartedAgain {
+            first: first_at(asked.names, Sought::Start, named),
+        },
+        Role::StartsWord => DriverFault::FilledLate,
+        Role::FillsFile => DriverFault::FilledAgain {
+            first: first_at(asked.names, Sought::Fill, named),
+        },
+        Role::ResetsReg => DriverFault::ResetAgain {
+            first: first_at(asked.names, Sought::Reset, named),
+        },
+        Role::UpdatesReg | Role::UpdatesFile => DriverFault::UpdatedAgain {
+            first: first_at(asked.names, Sought::Update, named),
+        },
+        _ => unmet(asked.names, named),
+    }
+}
+
+// A register without a start value, an update, or a line of the reset list.
+fn register_fault<'m>(all: &Driven<'m>, name: &'m Label) -> DriverFault
+    ensures { result ≡ (if among all.now.started name.now then (if among all.now.updated name.now then faults.NoReset else faults.NoUpdate) else faults.NoStart) }
+{
+    if !all.started.has(name) {
+        DriverFault::NoStart
+    } else if !all.updated.has(name) {
+        DriverFault::NoUpdate
+    } else {
+        DriverFault::NoReset
+    }
+}
+
+// A wire that is used before it is assigned.
+fn unassigned(names: &[Occurrence<'_>], named: &Named) -> DriverFault
+    ensures { result ≡ unassigned named.now.at (first_that is_target named.now.name (map occurrence_of names.now)) }
+{
+    match first(names, Sought::Target, named.name.bytes()) {
+        Some(found) if found.named.at < named.at => DriverFault::Itself,
+        Some(found) => DriverFault::AssignedLate {
+            assigned: found.named.at,
+        },
+        None => DriverFault::NeverAssigned,
+    }
+}
+
+// What a name needs of the module.
+fn unmet(names: &[Occurrence<'_>], named: &Named) -> DriverFault
+    ensures { result ≡ unmet (map occurrence_of names.now) named.now }
+{
+    let name = named.name.bytes();
+    if name == b"rst".as_slice() {
+        return DriverFault::NoResetList;
+    }
+    if is_output(name) {
+        return DriverFault::Wide;
+    }
+    DriverFault::OtherStart {
+        start: first_at(names, Sought::Start, named),
+    }
 }

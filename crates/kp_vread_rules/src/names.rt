@@ -2,7 +2,7 @@
 ghost use Rattle.std.specs.Prelude.{◌≡◌, ◌++◌, ◌∷◌, [], codes, map, if◌then◌else◌, IfOk, OnOk};
 ghost use Rattle.kp_vlog.specs.Occurrences.{names_module, uses_wire, uses_source, uses_integer, occurs, wires_used, operands, right_names, item_names, items_names, init_names, inits_names, update_names, updates_names, declares_port, samples_names, reset_port_names, wide_port_names, header_names, body_names, names, is_literal, reset_names};
 ghost use Rattle.std.specs.Option.{is_some};
-ghost use Rattle.kp_vread_rules.specs.inner.Roles.{port_name, role_of};
+ghost use Rattle.kp_vread_rules.specs.{Ports.port_name, inner.Roles.role_of};
 ghost use Rattle.kp_vread_rules.specs.Tables.{found};
 ghost use Rattle.kp_vread_rules.specs.inner.Listed.{occurrence_of};
 ghost use Rattle.kp_vread_rules.specs.inner.Starting.{values_by};

@@ -2,7 +2,7 @@
 use Rattle.std.proofs.Common.{◌≡◌, ◌∙◌, ℕ, suc, ◌+◌, List, [], ◌∷◌, ◌++◌, Option, Some, None, Bool, true, false, cond, not, length, fold, nat_eq, refl, ap, sym, subst, arith, append-nil, append_assoc}
 use Rattle.std.{proofs.lemmas.Bool.eq-eqb, specs.Prelude.slice_get, specs.Prelude.is_some, specs.Prelude.unwrap_or}
 use Rattle.std.specs.Cmp.Lexicographic.{pointwise, bytes_decides}
-use Rattle.kp_base.specs.{Check.ok, Check.◌>>=◌, Refusal.e_rule}
+use Rattle.kp_base.specs.{Check.ok, Check.◌>>=◌}
 use Rattle.kp_bits.specs.{Word.Word, Operators.no_word}
 use Rattle.kp_ast.specs.Expressions.{Env, Calls, names_of, arguments_of, is_function, calls_after, calls_of, no_calls, value_of_call}
 use Rattle.kp_ast.specs.{Checked.Known, Checked.checked, Checked.checked_call, Checked.checked_calls_after, Checked.checked_calls_of, declared.tree.Param.Param}
@@ -11,12 +11,13 @@ use Rattle.kp_ast.specs.Expressions as values
 use Rattle.kp_ast.specs.declared.tree.Decl.TheVariants as decls
 use Rattle.kp_ast.specs.declared.widths.Scope.TheVariants as scopes
 use Rattle.kp_ast.specs.declared.widths.NameKind.TheVariants as kinds
+use Rattle.kp_width.specs.declared.fault.Destination.TheVariants as to
 use Rattle.kp_width.specs.Names.{Sense, sense, Names, Scoped, nothing, look_up, or_else, find, fresh, is_callee, is_value_in, declared_local, with_text}
 use Rattle.kp_width.specs.Expressions.{params_of, params_in, part_of, width_at, value_of}
 use Rattle.kp_width.specs.Declarations.{declared, parameters_of, function_opened, function_of, declaration_of, declarations_of, functions_in}
 use Rattle.kp_width.specs.Soundness.{HasWidth, FitFrom, AreArguments}
 use Rattle.kp_width.proofs.{Unbroken.Unbroken, Unbroken.bind_unbroken, Unbroken.answer_unbroken, Parts.given_parts}
-use Rattle.kp_width.proofs.Found.{Found, Meets, found, no_answer}
+use Rattle.kp_width.proofs.Found.{Found, Meets, found, no_question, no_answer}
 
 pub by_test : {G : Type 0} (b : Bool) → (b ≡ true → G) → (b ≡ false → G) → G
 by_test true then_so else_so = then_so refl
@@ -162,7 +163,7 @@ module _ (ds : List Decl) where
     abbrev pub known_at : List Word → Known
     known_at vs = record { names = values.look_up (arguments_of f.params vs); calls = known }
 
-    body_meets : (vs : List Word) → AreArguments f.params vs → Meets ds body_scope (known_at vs) (env_at vs) (λ q at. None)
+    body_meets : (vs : List Word) → AreArguments f.params vs → Meets ds body_scope (known_at vs) (env_at vs) no_question
     body_meets vs h = record {
       names = λ q m at e value free. found_one q m e
           (λ p. parameter_fits i f.params vs q m h.count h.fit p)
@@ -175,10 +176,10 @@ module _ (ds : List Decl) where
     body_found : Unbroken (function_of ds i k s f) → (vs : List Word) → AreArguments f.params vs → Found f.width.value (checked_call known (decls.Func f) vs) (value_of_call calls f vs)
     body_found u vs h =
         let ps = bind_unbroken (parameters_of i (function_opened s k f) f.params)
-        (λ t. declared f.width >>= (λ w. value_of (part_of ds i t f.body) w >>= (λ x. ok (with_text t f.name.name (sense kinds.Func w i))))) u in
-        let ws = bind_unbroken (declared f.width) (λ w. value_of (part_of ds i body_scope f.body) w >>= (λ x. ok (with_text body_scope f.name.name (sense kinds.Func w i)))) ps.1 in
-        let b = given_parts ds i body_scope f.body f.width.value (bind_unbroken (value_of (part_of ds i body_scope f.body) f.width.value) (λ x. ok (with_text body_scope f.name.name (sense kinds.Func f.width.value i))) ws.1).0 in
-        let v = found ds i body_scope (known_at vs) (env_at vs) (λ q at. None) (body_meets vs h) f.body (no_answer f.body) b.0 in
+        (λ t. declared f.width >>= (λ w. value_of (part_of ds i t f.body) w (to.Body i) >>= (λ x. ok (with_text t f.name.name (sense kinds.Func w i))))) u in
+        let ws = bind_unbroken (declared f.width) (λ w. value_of (part_of ds i body_scope f.body) w (to.Body i) >>= (λ x. ok (with_text body_scope f.name.name (sense kinds.Func w i)))) ps.1 in
+        let b = given_parts ds i body_scope f.body f.width.value (to.Body i) (bind_unbroken (value_of (part_of ds i body_scope f.body) f.width.value (to.Body i)) (λ x. ok (with_text body_scope f.name.name (sense kinds.Func f.width.value i))) ws.1).0 in
+        let v = found ds i body_scope (known_at vs) (env_at vs) no_question (body_meets vs h) f.body (no_answer f.body) b.0 in
         record {
           there = ap (λ x. cond x (checked (known_at vs) f.body) None) (eq-eqb (length vs) (length f.params) h.count) ∙ v.there;
           has = subst (λ w. HasWidth w (value_of_call calls f vs)) b.1 v.has;
@@ -227,7 +228,7 @@ module _ (ds : List Decl) where
   one_more known calls i k s (decls.Target r) o here u = record { local = refl; fits = plain known calls s.text r.name.name (sense kinds.Target r.width.value i) o.fits refl refl }
   one_more known calls i k s (decls.Sample n width stage) o here u = record { local = refl; fits = plain known calls s.text n.name (sense kinds.Sample width.value i) o.fits refl refl }
   one_more known calls i k s (decls.Func f) o here u =
-      let a = answer_unbroken (not (is_some (find s f.name.name))) (e_rule 5 f.name.at) (function_of ds i k s f).asked u in
+      let a = answer_unbroken (not (is_some (find s f.name.name))) _ (function_of ds i k s f).asked u in
       record {
         local = refl;
         fits = subst (λ t. TextFits (checked_calls_after known (decls.Func f)) (calls_after calls (decls.Func f)) (t ++ (f.name.name, sense kinds.Func f.width.value i) ∷ [])) (sym (body_text known calls s o i k f here))

@@ -4,7 +4,7 @@
 use Rattle.std.proofs.Common.{◌≡◌, ◌≤◌, ◌<◌, ◌+◌, ℕ, List, [], ◌∷◌, map, min, fold, Option, Some, None, Ok, Err, Bool, true, false, cond, length, drop, is_some, not, ◌==◌, ◌||◌, refl, ap, sym, subst, ◌∙◌, arith}
 use Rattle.std.proofs.lemmas.Bool.{cond_both, eq-eqb, le-leb, lt-ltb, eqb-true, leb-true, ltb-true, and_from, and_parts}
 use Rattle.std.{proofs.lemmas.List.length-map, specs.Option.option_map, specs.Option.option_and_then, specs.Result.result_ok}
-use Rattle.kp_base.specs.{First.first, Check.Check, Check.Answer, Check.ok, Check.◌>>=◌, Check.wants, Refusal.e_rule, declared.place.Place.Place}
+use Rattle.kp_base.specs.{First.first, Check.Check, Check.Answer, Check.answer, Check.ok, Check.◌>>=◌, Check.wants, declared.place.Place.Place}
 use Rattle.kp_bits.specs.Word.{Word, IsWord, not_of, concat_of}
 use Rattle.kp_bits.specs.{declared.literal.LiteralFault.TheVariants.TooBig, declared.literal.LiteralFault.TheVariants.BadWidth, Operators.is_shift}
 use Rattle.kp_bits.specs.Checked.{where_so, checked_join, checked_joined, checked_binary, checked_mux, checked_slice, is_extension, checked_zext, checked_sext}
@@ -18,12 +18,16 @@ use Rattle.kp_ast.specs.declared.tree.ExprKind.TheOpen as level
 use Rattle.kp_bits.specs.Operators as operators
 use Rattle.kp_width.specs.Expressions.{Part, is_test, is_width, extension_of, params_of, part_of, width_of, sum_of, arguments_of, is_declared, callee_of, called_of, width_at, value_of}
 use Rattle.kp_width.proofs.Unbroken.{Unbroken, first_split, bind_unbroken, answer_unbroken, width-Lit, width-Name, width-Not, width-Binary, width-Mux, width-Concat, width-Slice, width-Zext, width-Sext, width-Call}
-use Rattle.kp_width.specs.Names.{Sense, is_value_in, is_callee, Scoped, find, used, used_as}
+use Rattle.kp_ast.specs.declared.widths.{Scope.Scope, NameKind.NameKind}
+use Rattle.kp_width.specs.declared.fault.WidthFault.TheVariants as faults
+use Rattle.kp_width.specs.declared.fault.Destination.TheVariants as to
+use Rattle.kp_width.specs.{Faults.WidthFinding, Faults.found_at, declared.fault.Position.Position}
+use Rattle.kp_width.specs.Names.{Sense, is_value_in, is_callee, is_file, is_register, takes, Scoped, find, used, used_as}
 use Rattle.kp_width.{specs.Soundness.HasWidth, specs.Soundness.FitFrom, specs.Soundness.Suits, specs.Soundness.AreArguments, proofs.Parts.given_parts}
 use Rattle.kp_width.proofs.Sound.{binary_width}
 
 -- the first violation of a check of each name that is used as a value, from left to right
-abbrev pub name_kind : (List ℕ → Place → Answer) → ExprKind-F (Place → Answer) Answer → Place → Answer
+abbrev pub name_kind : {F : Type 0} → (List ℕ → Place → Option F) → ExprKind-F (Place → Option F) (Option F) → Place → Option F
 name_kind ask (level.Lit l) at = None
 name_kind ask (level.Name name) at = ask name at
 name_kind ask (level.Not a) at = a
@@ -35,11 +39,11 @@ name_kind ask (level.Zext a width) at = a
 name_kind ask (level.Sext a width) at = a
 name_kind ask (level.Call name args) at = first args
 
-abbrev pub name_level : Expr-F (Place → Answer) Answer → Answer
+abbrev pub name_level : {F : Type 0} → Expr-F (Place → Option F) (Option F) → Option F
 name_level e = e.kind e.place
 
-abbrev pub first_name : (List ℕ → Place → Answer) → Expr → Answer
-first_name ask = fold-Expr (Place → Answer) Answer (name_kind ask) name_level
+abbrev pub first_name : {F : Type 0} → (List ℕ → Place → Option F) → Expr → Option F
+first_name {F = F} ask = fold-Expr (Place → Option F) (Option F) (name_kind ask) name_level
 
 -- a value that is found, and its width
 pub record Found (w : ℕ) (o : Option Word) (v : Word) : Type 0 where
@@ -47,12 +51,12 @@ pub record Found (w : ℕ) (o : Option Word) (v : Word) : Type 0 where
   pub has : HasWidth w v
 
 -- what is known has the values of the environment, for the names that are not answered and for all calls
-pub record Meets (ds : List Decl) (s : Scoped) (known : Known) (env : Env) (ask : List ℕ → Place → Answer) : Type 0 where
+pub record Meets {F : Type 0} (ds : List Decl) (s : Scoped) (known : Known) (env : Env) (ask : List ℕ → Place → Option F) : Type 0 where
   pub names : (q : List ℕ) (m : Sense) (at : Place) → find s q ≡ Some m → is_value_in s.here m.kind ≡ true → ask q at ≡ None → Found m.width (known.names q) (env.names q)
   pub calls : (q : List ℕ) (m : Sense) → find s q ≡ Some m → is_callee m.kind ≡ true → (vs : List Word) → AreArguments (params_of ds m.from) vs → Found m.width (known.calls q vs) (env.calls q vs)
 
 -- an expression that computes by one level, in each of three folds
-by_level : (c d : Check ℕ) (o p : Option Word) (x y : Word) → c ≡ d → o ≡ p → x ≡ y → (Unbroken d → Found d.value p y) → Unbroken c → Found c.value o x
+by_level : (c d : Check WidthFinding ℕ) (o p : Option Word) (x y : Word) → c ≡ d → o ≡ p → x ≡ y → (Unbroken d → Found d.value p y) → Unbroken c → Found c.value o x
 by_level c d o p x y e f g found u =
     let h = found (subst (λ x. Unbroken x) e u) in
     let w : c.value ≡ d.value = ap (λ c. c.value) e in
@@ -62,9 +66,18 @@ width_bounds : (w : ℕ) → is_width w ≡ true → (1 ≤ w) × (w ≤ 64)
 width_bounds w e = let b = and_parts _ _ e in (leb-true 1 w b.0, leb-true w 64 b.1)
 
 -- a name in scope, of a kind that its position accepts
-used_parts : (takes : _ → Bool) (p : Place) (o : Option Sense) → Unbroken (used_as takes p o) → (o ≡ Some (used_as takes p o).value) × (takes (used_as takes p o).value.kind ≡ true)
-used_parts takes p None h = cc
-used_parts takes p (Some m) h = (refl, (answer_unbroken _ _ _ h).0)
+pub used_parts : (here : Scope) (bound : Option ℕ) (position : Position) (p : Place) (o : Option Sense) → Unbroken (used_as here bound position p o)
+    → (o ≡ Some (used_as here bound position p o).value) × (takes position here (used_as here bound position p o).value.kind ≡ true)
+used_parts here bound position p None h = cc
+used_parts here bound position p (Some m) h =
+    let wrong = found_at p (faults.WrongKind m.kind m.from position here) in
+    let known = answer_unbroken (not m.doubtful) (found_at p faults.Doubtful) (answer (takes position here m.kind) wrong ∷ []) h in
+    (refl, (answer_unbroken (takes position here m.kind) wrong [] known.1).0)
+
+-- a target, with an address or without
+pub storage_takes : (addressed : Bool) (here : Scope) (kind : NameKind) → takes (cond addressed Position.File Position.Register) here kind ≡ true → cond addressed is_file is_register kind ≡ true
+storage_takes true here kind e = e
+storage_takes false here kind e = e
 
 or_left : (a b : Bool) → (a || b) ≡ true → a ≡ false → b ≡ true
 or_left true b h e = cc
@@ -78,16 +91,16 @@ wider w o v n p f u =
     let wide : v.width ≤ n.value = rw f.has.width (leb-true _ _ (answer_unbroken _ _ _ t.1).0) in
     (and_from _ _ (le-leb _ _ wide) (le-leb _ _ most), wide, most)
 
-pub none_of_two : (a b : Answer) → first (a ∷ b ∷ []) ≡ None → (a ≡ None) × (b ≡ None)
+pub none_of_two : {F : Type 0} (a b : Option F) → first (a ∷ b ∷ []) ≡ None → (a ≡ None) × (b ≡ None)
 none_of_two None None e = (refl, refl)
 none_of_two None (Some r) e = cc
 none_of_two (Some r) b e = cc
 
-none_of_three : (a b c : Answer) → first (a ∷ b ∷ c ∷ []) ≡ None → (a ≡ None) × (b ≡ None) × (c ≡ None)
+none_of_three : {F : Type 0} (a b c : Option F) → first (a ∷ b ∷ c ∷ []) ≡ None → (a ≡ None) × (b ≡ None) × (c ≡ None)
 none_of_three None b c e = let h = none_of_two b c e in (refl, h.0, h.1)
 none_of_three (Some r) b c e = cc
 
-none_of_more : (a : Answer) (more : List Answer) → first (a ∷ more) ≡ None → (a ≡ None) × (first more ≡ None)
+none_of_more : {F : Type 0} (a : Option F) (more : List (Option F)) → first (a ∷ more) ≡ None → (a ≡ None) × (first more ≡ None)
 none_of_more None more e = (refl, e)
 none_of_more (Some r) more e = cc
 
@@ -114,7 +127,7 @@ cons_there : (o : Option Word) (v : Word) (os : List (Option Word)) (vs : List W
 cons_there o v os vs e f = ap (λ x. all_there (x ∷ os)) e ∙ ap (option_map (λ xs. v ∷ xs)) f
 
 -- a check of names that each name passes
-pub none_asked : (ask : List ℕ → Place → Answer) → ((q : List ℕ) (at : Place) → ask q at ≡ None) → (e : Expr) → first_name ask e ≡ None
+pub none_asked : {F : Type 0} (ask : List ℕ → Place → Option F) → ((q : List ℕ) (at : Place) → ask q at ≡ None) → (e : Expr) → first_name ask e ≡ None
 none_asked ask none = induction (λ e. first_name ask e ≡ None) (record {
   literal = λ p l. fold-Lit _ _ (name_kind ask) name_level p l;
   name = λ p q. fold-Name _ _ (name_kind ask) name_level p q ∙ none q p;
@@ -132,11 +145,14 @@ none_asked ask none = induction (λ e. first_name ask e ≡ None) (record {
     each [] hs = refl
     each (e ∷ es) hs = ap (λ x. first (x ∷ map (first_name ask) es)) hs.0 ∙ each es hs.1
 
-pub no_answer : (e : Expr) → first_name (λ q at. None) e ≡ None
-no_answer = none_asked (λ q at. None) (λ q at. refl)
+abbrev pub no_question : List ℕ → Place → Answer
+no_question q at = None
 
-module _ (ds : List Decl) (done : ℕ) (s : Scoped) (known : Known) (env : Env) (ask : List ℕ → Place → Answer) (meets : Meets ds s known env ask) where
-  abbrev width : Expr → Check ℕ
+pub no_answer : (e : Expr) → first_name no_question e ≡ None
+no_answer = none_asked no_question (λ q at. refl)
+
+module _ {F : Type 0} (ds : List Decl) (done : ℕ) (s : Scoped) (known : Known) (env : Env) (ask : List ℕ → Place → Option F) (meets : Meets ds s known env ask) where
+  abbrev width : Expr → Check WidthFinding ℕ
   width = width_of ds done s
 
   abbrev value : Expr → Word
@@ -145,7 +161,7 @@ module _ (ds : List Decl) (done : ℕ) (s : Scoped) (known : Known) (env : Env) 
   abbrev there : Expr → Option Word
   there = checked known
 
-  abbrev asked : Expr → Answer
+  abbrev asked : Expr → Option F
   asked = first_name ask
 
   abbrev part : Expr → Part
@@ -199,15 +215,15 @@ module _ (ds : List Decl) (done : ℕ) (s : Scoped) (known : Known) (env : Env) 
       cons_there (there e) (value e) (map there es) (map value es) (hs.0 b.0 p.0).there (all_found (min (n + (width e).value) 65) es hs.1 b.1 p.1)
 
   -- and each argument of a call, which fits its parameter
-  arguments_found : (ps : List Param) (i : ℕ) (es : List Expr) → Every Holds es → first (map asked es) ≡ None → Unbroken (arguments_of ps i (map part es))
+  arguments_found : (function : ℕ) (ps : List Param) (i : ℕ) (es : List Expr) → Every Holds es → first (map asked es) ≡ None → Unbroken (arguments_of function ps i (map part es))
       → FitFrom ps i (map value es) × (all_there (map there es) ≡ Some (map value es))
-  arguments_found ps i [] hs a u = (tt, refl)
-  arguments_found ps i (e ∷ es) hs a u =
+  arguments_found function ps i [] hs a u = (tt, refl)
+  arguments_found function ps i (e ∷ es) hs a u =
       let b = none_of_more (asked e) (map asked es) a in
-      let p = first_split (value_of (part e) (width_at ps i)).asked _ u in
-      let g = given_parts ds done s e (width_at ps i) p.0 in
+      let p = first_split (value_of (part e) (width_at ps i) (to.Parameter function i)).asked _ u in
+      let g = given_parts ds done s e (width_at ps i) (to.Parameter function i) p.0 in
       let f = hs.0 b.0 g.0 in
-      let more = arguments_found ps (i + 1) es hs.1 b.1 p.1 in
+      let more = arguments_found function ps (i + 1) es hs.1 b.1 p.1 in
       ((subst (λ w. HasWidth w (value e)) g.1 f.has, more.0), cons_there (there e) (value e) (map there es) (map value es) f.there more.1)
 
   pub found : (e : Expr) → Holds e
@@ -218,8 +234,8 @@ module _ (ds : List Decl) (done : ℕ) (s : Scoped) (known : Known) (env : Env) 
         let b = width_bounds l.width x.0 in
         record { there = fits_there _ _ _ x.0 y.0; has = record { word = record { positive = b.0; at_most = b.1; fits = ltb-true _ _ y.0 }; width = refl } });
     name = λ p q a. by_level _ _ _ _ _ _ (width-Name ds done s p q) (fold-Name _ _ (checked_kind known) checked_level p q) (fold-Name _ _ _ _ p q) (λ u.
-        let n = used_parts (is_value_in s.here) p (find s q) (first_split (used s (is_value_in s.here) q p).asked _ u).0 in
-        meets.names q (used s (is_value_in s.here) q p).value p n.0 n.1 (sym (fold-Name _ _ (name_kind ask) name_level p q) ∙ a));
+        let n = used_parts s.here _ Position.Value p (find s q) (first_split (used s Position.Value q p).asked _ u).0 in
+        meets.names q (used s Position.Value q p).value p n.0 n.1 (sym (fold-Name _ _ (name_kind ask) name_level p q) ∙ a));
     not_ = λ p x h a. by_level _ _ _ _ _ _ (width-Not ds done s p x) (fold-Not _ _ (checked_kind known) checked_level p x) (fold-Not _ _ _ _ p x) (λ u.
         let f = h (sym (fold-Not _ _ (name_kind ask) name_level p x) ∙ a) u in
         record { there = ap (option_map not_of) f.there; has = record { word = not_word (value x) f.has.word; width = f.has.width } });
@@ -279,12 +295,13 @@ module _ (ds : List Decl) (done : ℕ) (s : Scoped) (known : Known) (env : Env) 
         record { there = ap (option_and_then (checked_sext n.value)) f.there ∙ so_there _ _ w.0; has = record { word = sext_word (value x) n.value f.has.word w.1 w.2; width = refl } });
     call = λ p q es hs a. by_level _ _ _ _ _ _ (width-Call ds done s p q es) (fold-Call _ _ (checked_kind known) checked_level p q es) (fold-Call _ _ _ _ p q es) (λ u.
         let b : first (map asked es) ≡ None = sym (fold-Call _ _ (name_kind ask) name_level p q es) ∙ a in
-        let m = (used s is_callee q p).value in
-        let head = bind_unbroken (called_of ds done s q (length (map part es)) p) (λ m. arguments_of (params_of ds m.from) 0 (map part es) >>= (λ x. ok m.width)) u in
-        let name = bind_unbroken (callee_of ds done s q p) (λ m. wants (length (map part es) == length (params_of ds m.from)) (e_rule 7 p) (ok m)) head.0 in
-        let n = used_parts is_callee p (find s q) (answer_unbroken (is_some (find s q) || not (is_declared (drop done ds) q)) (e_rule 26 p) (used s is_callee q p).asked name.0).1 in
+        let m = (used s Position.Callee q p).value in
+        let head = bind_unbroken (called_of ds done s q (length (map part es)) p) (λ m. arguments_of m.from (params_of ds m.from) 0 (map part es) >>= (λ x. ok m.width)) u in
+        let name = bind_unbroken (callee_of ds done s q p) (λ m. wants (length (map part es) == length (params_of ds m.from)) (found_at p (faults.ArgumentCount (length (map part es)) (length (params_of ds m.from)) m.from)) (ok m)) head.0 in
+        let n = used_parts s.here _ Position.Callee p (find s q)
+        (answer_unbroken (is_some (find s q) || not (is_declared (drop done ds) q)) (found_at p (faults.CalledEarly done)) (used s Position.Callee q p).asked name.0).1 in
         let count : length (map part es) ≡ length (params_of ds m.from) = eqb-true _ _ (answer_unbroken _ _ _ name.1).0 in
-        let args = arguments_found (params_of ds m.from) 0 es hs b (first_split (arguments_of (params_of ds m.from) 0 (map part es)).asked _ head.1).0 in
+        let args = arguments_found m.from (params_of ds m.from) 0 es hs b (first_split (arguments_of m.from (params_of ds m.from) 0 (map part es)).asked _ head.1).0 in
         let f = meets.calls q m n.0 n.1 (map value es) (record { count = length-map es value ∙ sym (length-map es part) ∙ count; fit = args.0 }) in
         record { there = ap (option_and_then (known.calls q)) args.1 ∙ f.there; has = f.has });
   })

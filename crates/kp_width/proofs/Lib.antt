@@ -6,3 +6,4 @@ pub mod Parts
 pub mod Sound
 pub mod Found
 pub mod Calls
+pub mod Listed

@@ -1,25 +1,59 @@
 // The checks of declarations.
 ghost use Rattle.std.specs.Prelude.{◌≡◌, ◌<◌, ◌+◌, ◌≤◌, ◌^◌, length, sum_by, None, OnOk, IfErr};
-ghost use Rattle.kp_base.specs.declared.refusal.Refused.TheVariants as refused;
-ghost use Rattle.kp_base.specs.Check.{Gives};
+ghost use Rattle.kp_base.specs.Findings.{with_answer, with_answers};
+ghost use Rattle.kp_width.specs.declared.fault.Stop.TheVariants as stop;
+ghost use Rattle.kp_width.specs.inner.Steps.{Gives, HasRoom, IfFound, UnlessNoMemory};
 ghost use Rattle.kp_width.specs.Names.{find, fresh, passed, look_up, sense, declared_text};
-ghost use Rattle.kp_width.specs.Declarations.{declared, started_of, start_of, addresses_of, storage_of, address_width, pipe_of, target_of, result_of, width_or_zero, function_opened, parameters_of, function_of, name_of, after_name, declaration_of, functions_in, declarations_of};
+ghost use Rattle.kp_width.specs.Widths.{after_decl, after_decls, decl_answers, noted};
+ghost use Rattle.kp_width.specs.Declarations.{declared, started_of, start_of, addresses_of, storage_of, address_width, address_fault, enable_fault, pipe_of, target_of, result_of, width_or_zero, function_opened, parameters_of, function_of, name_of, after_name, declaration_of, functions_in};
 
-use crate::expressions::{expect, is_in_range, literal_width};
-use crate::names::{Meaning, Names, Position};
+use crate::expressions::{check_value, is_in_range, literal_width};
+use crate::fault::{Destination, Position, Stop, WidthFault, found_at};
+use crate::names::{Meaning, Names};
 use kp_ast::{Decl, FuncDecl, Lit, NameKind, Named, Num, Param, ResultDecl, Scope};
-use kp_base::{NoMemory, Refusal, Refused};
+use kp_base::{Finding, Findings, NoMemory};
 
-pub(crate) fn add_decls(names: &mut Names, decls: &[Decl]) -> Result<(), Refused>
+// Adds the declarations, and notes the violations in them.
+pub(crate) fn note_decls(
+    names: &mut Names,
+    found: &mut Findings<Finding<WidthFault>>,
+    decls: &[Decl],
+) -> Result<(), NoMemory>
     requires { sum_by functions_in decls.now < 2 ^ 32 }
-    ensures { Gives result (declarations_of decls.now 0 0 names.old decls.now).found (λ _. names.new) }
+    ensures found { OnOk result (found.new ≡ with_answers found.old (decl_answers decls.now 0 0 names.old decls.now)) }
+    ensures names { OnOk result (HasRoom found.new → names.new ≡ after_decls decls.now 0 0 names.old decls.now) }
 {
     let mut functions = 0u32;
     for (i, decl) in decls.iter().enumerate() {
-        add_decl(names, decls, i, functions, decl)?;
+        if found.is_full() {
+            return Ok(());
+        }
+        note_decl(names, found, decls, i, functions, decl)?;
         functions += functions_in(decl);
     }
     Ok(())
+}
+
+fn note_decl(
+    names: &mut Names,
+    found: &mut Findings<Finding<WidthFault>>,
+    decls: &[Decl],
+    i: usize,
+    functions: u32,
+    decl: &Decl,
+) -> Result<(), NoMemory>
+    requires { i ≤ length decls.now }
+    ensures found { OnOk result (found.new ≡ with_answer found.old (noted names.old (declaration_of decls.now i functions names.old decl.now).found)) }
+    ensures names { OnOk result (names.new ≡ after_decl decls.now i functions names.old decl.now) }
+{
+    match add_decl(names, decls, i, functions, decl) {
+        Ok(()) => Ok(()),
+        Err(Stop::Found(finding)) => {
+            found.note(names.listed(finding))?;
+            names.doubt_text(&declared_name(decl).name)
+        }
+        Err(Stop::NoMemory) => Err(NoMemory),
+    }
 }
 
 fn functions_in(decl: &Decl) -> u32
@@ -37,15 +71,18 @@ fn add_decl(
     i: usize,
     functions: u32,
     decl: &Decl,
-) -> Result<(), Refused>
+) -> Result<(), Stop>
     requires { i ≤ length decls.now }
-    ensures { Gives result (declaration_of decls.now i functions names.old decl.now).found (λ _. names.new) }
+    ensures steps { Gives result (declaration_of decls.now i functions names.old decl.now).found (λ _. names.new) }
+    ensures text { IfFound result (names.new.text ≡ names.old.text) }
+    ensures doubts { IfFound result (names.new.doubts ≡ names.old.doubts) }
 {
     check_fresh(names, declared_name(decl))?;
     add_new(names, decls, i, functions, decl)
 }
 
-fn declared_name(decl: &Decl) -> &Named
+/// The name that a declaration declares.
+pub fn declared_name(decl: &Decl) -> &Named
     ensures { result.now ≡ name_of decl.now }
 {
     match decl {
@@ -66,10 +103,12 @@ fn add_new(
     i: usize,
     functions: u32,
     decl: &Decl,
-) -> Result<(), Refused>
+) -> Result<(), Stop>
     requires done { i ≤ length decls.now }
     requires fresh { look_up names.old.text (name_of decl.now).name ≡ None }
-    ensures { Gives result (after_name decls.now i functions names.old decl.now).found (λ _. names.new) }
+    ensures steps { Gives result (after_name decls.now i functions names.old decl.now).found (λ _. names.new) }
+    ensures text { IfFound result (names.new.text ≡ names.old.text) }
+    ensures doubts { IfFound result (names.new.doubts ≡ names.old.doubts) }
 {
     match decl {
         Decl::Reg(name, number, start) => {
@@ -107,26 +146,27 @@ fn add_plain(
     kind: NameKind,
     width: u8,
     from: usize,
-) -> Result<(), Refused>
+) -> Result<(), Stop>
     requires { look_up names.old.text named.now.name ≡ None }
     ensures added { OnOk result (names.new ≡ declared_text names.old named.now.name (sense kind width from)) }
-    ensures memory { IfErr result (λ e. e ≡ refused.NoMemory) }
+    ensures memory { IfErr result (λ e. e ≡ stop.NoMemory) }
 {
-    names.declare_text(&named.name, Meaning { kind, width, from })?;
+    names.declare_text(&named.name, Meaning::new(kind, width, from))?;
     Ok(())
 }
 
-fn declared_width(number: Num) -> Result<u8, Refusal>
+fn declared_width(number: Num) -> Result<u8, Finding<WidthFault>>
     ensures { result ≡ (declared number).found }
 {
     if !is_in_range(number.value) {
-        return Err(Refusal::e(8, number.at));
+        let width = number.value;
+        return Err(found_at(number.at, WidthFault::DeclaredWidth { width }));
     }
     Ok(number.value as u8)
 }
 
 // The width of a register or a hint.
-fn started_width(number: Num, start: Lit) -> Result<u8, Refusal>
+fn started_width(number: Num, start: Lit) -> Result<u8, Finding<WidthFault>>
     ensures { result ≡ (started_of number start).found }
 {
     let width = declared_width(number)?;
@@ -134,26 +174,29 @@ fn started_width(number: Num, start: Lit) -> Result<u8, Refusal>
     Ok(width)
 }
 
-fn check_start(start: Lit, width: u8) -> Result<(), Refusal>
+fn check_start(start: Lit, width: u8) -> Result<(), Finding<WidthFault>>
     ensures { result ≡ (start_of start width).found }
 {
-    if literal_width(start.literal, start.at)? != width {
-        return Err(Refusal::e(10, start.at));
+    let found = literal_width(start.literal, start.at)?;
+    if found != width {
+        let wanted = u64::from(width);
+        return Err(found_at(start.at, WidthFault::Start { found, wanted }));
     }
     Ok(())
 }
 
 // The width of a file's addresses.
-fn addresses(number: Num) -> Result<u8, Refusal>
+fn addresses(number: Num) -> Result<u8, Finding<WidthFault>>
     ensures { result ≡ (addresses_of number).found }
 {
     if number.value < 1 || number.value > 16 {
-        return Err(Refusal::e(14, number.at));
+        let width = number.value;
+        return Err(found_at(number.at, WidthFault::DeclaredAddress { width }));
     }
     Ok(number.value as u8)
 }
 
-fn result_width(names: &Names, result_decl: &ResultDecl) -> Result<u8, Refusal>
+fn result_width(names: &Names, result_decl: &ResultDecl) -> Result<u8, Finding<WidthFault>>
     ensures { result ≡ (result_of names.now result_decl.now).found }
 {
     let width = declared_width(result_decl.width)?;
@@ -162,25 +205,39 @@ fn result_width(names: &Names, result_decl: &ResultDecl) -> Result<u8, Refusal>
 }
 
 // Checks a result after its width.
-fn check_target(names: &Names, result_decl: &ResultDecl, width: u8) -> Result<(), Refusal>
+fn check_target(
+    names: &Names,
+    result_decl: &ResultDecl,
+    width: u8,
+) -> Result<(), Finding<WidthFault>>
     ensures { result ≡ (target_of names.now result_decl.now width).found }
 {
     let addressed = result_decl.address.is_some();
     let target = storage(names, &result_decl.target, addressed)?;
     if target.width != width {
-        return Err(Refusal::e(10, result_decl.target.at));
+        let fault = WidthFault::Target {
+            result: width,
+            target: target.width,
+            kind: target.kind,
+            from: target.from,
+        };
+        return Err(found_at(result_decl.target.at, fault));
     }
     if let Some(pipe) = &result_decl.address {
-        check_pipe(names, pipe, address_width(target.kind), 14)?;
+        check_address_pipe(names, pipe, &target)?;
     }
     if let Some(pipe) = &result_decl.enable {
-        check_pipe(names, pipe, 1, 11)?;
+        check_enable(names, pipe)?;
     }
     Ok(())
 }
 
 // The meaning of a name that is a file if it has an address, else a register.
-pub(crate) fn storage(names: &Names, named: &Named, addressed: bool) -> Result<Meaning, Refusal>
+pub(crate) fn storage(
+    names: &Names,
+    named: &Named,
+    addressed: bool,
+) -> Result<Meaning, Finding<WidthFault>>
     ensures { result ≡ (storage_of names.now named.now addressed).found }
 {
     if addressed {
@@ -199,12 +256,38 @@ pub(crate) fn address_width(kind: NameKind) -> u8
     }
 }
 
-// Checks that a name is a pipe with this width; another width violates the rule with this number.
-fn check_pipe(names: &Names, pipe: &Named, width: u8, rule: u8) -> Result<(), Refusal>
-    ensures { result ≡ (pipe_of names.now width rule pipe.now).found }
+// Checks the address pipe of a result, whose target is this file.
+fn check_address_pipe(
+    names: &Names,
+    pipe: &Named,
+    file: &Meaning,
+) -> Result<(), Finding<WidthFault>>
+    ensures { result ≡ (pipe_of names.now (address_width file.now.kind) (address_fault file.now) pipe.now).found }
 {
-    if names.used(Position::Pipe, &pipe.name, pipe.at)?.width != width {
-        return Err(Refusal::e(rule, pipe.at));
+    let found = names.used(Position::Pipe, &pipe.name, pipe.at)?.width;
+    let wanted = address_width(file.kind);
+    if found != wanted {
+        let fault = WidthFault::Address {
+            found,
+            wanted,
+            file: file.from,
+        };
+        return Err(found_at(pipe.at, fault));
+    }
+    Ok(())
+}
+
+// Checks the enable pipe of a result.
+fn check_enable(names: &Names, pipe: &Named) -> Result<(), Finding<WidthFault>>
+    ensures { result ≡ (pipe_of names.now 1 enable_fault pipe.now).found }
+{
+    let meaning = names.used(Position::Pipe, &pipe.name, pipe.at)?;
+    if meaning.width != 1 {
+        let fault = WidthFault::Enable {
+            found: meaning.width,
+            from: meaning.from,
+        };
+        return Err(found_at(pipe.at, fault));
     }
     Ok(())
 }
@@ -216,21 +299,19 @@ fn add_func(
     i: usize,
     functions: u32,
     func: &FuncDecl,
-) -> Result<(), Refused>
+) -> Result<(), Stop>
     requires done { i ≤ length decls.now }
     requires fresh { look_up names.old.text func.now.name.name ≡ None }
-    ensures { Gives result (function_of decls.now i functions names.old func.now).found (λ _. names.new) }
+    ensures steps { Gives result (function_of decls.now i functions names.old func.now).found (λ _. names.new) }
+    ensures text { IfFound result (names.new.text ≡ names.old.text) }
+    ensures doubts { IfFound result (names.new.doubts ≡ names.old.doubts) }
 {
     open_func(names, functions, func)?;
     add_params(names, i, func.params.as_slice())?;
     let width = declared_width(func.width)?;
-    expect(decls, i, names, &func.body, u64::from(width), 10)?;
-    let meaning = Meaning {
-        kind: NameKind::Func,
-        width,
-        from: i,
-    };
-    names.add_text(&func.name.name, meaning)?;
+    let to = Destination::Body { function: i };
+    check_value(decls, i, names, &func.body, width, to)?;
+    names.add_text(&func.name.name, Meaning::new(NameKind::Func, width, i))?;
     Ok(())
 }
 
@@ -238,11 +319,7 @@ fn add_func(
 fn open_func(names: &mut Names, functions: u32, func: &FuncDecl) -> Result<(), NoMemory>
     ensures { OnOk result (names.new ≡ function_opened names.old functions func.now) }
 {
-    let meaning = Meaning {
-        kind: NameKind::Func,
-        width: width_or_zero(func.width.value),
-        from: 0,
-    };
+    let meaning = Meaning::new(NameKind::Func, width_or_zero(func.width.value), 0);
     names.enter(Scope::Text, &func.name.name, meaning)?;
     names.open(Scope::Function(functions));
     Ok(())
@@ -254,32 +331,37 @@ fn width_or_zero(width: u64) -> u8
     if is_in_range(width) { width as u8 } else { 0 }
 }
 
-fn add_params(names: &mut Names, i: usize, params: &[Param]) -> Result<(), Refused>
+fn add_params(names: &mut Names, i: usize, params: &[Param]) -> Result<(), Stop>
     ensures steps { Gives result (parameters_of i names.old params.now).found (λ _. names.new) }
-    ensures text { OnOk result (names.new.text ≡ names.old.text) }
+    ensures text { UnlessNoMemory result (names.new.text ≡ names.old.text) }
+    ensures doubts { UnlessNoMemory result (names.new.doubts ≡ names.old.doubts) }
 {
     for param in params {
         let name = &param.name;
         check_fresh(names, name)?;
         let width = declared_width(param.width)?;
-        let meaning = Meaning {
-            kind: NameKind::Param,
-            width,
-            from: i,
-        };
-        names.declare_local(&name.name, meaning)?;
+        names.declare_local(&name.name, Meaning::new(NameKind::Param, width, i))?;
     }
     Ok(())
 }
 
 // Checks that a declared name is not in scope yet.
-pub(crate) fn check_fresh(names: &Names, named: &Named) -> Result<(), Refusal>
+pub(crate) fn check_fresh(names: &Names, named: &Named) -> Result<(), Finding<WidthFault>>
     ensures value { result ≡ (fresh names.now named.now.name named.now.at passed).found }
     ensures fresh { OnOk result (find names.now named.now.name ≡ None) }
     ensures text { OnOk result (look_up names.now.text named.now.name ≡ None) }
 {
-    if names.find(&named.name).is_some() {
-        return Err(Refusal::e(5, named.at));
-    }
-    Ok(())
+    let Some(meaning) = names.find(&named.name) else {
+        return Ok(());
+    };
+    let fault = if meaning.doubtful {
+        WidthFault::Doubtful
+    } else {
+        WidthFault::DeclaredAgain {
+            found: meaning.kind,
+            from: meaning.from,
+            here: names.here(),
+        }
+    };
+    Err(found_at(named.at, fault))
 }

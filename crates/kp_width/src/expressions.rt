@@ -1,16 +1,22 @@
 // The widths of expressions, and their checks.
 ghost use Rattle.std.specs.Prelude.{◌≡◌, ◌<◌, ◌+◌, ◌-◌, ◌≤◌, Ok, map, drop, length, slice_get, min};
-ghost use Rattle.kp_width.specs.Expressions.{literal_of, is_test, is_width, binary_of, choice_of, slice_of, extension_of, sum_of, concatenation_of, is_declared, params_of, width_at, arguments_of, called_of, part_of, width_of};
-ghost use Rattle.kp_width.specs.inner.Positions.{expected};
+ghost use Rattle.kp_width.specs.Expressions.{literal_of, is_test, is_width, binary_of, choice_of, slice_of, extension_of, sum_of, concatenation_of, is_declared, params_of, width_at, arguments_of, called_of, condition_of, part_of, value_of, width_of};
+ghost use Rattle.kp_width.specs.Statements.{address_of};
 
-use crate::names::{Meaning, Names, Position};
+use crate::fault::{Destination, Position, WidthFault, found_at};
+use crate::names::{Meaning, Names};
 use kp_ast::{Decl, Expr, ExprKind, Name, Num, Param};
-use kp_base::{Place, Refusal};
+use kp_base::{Finding, Place};
 use kp_bits::{BinOp, Literal};
 
 // The width of an expression that `done` declarations precede.
 #[cycle(width)]
-pub(crate) fn width(decls: &[Decl], done: usize, names: &Names, e: &Expr) -> Result<u8, Refusal>
+pub(crate) fn width(
+    decls: &[Decl],
+    done: usize,
+    names: &Names,
+    e: &Expr,
+) -> Result<u8, Finding<WidthFault>>
     requires { done ≤ length decls.now }
     ensures { result ≡ (width_of decls.now done names.now e.now).found }
 {
@@ -25,13 +31,13 @@ pub(crate) fn width(decls: &[Decl], done: usize, names: &Names, e: &Expr) -> Res
         ExprKind::Binary(op, a, b) => {
             let x = width(decls, done, names, a.get())?;
             let y = width(decls, done, names, b.get())?;
-            binary_width(*op, at, x, y)
+            binary_width(*op, at, a.get().place, b.get().place, x, y)
         }
         ExprKind::Mux(test, yes, no) => {
             let t = width(decls, done, names, test.get())?;
             let x = width(decls, done, names, yes.get())?;
             let y = width(decls, done, names, no.get())?;
-            choice_width(at, t, x, y)
+            choice_width(at, yes.get().place, no.get().place, t, x, y)
         }
         ExprKind::Concat(parts) => {
             let all = sum(decls, done, names, parts.as_slice())?;
@@ -49,7 +55,7 @@ pub(crate) fn width(decls: &[Decl], done: usize, names: &Names, e: &Expr) -> Res
             let args = args.as_slice();
             let meaning = called(decls, done, names, name, args.len(), at)?;
             let params = params(decls, meaning.from);
-            check_args(decls, done, names, params, args)?;
+            check_args(decls, done, names, meaning.from, params, args)?;
             Ok(meaning.width)
         }
     }
@@ -57,7 +63,7 @@ pub(crate) fn width(decls: &[Decl], done: usize, names: &Names, e: &Expr) -> Res
 
 // The sum of the widths, saturating at 65.
 #[cycle(width)]
-fn sum(decls: &[Decl], done: usize, names: &Names, es: &[Expr]) -> Result<u8, Refusal>
+fn sum(decls: &[Decl], done: usize, names: &Names, es: &[Expr]) -> Result<u8, Finding<WidthFault>>
     requires { done ≤ length decls.now }
     ensures { result ≡ (sum_of 0 (map (part_of decls.now done names.now) es.now)).found }
 {
@@ -82,103 +88,174 @@ fn check_args(
     decls: &[Decl],
     done: usize,
     names: &Names,
+    function: usize,
     params: &[Param],
     es: &[Expr],
-) -> Result<(), Refusal>
+) -> Result<(), Finding<WidthFault>>
     requires { done ≤ length decls.now }
-    ensures { result ≡ (arguments_of params.now 0 (map (part_of decls.now done names.now) es.now)).found }
+    ensures { result ≡ (arguments_of function params.now 0 (map (part_of decls.now done names.now) es.now)).found }
 {
     for (i, e) in es.iter().enumerate() {
-        let w = width(decls, done, names, e)?;
-        if u64::from(w) != param_width(params, i) {
-            return Err(Refusal::e(10, e.place));
+        let found = width(decls, done, names, e)?;
+        let wanted = param_width(params, i);
+        if u64::from(found) != wanted {
+            let to = Destination::Parameter { function, index: i };
+            return Err(found_at(e.place, WidthFault::Value { found, wanted, to }));
         }
     }
     Ok(())
 }
 
-// Checks that an expression has this width; another one violates the rule with this number.
-pub(crate) fn expect(
+// Checks that a value has the width of where it goes to.
+pub(crate) fn check_value(
     decls: &[Decl],
     done: usize,
     names: &Names,
     e: &Expr,
-    w: u64,
-    rule: u8,
-) -> Result<(), Refusal>
+    wanted: u8,
+    to: Destination,
+) -> Result<(), Finding<WidthFault>>
     requires { done ≤ length decls.now }
-    ensures { result ≡ (expected (part_of decls.now done names.now e.now) w rule).found }
+    ensures { result ≡ (value_of (part_of decls.now done names.now e.now) wanted to).found }
 {
-    let x = width(decls, done, names, e)?;
-    if u64::from(x) != w {
-        return Err(Refusal::e(rule, e.place));
+    let found = width(decls, done, names, e)?;
+    if found != wanted {
+        let wanted = u64::from(wanted);
+        return Err(found_at(e.place, WidthFault::Value { found, wanted, to }));
+    }
+    Ok(())
+}
+
+// Checks a condition in a statement.
+pub(crate) fn check_one_bit(
+    decls: &[Decl],
+    names: &Names,
+    e: &Expr,
+) -> Result<(), Finding<WidthFault>>
+    ensures { result ≡ (condition_of (part_of decls.now (length decls.now) names.now e.now)).found }
+{
+    let found = width(decls, decls.len(), names, e)?;
+    if found != 1 {
+        return Err(found_at(e.place, WidthFault::Condition { found }));
+    }
+    Ok(())
+}
+
+// Checks an address in a statement, of the file with this number of a declaration.
+pub(crate) fn check_address(
+    decls: &[Decl],
+    names: &Names,
+    e: &Expr,
+    wanted: u8,
+    file: usize,
+) -> Result<(), Finding<WidthFault>>
+    ensures { result ≡ (address_of (part_of decls.now (length decls.now) names.now e.now) wanted file).found }
+{
+    let found = width(decls, decls.len(), names, e)?;
+    if found != wanted {
+        let fault = WidthFault::Address {
+            found,
+            wanted,
+            file,
+        };
+        return Err(found_at(e.place, fault));
     }
     Ok(())
 }
 
 #[tactic(auto, using(kp_bits::proofs::Powers::mask_of, std::proofs::lemmas::Nat::pow_pos))]
-pub(crate) fn literal_width(literal: Literal, at: Place) -> Result<u8, Refusal>
+pub(crate) fn literal_width(literal: Literal, at: Place) -> Result<u8, Finding<WidthFault>>
     ensures { result ≡ (literal_of literal at).found }
 {
     if literal.width == 0 || literal.width > 64 {
-        return Err(Refusal::e(8, at));
+        let width = literal.width;
+        return Err(found_at(at, WidthFault::LiteralWidth { width }));
     }
     if literal.value > u64::MAX >> (64 - literal.width) {
-        return Err(Refusal::e(13, at));
+        let Literal { width, value } = literal;
+        return Err(found_at(at, WidthFault::LiteralValue { value, width }));
     }
     Ok(literal.width as u8)
 }
 
-fn binary_width(op: BinOp, at: Place, a: u8, b: u8) -> Result<u8, Refusal>
-    ensures { result ≡ (binary_of op at a b).found }
+fn binary_width(
+    op: BinOp,
+    at: Place,
+    left_at: Place,
+    right_at: Place,
+    a: u8,
+    b: u8,
+) -> Result<u8, Finding<WidthFault>>
+    ensures { result ≡ (binary_of op at left_at right_at a b).found }
 {
     if op.is_shift() {
         return Ok(a);
     }
     if a != b {
-        return Err(Refusal::e(9, at));
+        let fault = WidthFault::Operands {
+            op,
+            left: a,
+            right: b,
+            left_at,
+            right_at,
+        };
+        return Err(found_at(at, fault));
     }
     Ok(if is_test_op(op) { 1 } else { a })
 }
 
-fn choice_width(at: Place, test: u8, a: u8, b: u8) -> Result<u8, Refusal>
-    ensures { result ≡ (choice_of at test a b).found }
+fn choice_width(
+    at: Place,
+    left_at: Place,
+    right_at: Place,
+    test: u8,
+    a: u8,
+    b: u8,
+) -> Result<u8, Finding<WidthFault>>
+    ensures { result ≡ (choice_of at left_at right_at test a b).found }
 {
     if test != 1 {
-        return Err(Refusal::e(11, at));
+        return Err(found_at(at, WidthFault::Condition { found: test }));
     }
     if a != b {
-        return Err(Refusal::e(9, at));
+        let fault = WidthFault::Branches {
+            left: a,
+            right: b,
+            left_at,
+            right_at,
+        };
+        return Err(found_at(at, fault));
     }
     Ok(a)
 }
 
-fn concatenation_width(at: Place, all: u8) -> Result<u8, Refusal>
+fn concatenation_width(at: Place, all: u8) -> Result<u8, Finding<WidthFault>>
     ensures { result ≡ (concatenation_of at all).found }
 {
     if !is_in_range(u64::from(all)) {
-        return Err(Refusal::e(8, at));
+        return Err(found_at(at, WidthFault::JoinedWidth));
     }
     Ok(all)
 }
 
-fn slice_width(hi: u64, lo: u64, at: Place, w: u8) -> Result<u8, Refusal>
+fn slice_width(hi: u64, lo: u64, at: Place, w: u8) -> Result<u8, Finding<WidthFault>>
     ensures { result ≡ (slice_of hi lo at w).found }
 {
     if hi < lo || hi >= u64::from(w) {
-        return Err(Refusal::e(12, at));
+        return Err(found_at(at, WidthFault::Slice { hi, lo, width: w }));
     }
     Ok((hi - lo + 1) as u8)
 }
 
-fn extended_width(number: Num, at: Place, w: u8) -> Result<u8, Refusal>
+fn extended_width(number: Num, at: Place, w: u8) -> Result<u8, Finding<WidthFault>>
     ensures { result ≡ (extension_of number at w).found }
 {
-    if !is_in_range(number.value) {
-        return Err(Refusal::e(8, number.at));
+    let to = number.value;
+    if !is_in_range(to) {
+        return Err(found_at(number.at, WidthFault::DeclaredWidth { width: to }));
     }
-    if number.value < u64::from(w) {
-        return Err(Refusal::e(12, at));
+    if to < u64::from(w) {
+        return Err(found_at(at, WidthFault::Extension { from: w, to }));
     }
     Ok(number.value as u8)
 }
@@ -197,16 +274,22 @@ fn called(
     name: &Name,
     count: usize,
     at: Place,
-) -> Result<Meaning, Refusal>
+) -> Result<Meaning, Finding<WidthFault>>
     requires { done ≤ length decls.now }
     ensures { result ≡ (called_of decls.now done names.now name.now count at).found }
 {
     if names.find(name).is_none() && is_declared(&decls[done..], name) {
-        return Err(Refusal::e(26, at));
+        return Err(found_at(at, WidthFault::CalledEarly { before: done }));
     }
     let meaning = names.used(Position::Callee, name, at)?;
-    if count != params(decls, meaning.from).len() {
-        return Err(Refusal::e(7, at));
+    let wanted = params(decls, meaning.from).len();
+    if count != wanted {
+        let fault = WidthFault::ArgumentCount {
+            found: count,
+            wanted,
+            function: meaning.from,
+        };
+        return Err(found_at(at, fault));
     }
     Ok(meaning)
 }

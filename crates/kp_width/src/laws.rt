@@ -11,12 +11,18 @@ ghost use Rattle.kp_width.specs.Expressions.{width_of, params_of};
 ghost use Rattle.kp_width.specs.Declarations.{declarations_of};
 ghost use Rattle.kp_width.specs.Soundness.{HasWidth, AreArguments, Suits};
 ghost use Rattle.kp_width.specs.TextOrder.{declared_names};
-ghost use Rattle.kp_width.specs.Widths.{widths_of};
+ghost use Rattle.kp_width.specs.Widths.{widths_of, width_answers};
 
 /// There is one entry for every declared name, in text order.
 #[tactic(auto, using(crate::proofs::Entries::names_of_entries))]
 pub fn one_entry_for_each_name()
     ensures { (job : Job) → map (λ e. e.name) (widths_of job).value ≡ declared_names job }
+{}
+
+/// The first violation that is listed is the first one of all checks.
+#[tactic(auto, using(crate::proofs::Listed::verdict))]
+pub fn the_first_listed_is_the_verdict()
+    ensures { (job : Job) → first (width_answers job) ≡ first (widths_of job).asked }
 {}
 
 /// An expression that violates no rule evaluates to a word of its width, provided that each name that may occur in it

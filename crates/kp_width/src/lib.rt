@@ -3,9 +3,12 @@
 
 mod declarations;
 mod expressions;
+mod fault;
 mod job;
 pub mod laws;
 mod names;
 mod statements;
 
-pub use job::widths;
+pub use declarations::declared_name;
+pub use fault::{Destination, Position, WidthFault};
+pub use job::{width_findings, widths};

@@ -1,20 +1,24 @@
 // The names in scope, in tables with lookup in about constant time.
-ghost use Rattle.std.specs.Prelude.{◌≡◌, ◌++◌, ◌∷◌, [], None, OnOk, MatchOption, ⊤};
-ghost use Rattle.kp_width.specs.Names.{look_up, find, is_value_in, nothing, opened, with_entry, with_text, with_local, declared_text, declared_local, used};
-ghost use Rattle.kp_width.specs.inner.Positions.{takes};
+ghost use Rattle.std.specs.Prelude.{◌≡◌, ◌++◌, ◌∷◌, [], None, OnOk, MatchOption, nat_eq, ⊤};
+ghost use Rattle.std.specs.Cmp.Lexicographic.{pointwise};
+ghost use Rattle.indexmap.specs.IndexMap.{insert_entry};
+ghost use Rattle.kp_width.specs.Names.{look_up, find, bound_width, is_of_block, is_value_in, nothing, opened, with_entry, with_text, with_local, declared_text, declared_local, doubtful, doubted_text, doubted_local, sense, takes, used};
+ghost use Rattle.kp_width.specs.Widths.{listed};
 
+use crate::fault::{Position, WidthFault, found_at};
 use indexmap::IndexMap;
 use kp_ast::{Entry, Name, NameKind, Scope};
-use kp_base::{NoMemory, Place, Refusal};
+use kp_base::{Finding, NoMemory, Place};
 use std::alloc::Global;
 use std::marker::Model;
 
-// The meaning of a name: its kind and width, and the number of its declaration.
+// The meaning of a name: its kind and width, and the number of its declaration. It is doubtful if that is refused.
 #[derive(Clone, Copy)]
 pub(crate) struct Meaning {
     pub kind: NameKind,
     pub width: u8,
     pub from: usize,
+    pub doubtful: bool,
 }
 
 impl Model for Meaning {
@@ -22,21 +26,22 @@ impl Model for Meaning {
 
     ghost Value = { Sense };
 
-    ghost view = { λ m. record { kind = m.kind; width = m.width; from = m.from } };
+    ghost view = { λ m. record { kind = m.kind; width = m.width; from = m.from; doubtful = m.doubtful } };
 
-    ghost inverse = { λ s. record { kind = s.kind; width = s.width; from = s.from } };
+    ghost inverse = { λ s. record { kind = s.kind; width = s.width; from = s.from; doubtful = s.doubtful } };
 }
 
-// The position in which a name is used: each position accepts certain kinds.
-#[derive(Clone, Copy)]
-pub(crate) enum Position {
-    Value,
-    Register,
-    File,
-    Pipe,
-    Result,
-    Hint,
-    Callee,
+impl Meaning {
+    pub fn new(kind: NameKind, width: u8, from: usize) -> Meaning
+        ensures { result ≡ sense kind width from }
+    {
+        Meaning {
+            kind,
+            width,
+            from,
+            doubtful: false,
+        }
+    }
 }
 
 // Names with their meanings, in the order in which they were added.
@@ -83,6 +88,20 @@ impl Table {
         self.meanings.insert(name, meaning)?;
         Ok(())
     }
+
+    // From now on, the name is doubtful.
+    fn doubt(&mut self, name: Name) -> Result<(), NoMemory>
+        ensures { OnOk result (self.new ≡ insert_entry (pointwise nat_eq) self.old name doubtful) }
+    {
+        let meaning = Meaning {
+            kind: NameKind::Reg,
+            width: 0,
+            from: 0,
+            doubtful: true,
+        };
+        self.meanings.insert(name, meaning)?;
+        Ok(())
+    }
 }
 
 // The names in scope at a position in the text, and the entries of all that were declared before it.
@@ -91,6 +110,7 @@ pub(crate) struct Names {
     local: Table,
     here: Scope,
     entries: Vec<Entry>,
+    doubts: bool,
 }
 
 impl Drop for Names {
@@ -100,6 +120,7 @@ impl Drop for Names {
             local,
             here: _,
             entries,
+            doubts: _,
         } = self;
         drop(text);
         drop(local);
@@ -112,7 +133,7 @@ impl Model for Names {
 
     ghost Value = { Scoped };
 
-    ghost view = { λ n. record { text = n.text; local = n.local; here = n.here; entries = n.entries.items } };
+    ghost view = { λ n. record { text = n.text; local = n.local; here = n.here; entries = n.entries.items; doubts = n.doubts } };
 }
 
 impl Names {
@@ -125,6 +146,7 @@ impl Names {
             local: Table::new(alloc),
             here: Scope::Text,
             entries: Vec::new(alloc),
+            doubts: false,
         }
     }
 
@@ -147,20 +169,56 @@ impl Names {
         }
     }
 
-    /// The meaning of a name in scope that the position accepts. Errors: E6 if it isn't in scope, E7 if the position doesn't accept its kind.
-    pub fn used(&self, position: Position, name: &Name, at: Place) -> Result<Meaning, Refusal>
-        ensures { result ≡ (used self.now (takes position self.now.here) name.now at).found }
+    /// Which function or block is open.
+    pub fn here(&self) -> Scope
+        ensures { result ≡ self.now.here }
     {
+        self.here
+    }
+
+    /// The meaning of a name in scope that the position accepts. Errors: E6 if it isn't in scope, E7 if the position doesn't accept its kind, or it is doubtful.
+    pub fn used(
+        &self,
+        position: Position,
+        name: &Name,
+        at: Place,
+    ) -> Result<Meaning, Finding<WidthFault>>
+        ensures { result ≡ (used self.now position name.now at).found }
+    {
+        let here = self.here;
         match self.find(name) {
-            None => Err(Refusal::e(6, at)),
+            None => {
+                let bound = self.bound_width(name);
+                Err(found_at(at, WidthFault::NotInScope { here, bound }))
+            }
             Some(meaning) => {
-                if fits(self.here, position, meaning.kind) {
+                if meaning.doubtful {
+                    Err(found_at(at, WidthFault::Doubtful))
+                } else if fits(here, position, meaning.kind) {
                     Ok(meaning)
                 } else {
-                    Err(Refusal::e(7, at))
+                    let fault = WidthFault::WrongKind {
+                        found: meaning.kind,
+                        from: meaning.from,
+                        wanted: position,
+                        here,
+                    };
+                    Err(found_at(at, fault))
                 }
             }
         }
+    }
+
+    // The width of the first name of a block that is this one.
+    fn bound_width(&self, name: &Name) -> Option<u8>
+        ensures { result ≡ bound_width self.now.entries name.now }
+    {
+        for entry in self.entries.as_slice() {
+            if is_of_block(entry.scope) && entry.name == *name {
+                return Some(entry.width);
+            }
+        }
+        None
     }
 
     /// Adds the entry of a name.
@@ -203,6 +261,35 @@ impl Names {
         self.local.add(name.clone()?, meaning)
     }
 
+    /// A name whose declaration is refused is doubtful to the end of the text. Error: out of memory.
+    pub fn doubt_text(&mut self, name: &Name) -> Result<(), NoMemory>
+        ensures { OnOk result (self.new ≡ doubted_text self.old name.now) }
+    {
+        self.open(Scope::Text);
+        self.doubts = true;
+        self.entries.clear();
+        self.text.doubt(name.clone()?)
+    }
+
+    /// A name whose statement is refused is doubtful to the end of the open block. Error: out of memory.
+    pub fn doubt_local(&mut self, name: &Name) -> Result<(), NoMemory>
+        ensures { OnOk result (self.new ≡ doubted_local self.old name.now) }
+    {
+        self.doubts = true;
+        self.local.doubt(name.clone()?)
+    }
+
+    /// What is listed of an item whose first violation this is: nothing if it follows from another one.
+    pub fn listed(&self, finding: Finding<WidthFault>) -> Option<Finding<WidthFault>>
+        ensures { result ≡ listed self.now finding }
+    {
+        if self.doubts && finding.fault.is_doubtful() {
+            None
+        } else {
+            Some(finding)
+        }
+    }
+
     /// The entries of all names that were declared, in text order.
     pub fn into_entries(self) -> Vec<Entry>
         ensures { result.items ≡ self.entries }
@@ -212,9 +299,16 @@ impl Names {
             local: _,
             here: _,
             entries,
+            doubts: _,
         } = self;
         entries
     }
+}
+
+fn is_of_block(scope: Scope) -> bool
+    ensures { result ≡ is_of_block scope }
+{
+    matches!(scope, Scope::Stage(_))
 }
 
 fn fits(here: Scope, position: Position, kind: NameKind) -> bool

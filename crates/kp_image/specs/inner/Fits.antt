@@ -5,11 +5,6 @@ use Rattle.kp_ast.specs.{Expressions.is_same_name, declared.tree.Decl.Decl, decl
 use Rattle.kp_ast.specs.declared.tree.Decl.TheVariants as decls
 use Rattle.kp_stage.specs.Start.{first_address, laid_over}
 
--- a file has at most 65,536 words
-abbrev pub HasFewWords : Decl → Type 0
-HasFewWords (decls.File n width address) = address.value ≤ 16
-HasFewWords _ = Unit {0}
-
 -- an entry for this name ends within this many words
 abbrev pub EndsWithin : List ℕ → ℕ → Image → Type 0
 EndsWithin name words e = is_same_name e.name.name name ≡ true → first_address e + length e.values ≤ words

@@ -3,7 +3,7 @@ use Rattle.std.specs.Option.{option_map}
 use Rattle.std.specs.Prelude.{List, None, Option, Some, [], length, ℕ, ◌∷◌, ◌≡◌}
 use Rattle.kp_base.specs.{Check.Check, First.first}
 use Rattle.kp_ast.specs.declared.tree.{Decl.Decl, Expr.Expr, Job.Job, ReadStmt.ReadStmt}
-use Rattle.kp_width.specs.Expressions.{width_of}
+use Rattle.kp_width.specs.{Expressions.width_of, Faults.WidthFinding}
 use Rattle.kp_machine.specs.{Slots.Slot, Slots.number_of, Slots.result_named, Trees.Progress}
 use Rattle.kp_net.specs.{Growth.Held, Growth.Wire, Nodes.Cells, Nodes.at, Nodes.on, declared.node.NodeId.NodeId}
 use Rattle.kp_build.specs.Names.{Gives, Scope}
@@ -16,7 +16,7 @@ abbrev pub target_named : List Decl → List Slot → List ℕ → Option ℕ
 target_named ds targets name = option_map (λ r. number_of targets r.target.name) (result_named ds name)
 
 -- the width of an expression before statement j of stage k, and whether it satisfies the rules
-abbrev pub width_in : Job → ℕ → ℕ → Expr → Check ℕ
+abbrev pub width_in : Job → ℕ → ℕ → Expr → Check WidthFinding ℕ
 width_in job k j e = width_of job.decls (length job.decls) (scope_at job k j) e
 
 abbrev pub IsRight : Job → ℕ → ℕ → Expr → Type 0

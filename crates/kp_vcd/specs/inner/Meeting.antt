@@ -2,7 +2,7 @@
 use Rattle.std.specs.Prelude.{◌≡◌, ℕ, List, Option, None, Some, Result, Ok, Err, ⊤, []}
 use Rattle.kp_base.specs.declared.place.Place.{Place}
 use Rattle.kp_vcd.specs.{declared.dump.Dump.Dump, Words.Spot, Forms.Form}
-use Rattle.kp_vcd.specs.{Reading.Fault, Reading.State, Reading.change, Reading.walk, Reading.at, Reading.ends, Reading.step, Reading.says, inner.Left.Left}
+use Rattle.kp_vcd.specs.{Verdicts.Meets, Reading.Fault, Reading.State, Reading.change, Reading.walk, Reading.at, Reading.ends, Reading.step, Reading.says, inner.Left.Left}
 use Rattle.kp_vcd.specs.declared.refused.DumpRefused.{DumpRefused}
 use Rattle.kp_vcd.specs.declared.refused.DumpRefused.TheVariants as refused
 
@@ -14,16 +14,6 @@ gives_from s left = walk (Ok s) left.words left.end
 abbrev pub gives_behind : Dump → Option ℕ → Left → Result Dump Fault
 gives_behind d None left = Ok d
 gives_behind d (Some t) left = gives_from (at (change t []) d) left
-
--- a part of the reader returns the fault of the verdict, or out of memory
-abbrev pub Fails : Result Dump Fault → DumpRefused → Type 0
-Fails whole (refused.Rule rule place) = whole ≡ Err (record { rule = rule; place = place })
-Fails whole refused.NoMemory = ⊤
-
--- the verdict is the same as the one after a part, or the part fails
-abbrev pub Meets : {T : Type 0} → Result Dump Fault → (T → Result Dump Fault) → Result T DumpRefused → Type 0
-Meets whole behind (Ok x) = whole ≡ behind x
-Meets whole behind (Err e) = Fails whole e
 
 -- the meaning of a token, or the rule that it violates at this position
 abbrev pub refusing : {X : Type 0} → Place → Form X → Result X DumpRefused

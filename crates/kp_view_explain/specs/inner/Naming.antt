@@ -1,5 +1,5 @@
 -- The message for a text that is no sentence of the language, before it is written.
-use Rattle.std.specs.Prelude.{◌≡◌, ℕ, List, Option, MatchOption, Ok}
+use Rattle.std.specs.Prelude.{◌≡◌, ◌++◌, ℕ, List, Option, MatchOption, Ok}
 use Rattle.kp_base.specs.declared.{place.Place.Place, refusal.Refusal.Refusal}
 use Rattle.kp_lex.specs.{Text.HasOutcome, declared.token.Token.Token, declared.token.Lexed.Lexed}
 use Rattle.kp_parse.specs.Sentence.{Breaks}
@@ -8,6 +8,7 @@ use Rattle.kp_view_help.specs.{Texts.found_text, declared.found.FoundToken.Found
 use Rattle.kp_view_message.specs.declared.message.Message.{Message}
 use Rattle.kp_view_message.specs.declared.message.Message.TheVariants as messages
 use Rattle.kp_view_message.specs.declared.reading_fault.ReadingFault.TheVariants as faults
+use Rattle.kp_view_texts.specs.Heads.{rule_head}
 use Rattle.kp_view_explain.specs.Listing.{IsNext, SaysNext, found_at, tokens_before}
 
 -- the message for the token at a place, or for the end of the text there, with the set of the classes that can be there
@@ -31,3 +32,7 @@ NamesAt text refusal m = refusal.number ≡ 4 → MatchOption m ⊥ (NamesWrong 
 abbrev pub ListsAt : List ℕ → Refusal → List ℕ → Type 0
 ListsAt text refusal said = (lexed : Lexed) → refusal.number ≡ 4 → HasOutcome text (Ok lexed) → Breaks text lexed.tokens refusal
     → SaysNext text lexed.tokens refusal.place said
+
+-- the text after that head
+abbrev pub ListsAfter : List ℕ → List ℕ → Refusal → List ℕ → Type 0
+ListsAfter file text refusal said = (facts : List ℕ) × ListsAt text refusal facts × (said ≡ rule_head file refusal ++ facts)

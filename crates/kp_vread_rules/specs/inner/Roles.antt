@@ -1,17 +1,7 @@
 -- The meaning of the reader's roles and occurrences.
-use Rattle.std.specs.Prelude.{ℕ, List, codes}
 use Rattle.kp_vlog.specs.Occurrences as roles
-use Rattle.kp_vread_rules.specs.declared.role.{PortName.PortName, Role.Role}
-use Rattle.kp_vread_rules.specs.declared.role.PortName.TheVariants as ports
+use Rattle.kp_vread_rules.specs.{Ports.port_name, declared.role.Role.Role}
 use Rattle.kp_vread_rules.specs.declared.role.Role.TheVariants as kinds
-
-abbrev pub port_name : PortName → List ℕ
-port_name ports.Clk = codes "clk"
-port_name ports.Rst = codes "rst"
-port_name ports.Ext = codes "ext"
-port_name ports.Full = codes "full"
-port_name ports.Ue = codes "ue"
-port_name ports.Back = codes "back"
 
 abbrev pub role_of : Role → roles.Role
 role_of kinds.NamesModule = roles.names_module

@@ -1,9 +1,6 @@
-use Rattle.std.proofs.Common.{◌≡◌, ◌++◌, drop, map, None}
-use Rattle.kp_base.specs.First.{first}
-use Rattle.kp_image.specs.{Sections.stalls_checked, inner.Kept.span_of}
+use Rattle.std.proofs.Common.{◌≡◌, ◌++◌, drop, map}
+use Rattle.kp_image.specs.inner.Kept.{span_of}
 use Rattle.kp_image.proofs.stalls.spans.Given as goal
 
 abbrev pub invariant-loop-e : goal.invariant-loop-e
-invariant-loop-e l =
-    (l.spans.items ++ map span_of (drop l.e-index l.entries) ≡ map span_of l.entries)
-    × (first (stalls_checked l.stages (drop l.e-index l.entries)).asked ≡ None)
+invariant-loop-e l = l.spans.items ++ map span_of (drop l.e-index l.entries) ≡ map span_of l.entries

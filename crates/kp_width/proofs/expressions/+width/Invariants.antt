@@ -9,5 +9,5 @@ invariant-sum-loop-e l =
 
 abbrev pub invariant-check_args-loop-i : goal.invariant-check_args-loop-i
 invariant-check_args-loop-i l =
-    (arguments_of l.params l.i (map (part_of l.decls l.done l.names) (drop l.i l.es))).found
-    ≡ (arguments_of l.params 0 (map (part_of l.decls l.done l.names) l.es)).found
+    (arguments_of l.function l.params l.i (map (part_of l.decls l.done l.names) (drop l.i l.es))).found
+    ≡ (arguments_of l.function l.params 0 (map (part_of l.decls l.done l.names) l.es)).found

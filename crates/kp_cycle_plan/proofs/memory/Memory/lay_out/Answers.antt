@@ -1,10 +1,10 @@
-use Rattle.std.proofs.Common.{◌≡◌, ◌+◌, ◌^◌, ◌<◌, ◌≤◌, ℕ, List, ◌∷◌, length, get_or, map, take, zero, suc, refl, All, subst, sym, ap, ◌∙◌, replicate, Ok, arith, Result}
+use Rattle.std.proofs.Common.{◌≡◌, ◌+◌, ◌^◌, ◌<◌, ◌≤◌, ℕ, List, ◌∷◌, length, get_or, map, take, zero, suc, refl, All, subst, sym, ap, ◌∙◌, replicate, arith, Result}
 use Rattle.std.proofs.lemmas.{List.Elements.All-get_or, List.Elements.All-push, List.Sums.sum_by_more, List.Sums.sum_by_more_le, Nat.pow_pos}
 use Rattle.std.{proofs.lemmas.List.get_or-replicate, proofs.Math.Seq.take-length, specs.Prelude.IfOk, specs.Prelude.OnOk}
 use Rattle.std.specs.List.{sum_by}
 use Rattle.kp_net.specs.{declared.netlist.NetFile.NetFile, declared.netlist.Parts.Parts, Widths.wide}
 use Rattle.kp_region.specs.{declared.span.Span.Span, declared.region.Full.Full, Words.Words, Words.IsSound, Words.span_words, Words.next_span, Words.carved, Spans.no_span}
-use Rattle.kp_region.proofs.{Laid.take-laid_over, Spans.apart_carved, Spans.length_carved, Spans.carved_zeros, Spans.ok_unless, Spans.span_length}
+use Rattle.kp_region.proofs.{Laid.take-laid_over, Spans.apart_carved, Spans.length_carved, Spans.carved_zeros, Spans.ok_unless, Spans.region_is, Spans.span_is, Spans.span_length}
 use Rattle.kp_cycle_plan.specs.{declared.slots.Slot.Slot, inner.Spans.IsLast, inner.Spans.Laid, inner.Spans.first_span, inner.Spans.front}
 use Rattle.kp_cycle_plan.proofs.{Spans.lens_more, Spans.fits_laid, Copies.laid_out, Copies.laid_past, Copies.unsaved}
 use Rattle.kp_cycle_plan.proofs.memory.Memory.lay_out.Goals as goal
@@ -69,13 +69,6 @@ module _ (r : Words) (g : Span) (fs : List Span) (w : Span) (slots : List Slot) 
       let zero : ℕ = 0 in
       let many : length (carved r n).words ≡ length r.words = length_carved r n (omega arith) in
       (laid_past r g fs w slots h (carved r n).words (take-laid_over r.words (replicate n zero) r.used sound r.used (omega arith)) many, (refl, full ∙ sym many))
-
--- what a call of carve gave
-span_is : (r : Words) (n : ℕ) (o : Result Span Full) (s : Span) → o ≡ Ok s → IfOk o (λ t. t ≡ next_span r n) → s ≡ next_span r n
-span_is r n o s e h = let P : Result Span Full → Type 0 = λ x. IfOk x (λ t. t ≡ next_span r n) in subst P e h
-
-region_is : (r new : Words) (n : ℕ) (o : Result Span Full) (s : Span) → o ≡ Ok s → OnOk o (new ≡ carved r n) → new ≡ carved r n
-region_is r new n o s e h = let P : Result Span Full → Type 0 = λ x. OnOk x (new ≡ carved r n) in subst P e h
 
 pub invariant_of-result : goal.invariant_of-result
 invariant_of-result c =

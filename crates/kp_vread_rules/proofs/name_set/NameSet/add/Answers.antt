@@ -1,4 +1,4 @@
-use Rattle.std.proofs.Common.{◌∙◌, ◌≡◌, ℕ, List, true, cond, ap}
+use Rattle.std.proofs.Common.{◌∙◌, true, cond, ap}
 use Rattle.std.specs.{Prelude.nat_eq, List.list_any, Cmp.Lexicographic.pointwise}
 use Rattle.kp_net.specs.Names.{same}
 use Rattle.kp_vread_rules.proofs.Sets.{adds}

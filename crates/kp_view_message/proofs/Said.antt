@@ -1,0 +1,19 @@
+-- What is said of names and widths.
+use Rattle.std.proofs.Common.{◌≡◌, ℕ, List, Option, None}
+use Rattle.kp_base.specs.declared.finding.Finding.{Finding}
+use Rattle.kp_ast.specs.declared.tree.Job.{Job}
+use Rattle.kp_width.specs.{Faults.rule_of, declared.fault.WidthFault.WidthFault}
+use Rattle.kp_width.specs.declared.fault.WidthFault.TheVariants as faults
+use Rattle.kp_view_excerpt.specs.Tokens.{token_at}
+use Rattle.kp_view_help.specs.{Helps.IsHelpForWords, declared.help.Help.Help, declared.word.Word.Word}
+use Rattle.kp_view_message.specs.Widths.{AreNameHelps, AreNumberHelps, IsWidthMessage, bits_in, widths_in}
+use Rattle.kp_view_message.specs.declared.{message.Message.Message, sentence.Sentence.Sentence}
+use Rattle.kp_view_message.specs.declared.message.Message.TheVariants as messages
+
+pub said : (text : List ℕ) (job : Job) (f : Finding WidthFault) (m : Message) (s : Sentence) (name : Word) → m ≡ messages.Rule (rule_of f.fault) s
+    → bits_in s.terms ≡ widths_in f.fault → name.0.now ≡ token_at text f.place → AreNameHelps text job f.place name f.fault s.helps → IsWidthMessage text job f m
+said text job f m s name is widths spelled helps = (s, is, widths, (name, spelled, helps))
+
+pub words : (width : ℕ) (found : Option Help) (helps : Option Help × Option Help) → IsHelpForWords width found → helps ≡ (found, None)
+    → AreNumberHelps (faults.DeclaredAddress width) helps
+words width found helps is same = (found, is, same)

@@ -1,6 +1,0 @@
-use Rattle.std.proofs.Common.{◌≡◌, ◌+◌, ◌≤◌, take}
-use Rattle.kp_base.specs.Place.{line_after}
-use Rattle.kp_view_verilog_module.proofs.lines.line_of.Given as goal
-
-abbrev pub invariant-loop-byte : goal.invariant-loop-byte
-invariant-loop-byte l = (l.line ≡ line_after (take l.byte-index l.before)) × (l.line ≤ l.byte-index + 1)

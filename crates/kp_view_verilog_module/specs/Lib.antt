@@ -1,5 +1,0 @@
-pub mod PrintedWidths
-pub mod Uses
-pub mod NameFaults
-pub mod DriverFaults
-pub mod inner

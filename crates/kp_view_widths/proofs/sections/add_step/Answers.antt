@@ -1,7 +1,0 @@
-use Rattle.std.proofs.Common.{Some}
-use Rattle.kp_view_widths.proofs.Noted.{input_noted}
-use Rattle.kp_view_widths.proofs.sections.add_step.Goals as goal
-
-pub returns-in-Some : goal.returns-in-Some
-returns-in-Some c =
-    input_noted c.args.job.now c.args.entry.now (Some c.args.declared) _ _ _ _ c.add.ensures c.requires.one c.requires.known c.in-Some.ensures c.requires.so_far

@@ -1,3 +1,0 @@
--- These definitions are only for private contracts and proofs: no public clause depends on them.
-pub mod Naming
-pub mod Noting

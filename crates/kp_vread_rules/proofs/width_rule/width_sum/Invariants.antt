@@ -1,6 +1,0 @@
-use Rattle.std.proofs.Common.{◌≡◌, ◌+◌, ◌*◌, ◌^◌, ◌≤◌, drop}
-use Rattle.kp_vlog.specs.Rules.{width_sum}
-use Rattle.kp_vread_rules.proofs.width_rule.width_sum.Given as goal
-
-abbrev pub invariant-loop-part : goal.invariant-loop-part
-invariant-loop-part l = (l.sum ≤ l.part-index * 2 ^ 64) × (l.sum + width_sum l.sizes (drop l.part-index l.parts) ≡ width_sum l.sizes l.parts)
