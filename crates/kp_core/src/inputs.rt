@@ -3,8 +3,7 @@ ghost use Rattle.std.specs.Prelude.{◌≡◌, ◌≤◌, length, Err, IfOk};
 ghost use Rattle.kp_frontend.specs.Judging.{most_bytes, JudgesHeadText};
 ghost use Rattle.kp_core_ports.specs.Ports.{ports_of, AllExist};
 ghost use Rattle.kp_core.specs.Due.{DueOfHead, DueOfLines, IsCoreOf};
-ghost use Rattle.kp_core.specs.{Answers.text_said, Messages.BeginsWith};
-ghost use Rattle.kp_view_texts.specs.Heads.{rule_head};
+ghost use Rattle.kp_core.specs.{Answers.text_said, declared.request.Form.Form};
 
 use crate::answer::{Answer, Said};
 use crate::{Form, message_of};
@@ -38,8 +37,8 @@ pub fn of_input(alloc: Global, form: Form, file: &[u8], text: &[u8]) -> Result<A
 fn explained(alloc: Global, file: &[u8], text: &[u8], refusal: Refusal) -> Result<Answer, NoMemory>
     requires short { length text.now ≤ most_bytes }
     requires judged { JudgesHeadText text.now (Err refusal) }
-    ensures status { IfOk result (λ a. a.status ≡ 2) }
-    ensures begins { IfOk result (λ a. BeginsWith (rule_head file.now refusal) (text_said a.said)) }
+    ensures due { IfOk result (λ a. (form : Form) → DueOfHead form file.now text.now a.status (text_said a.said)) }
+    ensures low { IfOk result (λ a. a.status ≤ 2) }
 {
     let Explanation { status, text } = explain_head(alloc, file, text, refusal)?;
     Ok(Answer {
