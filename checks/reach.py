@@ -6,8 +6,8 @@
     python3 checks/reach.py --list [ROOT ..]   the definitions of specs/ that the roots name, directly or through others: for each file how many
                                                of its lines these have, without comments and blank lines, and their names
 
-A root is a definition, as kp_tool.specs.Headline.IsMoving, or clauses of a function, as kp_tool/tool:pipe_is_legal,pipe_moves (all clauses without
-names after the colon); without roots it is those of the headline. On the page a comment `<!-- reach: ROOT .. -->` has the roots of the rows up
+A root is a definition, as kp_tool.specs.Headline.IsMoving, or its lines with one of the words after a colon, as kp_tool.specs.Promises.Shows:Sim,Vcd, or
+clauses of a function, as kp_tool/tool:due,promises (all clauses without names after the colon); without roots it is those of the headline. On the page a comment `<!-- reach: ROOT .. -->` has the roots of the rows up
 to the next one; `partly:` before them says that other rows have what else they reach. The number in a row is the lines of those definitions in
 its files that the roots reach and the roots of earlier rows don't. A definition begins at the left edge, and its names come in by `use` lines; an operator is found by its symbol.
 """
@@ -17,7 +17,7 @@ import sys
 
 TOP = os.path.dirname(os.path.dirname(os.path.abspath(__file__)))
 PAGE = f"{TOP}/docs/BELIEVE.md"
-HEADLINE = ["kp_tool/tool:pipe_is_legal,pipe_moves,pipe_has_no_needless_stall,sim_is_legal,sim_moves,sim_has_no_needless_stall"]
+HEADLINE = ["kp_tool.specs.Promises.IsPipeline:correct", "kp_tool.specs.Headline.IsRunWith", "kp_tool.specs.Headline.IsCorrect", "kp_tool.specs.Due.Between", "kp_words.specs.Commands.command_of"]
 GROUP = re.compile(r"\buse (Rattle\.[^\s{]+?)\.\{([^}]*)\}")
 USE = re.compile(r"^use Rattle\.([^\s{]+?)(?:\.\{([^}]*)\})?(?: as (\S+))?$", re.M)
 FIELD = re.compile(r"^ +(?:pub )?\S+ :(?= )")
@@ -122,18 +122,23 @@ def clauses(crate, function, wanted):
     sys.exit(f"reach: {crate} has no function {function}")
 
 
-def starts(roots):
+def starts(found, roots):
     for root in roots:
-        crate, slash, rest = root.partition("/")
+        path, _, words = root.partition(":")
+        crate, slash, function = path.partition("/")
+        module, _, name = path.rpartition(".")
         if slash:
-            function, _, names = rest.partition(":")
-            yield from clauses(crate, function, [it for it in names.split(",") if it])
+            yield from clauses(crate, function, [it for it in words.split(",") if it])
+        elif words:
+            wanted = set(words.split(","))
+            lines = [it for it in found[module].definitions[name] if wanted & set(re.findall(r"\w+", it))]
+            yield from (it for it in named_in(found[module], module, lines) if it != (module, name))
         else:
-            yield tuple(root.rsplit(".", 1))
+            yield module, name
 
 
 def reached(found, roots):
-    seen, left = [], list(starts(roots))
+    seen, left = [], list(starts(found, roots))
     while left:
         module, name = left.pop(0)
         if (module, name) in seen or module not in found or name not in found[module].definitions:

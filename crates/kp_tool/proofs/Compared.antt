@@ -7,13 +7,13 @@ use Rattle.kp_ast.specs.declared.tree.Job.{Job}
 use Rattle.kp_pipeline.specs.Rows.{Row}
 use Rattle.kp_machine.specs.{Machine.inputs_from, Slots.targets_of, Words.HasWord, Words.target}
 use Rattle.kp_net.specs.Netlist.{Net}
-use Rattle.kp_sched.specs.{Lines.row_lines, Monitors.Kept, Rows.row_seen, Rows.rows_seen, Runs.due_value, Runs.passes}
+use Rattle.kp_sched.specs.{Lines.row_lines, Monitors.Kept, Rows.row_seen, Rows.rows_seen, Runs.due_value}
 use Rattle.kp_sched.proofs.Counting.{seen_length}
 use Rattle.kp_implements.specs.Traces.{trace_of}
 use Rattle.kp_run.{specs.Boards.due_behind, specs.Cycles.HasRows, specs.Cycles.own_trace, specs.declared.board.Board.Board, proofs.Prefixes.rows_many}
 use Rattle.kp_run.specs.declared.difference.Difference.{Difference}
 use Rattle.kp_watch.specs.Watching.{own_due, Agrees, IsFirstDifference}
-use Rattle.kp_report.specs.{Runs.run_text, Runs.count_line, States.State, Texts.differs_line}
+use Rattle.kp_report.specs.{Runs.run_text, Texts.differs_line}
 use Rattle.kp_report.specs.Differing as shown
 use Rattle.kp_tool.proofs.OwnText.{run_text_alike}
 use Rattle.kp_tool.specs.{Watched.own_text, Watched.differing_text, Watched.DueOfRun, Watched.agrees, Watched.differs, Watching.status_by, Watching.text_by}

@@ -13,21 +13,8 @@ use Rattle.kp_words.specs.declared.commands.JobCommand.TheVariants.{Sim, Vcd, Pi
 use Rattle.kp_described.specs.Sections.{IsWith, HasSections}
 use Rattle.kp_isa.specs.Runs.{start_state, Fits, Retires, IsProcessor}
 use Rattle.kp_isa.proofs.Memory.{starts_fit, reset_fits}
-use Rattle.kp_tool.specs.{Due.DueFor, Executing.ExecutesAs, Headline.IsMoving, Headline.IsVerilogWith, Headline.IsRunWith, Headline.IsDumpedWith, Headline.IsDebuggedWith, Headline.IsNetlistWith}
-use Rattle.kp_tool.proofs.Headline.{judged_unbroken, head_unbroken, HoldsOfPipe, HoldsAlike, legal_pipe, moves_pipe, legal_alike, moves_alike, sim_with, vcd_with, debug_with, pipe_with, watch_is_legal}
-
--- a run that is legal and moves
-abbrev Both : Job → List Inputs → Trace → Type 0
-Both job ins trace = IsLegal job ins trace × IsMoving job ins trace
-
-abbrev BothFrom : Job → (ℕ → ℕ → ℕ) → List Inputs → Trace → Type 0
-BothFrom job s ins trace = IsLegalFrom job s ins trace × IsMoving job ins trace
-
-both_pipe : HoldsOfPipe Both
-both_pipe job ins acc = (legal_pipe job ins acc, moves_pipe job ins acc)
-
-both_alike : HoldsAlike BothFrom
-both_alike job s ins trace acc alike = (legal_alike job s ins trace acc alike, moves_alike job s ins trace acc alike)
+use Rattle.kp_tool.specs.{Due.DueFor, Executing.ExecutesAs, Headline.IsCorrect, Headline.IsCorrectFrom, Headline.IsVerilogWith, Headline.IsRunWith, Headline.IsDumpedWith, Headline.IsDebuggedWith, Headline.IsNetlistWith}
+use Rattle.kp_tool.proofs.Headline.{judged_unbroken, head_unbroken, correct_pipe, correct_alike, sim_with, vcd_with, debug_with, pipe_with, watch_is_legal}
 
 from_start : (job : Job) (ins : List Inputs) (trace : Trace) → IsLegal job ins trace → IsLegalFrom job (start_state job) ins trace
 unfolding due_value value_from
@@ -57,15 +44,15 @@ module _ (head : List ℕ) (base : Job) (Ready : (ℕ → ℕ → ℕ) → Type 
   shows_start : (job : Job) (ins : List Inputs) (trace : Trace) → HasSections base job → broken_in job ≡ None → IsLegal job ins trace → Ready (start_state job) → Follows (start_state job) trace
   shows_start job ins trace has none legal ready = p.runs job (start_state job) ins trace has (starts_fit job none) (from_start job ins trace legal) ready
 
-  runs_from : (job : Job) (s : ℕ → ℕ → ℕ) (ins : List Inputs) (trace : Trace) → HasSections base job → Fits job s → BothFrom job s ins trace → RunsFrom job s ins trace
-  runs_from job s ins trace has fits b = (p.runs job s ins trace has fits b.0, p.retires job ins trace has b.1.0)
+  runs_from : (job : Job) (s : ℕ → ℕ → ℕ) (ins : List Inputs) (trace : Trace) → HasSections base job → Fits job s → IsCorrectFrom job s ins trace → RunsFrom job s ins trace
+  runs_from job s ins trace has fits b = (p.runs job s ins trace has fits b.legal, p.retires job ins trace has b.moves.0)
 
-  runs_start : (job : Job) (ins : List Inputs) (trace : Trace) → HasSections base job → broken_in job ≡ None → Both job ins trace → Runs job ins trace
-  runs_start job ins trace has none b = (shows_start job ins trace has none b.0, p.retires job ins trace has b.1.0)
+  runs_start : (job : Job) (ins : List Inputs) (trace : Trace) → HasSections base job → broken_in job ≡ None → IsCorrect job ins trace → Runs job ins trace
+  runs_start job ins trace has none b = (shows_start job ins trace has none b.legal, p.retires job ins trace has b.moves.0)
 
   pub pipe_is : DueFor (Some (OnJob Pipe)) input 0 text → IsVerilogWith RunsFrom input text
   pipe_is due =
-      let v = pipe_with BothFrom both_alike input text due in
+      let v = pipe_with IsCorrectFrom correct_alike input text due in
       let has = judged_is v.job v.judged in
       let none = judged_unbroken input v.job v.judged in
       record {
@@ -75,16 +62,18 @@ module _ (head : List ℕ) (base : Job) (Ready : (ℕ → ℕ → ℕ) → Type 
         denotes = v.denotes;
         of_job = v.of_job;
         outputs = v.outputs;
-        holds = λ ins quiet. runs_from v.job (start_state v.job) _ (trace_of v.job v.net ins) has (starts_fit v.job none) (v.holds ins quiet);
-        anew = λ st i ins there raised quiet.
-            runs_from v.job (left_by_reset v.job (value_shown v.job v.net st)) _ (trace_from v.job v.net (state_after v.net i st) ins) has
-            (reset_fits v.job none v.net st v.of_job there) (v.anew st i ins there raised quiet);
-        memory = v.memory;
+        runs = record {
+          holds = λ ins quiet. runs_from v.job (start_state v.job) _ (trace_of v.job v.net ins) has (starts_fit v.job none) (v.runs.holds ins quiet);
+          anew = λ st i ins there raised quiet.
+              runs_from v.job (left_by_reset v.job (value_shown v.job v.net st)) _ (trace_from v.job v.net (state_after v.net i st) ins) has
+              (reset_fits v.job none v.net st v.of_job there) (v.runs.anew st i ins there raised quiet);
+          memory = v.runs.memory;
+        };
       }
 
   pub sim_is : (n : ℕ) → DueFor (Some (OnJob (Sim n))) input 0 text → IsRunWith Runs n input text
   sim_is n due =
-      let r = sim_with Both both_pipe n input text due in
+      let r = sim_with IsCorrect correct_pipe n input text due in
       record {
         job = r.job;
         judged = r.judged;
@@ -95,7 +84,7 @@ module _ (head : List ℕ) (base : Job) (Ready : (ℕ → ℕ → ℕ) → Type 
 
   pub vcd_is : (n : ℕ) → DueFor (Some (OnJob (Vcd n))) input 0 text → IsDumpedWith Runs n input text
   vcd_is n due =
-      let r = vcd_with Both both_pipe n input text due in
+      let r = vcd_with IsCorrect correct_pipe n input text due in
       record {
         job = r.job;
         judged = r.judged;
@@ -108,7 +97,7 @@ module _ (head : List ℕ) (base : Job) (Ready : (ℕ → ℕ → ℕ) → Type 
 
   pub debug_is : DueFor (Some Debug) input 0 text → IsDebuggedWith Runs input text
   debug_is due =
-      let r = debug_with Both both_pipe input text due in
+      let r = debug_with IsCorrect correct_pipe input text due in
       record {
         job = r.job;
         rest = r.rest;

@@ -26,7 +26,7 @@ use Rattle.kp_gen.{specs.Generated.gen_job, proofs.Unbroken.generated_unbroken}
 use Rattle.kp_vcd.specs.{Held.held, Held.Changes, Dumps.own_run, Dumps.values_at, Dumps.vcd_dump}
 use Rattle.kp_vcd.proofs.{Holding.recorded_held, Holding.recorded_new, Lasting.run_lasts}
 use Rattle.kp_timing.{specs.Unfit.untimed, proofs.Plain.has_timeline}
-use Rattle.kp_tool.specs.Headline.{IsMoving, HasNoNeedlessStall, HasNoNeedlessStallFrom, IsVerilogWith, IsRunWith, IsDumpedWith, IsGeneratedWith, IsTimed, IsDebuggedWith, IsNetlistWith, IsPairAlike, IsPairDifferent, Implements, IsImplementation, RunsWith, IsPairWith}
+use Rattle.kp_tool.specs.Headline.{IsMoving, HasNoNeedlessStall, HasNoNeedlessStallFrom, IsCorrect, IsCorrectFrom, IsVerilogWith, IsRunWith, IsDumpedWith, IsGeneratedWith, IsTimed, IsDebuggedWith, IsNetlistWith, IsPairAlike, IsPairDifferent, Implements, IsImplementation, RunsWith, IsPairWith}
 use Rattle.kp_tool.specs.{Due.DueFor, Due.DueOfTiming, Read.ReadsVerilog}
 use Rattle.kp_tool.specs.{Watched.agrees, Watched.differs, Watched.DueOfNetlist, Watched.of_other, Watched.of_job, Compared.jobs, Compared.DueOfModules}
 use Rattle.kp_tool.{specs.Scripted.DueOfScript, proofs.Pairs.first_right, proofs.Pairs.second_right, proofs.Pairs.comparable_pair}
@@ -55,7 +55,7 @@ accepted_machine job none =
 abbrev pub HoldsOfPipe : (Job → List Inputs → Trace → Type 0) → Type 0
 HoldsOfPipe Fact = (job : Job) (ins : List Inputs) → Accepted (machine_of job) → Fact job ins (pipe_of job ins)
 
-pub legal_pipe : HoldsOfPipe IsLegal
+legal_pipe : HoldsOfPipe IsLegal
 legal_pipe job ins acc =
     alike_is_legal job ins _ _ (record { rows = refl; values = λ T t x h w. refl })
     (legal (machine_of job) (state_of job (start_of job)) (start_hints job) ins acc)
@@ -97,14 +97,16 @@ pipe_with Fact law input text (Ok job, judged, (zero, verilog)) =
       denotes = verilog.denotes;
       of_job = verilog.shows.of_job;
       outputs = verilog.shows.outputs;
-      holds = λ ins quiet. law job (state_of job (start_of job)) (inputs_seen job ins) (trace_of job net ins) acc (verilog.shows.runs ins quiet);
-      anew = λ st i ins there raised quiet. law job (left_by_reset job (value_shown job net st)) (inputs_seen job ins) (trace_from job net (state_after net i st) ins) acc
-          (verilog.anew.runs st i ins there raised quiet);
-      memory = verilog.anew.memory;
+      runs = record {
+        holds = λ ins quiet. law job (state_of job (start_of job)) (inputs_seen job ins) (trace_of job net ins) acc (verilog.shows.runs ins quiet);
+        anew = λ st i ins there raised quiet. law job (left_by_reset job (value_shown job net st)) (inputs_seen job ins) (trace_from job net (state_after net i st) ins) acc
+            (verilog.anew.runs st i ins there raised quiet);
+        memory = verilog.anew.memory;
+      };
     }
 pipe_with Fact law input text (Err refusal, judged, due) = absurd (omega (arith, due.0))
 
-pub moves_pipe : HoldsOfPipe IsMoving
+moves_pipe : HoldsOfPipe IsMoving
 moves_pipe job ins acc =
     let s : ℕ → ℕ → ℕ = state_of job (start_of job) in
     (moves (machine_of job) s (start_hints job) ins acc, never-squashed (machine_of job) s (start_hints job) ins acc)
@@ -125,8 +127,11 @@ waits_with job s ins trace acc same = record {
   rows = same;
 }
 
-pub waits_pipe : HoldsOfPipe HasNoNeedlessStall
+waits_pipe : HoldsOfPipe HasNoNeedlessStall
 waits_pipe job ins acc = waits_with job (state_of job (start_of job)) ins (pipe_of job ins) acc refl
+
+pub correct_pipe : HoldsOfPipe IsCorrect
+correct_pipe job ins acc = record { legal = legal_pipe job ins acc; moves = moves_pipe job ins acc; no_needless_stall = waits_pipe job ins acc }
 
 -- what `timing` prints for a job that it doesn't reject is the timeline of a job without guesses and samples
 timed_job : (n : ℕ) (input text : List ℕ) (job : Job) → Judges input (Ok job) → (found : Option Refusal) → untimed job ≡ found → DueOfTiming n job found 0 text
@@ -189,17 +194,21 @@ pub gen_with : (Fact : Job → List Inputs → Trace → Type 0) → HoldsOfPipe
 unfolding gen_text
 gen_with Fact law number n input text said = gen_run Fact law number n text (gen_job number) refl (generated_unbroken number) said.1
 
-pub legal_alike : HoldsAlike IsLegalFrom
+legal_alike : HoldsAlike IsLegalFrom
 legal_alike job s ins trace acc alike = alike_is_legal_from job s ins _ _ alike (legal (machine_of job) s (start_hints job) ins acc)
 
-pub moves_alike : HoldsAlike (λ job s. IsMoving job)
+moves_alike : HoldsAlike (λ job s. IsMoving job)
 moves_alike job s ins trace acc alike = (
   alike_moves job ins _ _ alike (moves (machine_of job) s (start_hints job) ins acc),
   alike_stays job _ _ alike (never-squashed (machine_of job) s (start_hints job) ins acc),
 )
 
-pub waits_alike : HoldsAlike HasNoNeedlessStallFrom
+waits_alike : HoldsAlike HasNoNeedlessStallFrom
 waits_alike job s ins trace acc alike = waits_with job s ins trace acc alike.rows
+
+pub correct_alike : HoldsAlike IsCorrectFrom
+correct_alike job s ins trace acc alike =
+    record { legal = legal_alike job s ins trace acc alike; moves = moves_alike job s ins trace acc alike; no_needless_stall = waits_alike job s ins trace acc alike }
 
 module _ (n : ℕ) (input text : List ℕ) (job : Job) (rest : ℕ) (judged : JudgesHead input (Ok (job, rest))) (net : Net) (denotes : ReadsVerilog input rest (Ok net)) where
   legal_netlist : DueOfNetlist n job net 0 text → IsNetlistWith IsLegal n input text

@@ -25,3 +25,4 @@ pub mod OwnText
 mod Watches
 pub mod Together
 pub mod Executing
+pub mod Promised

@@ -1,11 +1,11 @@
 -- The ends of the top call: from the specified outcomes of an input to those of the arguments and the source, and to the status.
 use Rattle.std.proofs.Common.{true, false, ◌≤◌, ◌≡◌, ◌≢◌, ◌∙◌, ℕ, List, [], length, None, Some, Ok, Err, refl, sym, subst, inl, arith}
 use Rattle.std.specs.{declared.option.Option.Option, declared.result.Result.Result, Io.KnownBytes.Consumes, Io.KnownBytes.IsAtEnd}
-use Rattle.kp_base.specs.{declared.refusal.Refusal.Refusal, Causes.Rose}
+use Rattle.kp_base.specs.Causes.{Rose}
 use Rattle.kp_words.specs.{declared.commands.Command.Command, Commands.command_of, Commands.reads_input}
 use Rattle.kp_report.specs.Texts.{bad_words}
-use Rattle.kp_tool.{proofs.Refusals.refused_where_broken, proofs.Misreads.misread_where_broken, proofs.Ends.weaker, proofs.Statuses.final, proofs.Statuses.no_command, specs.Saying.Says}
-use Rattle.kp_tool.specs.{Due.DueFor, Due.IsDue, Due.IsFinal, Due.Completes, Due.Begins, Due.Between, Refused.Breaks, Misread.Misreads, Ends.Ends, Ends.EndsAt}
+use Rattle.kp_tool.{proofs.Ends.weaker, proofs.Statuses.final, proofs.Statuses.no_command, specs.Saying.Says}
+use Rattle.kp_tool.specs.{Due.DueFor, Due.IsDue, Due.IsFinal, Due.Completes, Due.Begins, Due.Between, Ends.Ends, Ends.EndsAt}
 use Rattle.kp_tool.specs.{inner.Failures.stop_status, inner.Failures.end_status, declared.failure.Failure.Failure, declared.failure.Stop.Stop}
 use Rattle.kp_tool.specs.declared.failure.Stop.TheVariants.{ReadFault, WriteFault, NoMemory}
 
@@ -90,28 +90,9 @@ module _ {S : Type 0} (held : S → Option (List ℕ)) (faults : S → ℕ) (V :
         said.0
 
     -- what is true of a command's specified outcomes is true of the bytes that were read and written
-    pub between : (command : Command) (end status : ℕ) (Fact : List ℕ → List ℕ → Type 0)
-        → ((input text : List ℕ) → DueFor (Some command) input end text → Fact input text)
-        → command_of words ≡ Some command → status ≡ end → Whole status → Between left left_after (held old) (held new) Fact
-    between command end status Fact law is same (text, due, written) =
-        let due_at = subst (λ (s : ℕ). DueFor (Some command) due.taken s text) same (subst (λ (c : Option Command). DueFor c due.taken status text) is due.due) in
-        (due.taken, text, due.consumed, written, law due.taken text due_at)
-
-    -- the same for status 0
-    pub at_zero : (command : Command) (r : Result ℕ Stop) (status : ℕ) (Fact : List ℕ → List ℕ → Type 0)
-        → ((input text : List ℕ) → DueFor (Some command) input 0 text → Fact input text)
-        → Ended r → status ≡ end_status r → command_of words ≡ Some command → status ≡ 0 → Between left left_after (held old) (held new) Fact
-    at_zero command r status Fact law ends is_end is zero =
-        between command 0 status Fact law is zero (completes r status ends is_end (λ e. omega arith, λ e. omega arith, λ e. omega arith))
-
-    -- and if the status isn't that of a violated rule, no rule is violated
-    pub not_refused : (command : Command) (status : ℕ) → command_of words ≡ Some command → status ≢ 2 → Whole status
-        → Between left left_after (held old) (held new) (λ input text. (refusal : Refusal) → Breaks command input refusal → ⊥)
-    not_refused command status is other whole =
-        between command status status _ (λ input text due refusal broken. other (refused_where_broken command input status text refusal due broken)) is refl whole
-
-    -- the same for the rules of Verilog
-    pub not_misread : (command : Command) (status : ℕ) → command_of words ≡ Some command → status ≢ 6 → Whole status
-        → Between left left_after (held old) (held new) (λ input text. (refusal : Refusal) → Misreads command input refusal → ⊥)
-    not_misread command status is other whole =
-        between command status status _ (λ input text due refusal broken. other (misread_where_broken command input status text refusal due broken)) is refl whole
+    pub between : (command : Command) (status : ℕ) (Fact : List ℕ → List ℕ → Type 0)
+        → ((input text : List ℕ) → DueFor (Some command) input status text → Fact input text)
+        → command_of words ≡ Some command → Whole status → Between left left_after (held old) (held new) Fact
+    between command status Fact law is (text, due, written) =
+        let due_for = subst (λ (c : Option Command). DueFor c due.taken status text) is due.due in
+        (due.taken, text, due.consumed, written, law due.taken text due_for)

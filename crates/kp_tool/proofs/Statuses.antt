@@ -6,7 +6,7 @@ use Rattle.kp_ast.specs.declared.tree.Job.{Job}
 use Rattle.kp_words.specs.declared.commands.Command.{Command}
 use Rattle.kp_words.specs.declared.commands.Command.TheVariants.{OnJob, Assemble, Read, Watch, Compare, Debug, Generate}
 use Rattle.kp_words.specs.declared.commands.JobCommand.{JobCommand}
-use Rattle.kp_words.specs.declared.commands.JobCommand.TheVariants.{Seq, Check, Sim, Pipe, Vcd, Timing}
+use Rattle.kp_words.specs.declared.commands.JobCommand.TheVariants.{Timing}
 use Rattle.kp_net.specs.Netlist.{Net}
 use Rattle.kp_timing.specs.Unfit.{untimed}
 use Rattle.kp_equiv.specs.declared.verdict.Verdict.TheVariants.{Same, Differs}

@@ -1,5 +1,5 @@
 -- HOW THE COMMANDS AGREE: what the specified text of one command says about those of others.
-use Rattle.std.specs.Prelude.{◌≡◌, ◌≤◌, ◌++◌, ℕ, true, List, [], ◌∷◌, length, None, Some, Ok}
+use Rattle.std.specs.Prelude.{◌≡◌, ◌≤◌, ◌<◌, ◌^◌, ◌++◌, ℕ, true, List, [], ◌∷◌, length, None, Some, Ok}
 use Rattle.kp_base.specs.declared.refusal.Refusal.{Refusal}
 use Rattle.kp_ast.specs.declared.tree.Job.{Job}
 use Rattle.kp_stage.specs.{Counts.summary_of, Start.input as samples_at}
@@ -12,7 +12,7 @@ use Rattle.kp_words.specs.declared.commands.{Command.TheVariants.OnJob, Command.
 use Rattle.kp_words.specs.declared.commands.JobCommand.TheVariants.{Seq, Sim}
 use Rattle.kp_frontend.specs.Judging.{Judges, JudgesHead, most_bytes}
 use Rattle.kp_watch.specs.Watching.{IsFirstDifference}
-use Rattle.kp_vcd.specs.Dumps.{own_run}
+use Rattle.kp_vcd.specs.{Dumps.own_run, Dumps.vcd_dump, Reading.verdict}
 use Rattle.kp_report.specs.{Texts.accepted_line, States.text_after, Runs.run_text, Runs.counts_behind}
 use Rattle.kp_tool.specs.{Due.DueFor, Read.ReadsVerilog, Refused.Breaks, Refused.own_rule, Watched.differing_text}
 
@@ -69,3 +69,7 @@ abbrev pub IsWatched : List ℕ → List ℕ → Type 0
 IsWatched input text =
     (front : List ℕ) (n : ℕ) (answer : List ℕ) → input ≡ front ++ 10 ∷ [] → length (input ++ text) ≤ most_bytes
     → DueFor (Some (OnJob (Sim n))) input 0 answer → DueFor (Some (Watch n)) (input ++ text) 0 answer
+
+-- `vcd N` AND A READER OF DUMPS: the text violates no rule of dumps, and is read as the dump of the job's run, as far as a text counts time.
+abbrev pub IsReadAsDump : ℕ → List ℕ → List ℕ → Type 0
+IsReadAsDump n input text = (job : Job) × Judges input (Ok job) × (n < 2 ^ 64 → verdict text ≡ Ok (vcd_dump n job))

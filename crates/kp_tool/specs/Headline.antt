@@ -12,8 +12,9 @@ use Rattle.kp_pipeline.specs.SpeculativeTimeline.{timeline_rows as path_rows, ti
 use Rattle.kp_pipeline.specs.RightPath.{NoWrongGuess, WaitsOnlyWhereItMust, first_moment}
 use Rattle.kp_machine.specs.Machine.{machine_of, state_of, start_hints, pipe_of, inputs_from}
 use Rattle.kp_net.specs.Netlist.{Net, Input, State, state_after, last_of}
-use Rattle.kp_sched.specs.Runs.{due_value}
+use Rattle.kp_sched.specs.Runs.{due_value, IsLegal}
 use Rattle.kp_implements.specs.{Naming.module_name, Naming.value_shown, Traces.trace_of, Traces.inputs_seen, Traces.AreQuiet, Shows.IsOfJob, Shows.HasOutputs}
+use Rattle.kp_implements.specs.Legal.{IsLegalFrom}
 use Rattle.kp_implements.specs.Anew.{trace_from, left_by_reset, HasMemory, BeginsAnew}
 use Rattle.kp_vlog.specs.{Denote.Denotes, Splitting.FirstEnds}
 use Rattle.kp_equiv.specs.{declared.verdict.Verdict.TheVariants.Same, declared.verdict.Verdict.TheVariants.Differs, Agreement.IsFirstDifference, Runs.RunAlike, Showing.renamed, Showing.ShowsButName, Texts.verdict_line}
@@ -49,10 +50,27 @@ pub record HasNoNeedlessStallFrom (job : Job) (s : ℕ → ℕ → ℕ) (ins : L
 abbrev pub HasNoNeedlessStall : Job → List Inputs → Trace → Type 0
 HasNoNeedlessStall job ins trace = HasNoNeedlessStallFrom job (state_of job (start_of job)) ins trace
 
--- The text denotes a netlist of the job: it has the job's ports, registers and files, and outputs of their widths. The fact holds of each run of it from its start on, whatever comes in, until the reset is raised. And in
--- WHATEVER state the reset is raised, at power-up or in a run, the machine begins anew, over the memory that stands then, and the fact
--- holds from there on, until the reset is raised again. The only claim on that state is that its files have words of their widths, as each
--- state of a run has.
+-- A CORRECT RUN is legal, moves, and has no needless stall. `From`: from a state s of registers and files; otherwise from the job's start.
+pub record IsCorrectFrom (job : Job) (s : ℕ → ℕ → ℕ) (ins : List Inputs) (trace : Trace) : Type 0 where
+  pub legal : IsLegalFrom job s ins trace
+  pub moves : IsMoving job ins trace
+  pub no_needless_stall : HasNoNeedlessStallFrom job s ins trace
+
+pub record IsCorrect (job : Job) (ins : List Inputs) (trace : Trace) : Type 0 where
+  pub legal : IsLegal job ins trace
+  pub moves : IsMoving job ins trace
+  pub no_needless_stall : HasNoNeedlessStall job ins trace
+
+-- The fact holds of each run of the netlist from its start on, whatever comes in, until the reset is raised. And in WHATEVER state the reset is raised, at
+-- power-up or in a run, the machine begins anew, over the memory at that time, and the fact holds from there on, until the reset is raised again.
+-- The only claim on that state is that its files have words of their widths, as each state of a run has.
+pub record RunsWith (Fact : Job → (ℕ → ℕ → ℕ) → List Inputs → Trace → Type 0) (net : Net) (job : Job) : Type 0 where
+  pub holds : (ins : List Input) → AreQuiet ins → Fact job (state_of job (start_of job)) (inputs_seen job ins) (trace_of job net ins)
+  pub anew : (st : State) (i : Input) (ins : List Input) → HasMemory net st → i.reset ≡ true → AreQuiet ins
+      → Fact job (left_by_reset job (value_shown job net st)) (inputs_seen job ins) (trace_from job net (state_after net i st) ins)
+  pub memory : (ins : List Input) → HasMemory net (last_of net ins)
+
+-- The text denotes a netlist of the job: it has the job's ports, registers and files, and outputs of their widths. The fact holds of all its runs.
 pub record IsVerilogWith (Fact : Job → (ℕ → ℕ → ℕ) → List Inputs → Trace → Type 0) (input text : List ℕ) : Type 0 where
   pub job : Job
   pub judged : Judges input (Ok job)
@@ -60,10 +78,7 @@ pub record IsVerilogWith (Fact : Job → (ℕ → ℕ → ℕ) → List Inputs �
   pub denotes : Denotes 0 text net
   pub of_job : IsOfJob net job
   pub outputs : HasOutputs net
-  pub holds : (ins : List Input) → AreQuiet ins → Fact job (state_of job (start_of job)) (inputs_seen job ins) (trace_of job net ins)
-  pub anew : (st : State) (i : Input) (ins : List Input) → HasMemory net st → i.reset ≡ true → AreQuiet ins
-      → Fact job (left_by_reset job (value_shown job net st)) (inputs_seen job ins) (trace_from job net (state_after net i st) ins)
-  pub memory : (ins : List Input) → HasMemory net (last_of net ins)
+  pub runs : RunsWith Fact net job
 
 -- The text prints the run of the pipelined machine of the input's job over n cycles of the job's own stall words and samples: its rows, followed by
 -- the values of the sequential machine. The fact holds of this run.
@@ -178,14 +193,6 @@ pub record IsImplementation (input text : List ℕ) : Type 0 where
   pub net : Net
   pub denotes : Denotes 0 text net
   pub implements : Implements net job
-
--- The fact holds of each run of the netlist from its start on until the reset is raised; and of each run after a reset, in whatever state it is raised,
--- over the memory at that time, until it is raised again.
-pub record RunsWith (Fact : Job → (ℕ → ℕ → ℕ) → List Inputs → Trace → Type 0) (net : Net) (job : Job) : Type 0 where
-  pub holds : (ins : List Input) → AreQuiet ins → Fact job (state_of job (start_of job)) (inputs_seen job ins) (trace_of job net ins)
-  pub anew : (st : State) (i : Input) (ins : List Input) → HasMemory net st → i.reset ≡ true → AreQuiet ins
-      → Fact job (left_by_reset job (value_shown job net st)) (inputs_seen job ins) (trace_from job net (state_after net i st) ins)
-  pub memory : (ins : List Input) → HasMemory net (last_of net ins)
 
 -- The two texts after a job denote netlists of the job, and if one of the two implements the job, as the text of `pipe` does, then the fact holds of
 -- all runs of both.
