@@ -1,7 +1,3 @@
-mod Tests
-mod Transfer
-mod Sentences
-mod Machine
 mod Exact
 mod Listing
 mod Named

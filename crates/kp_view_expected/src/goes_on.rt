@@ -1,10 +1,9 @@
 // The classes of tokens with which some description goes on.
-ghost use Rattle.std.specs.Prelude.{◌↔◌, ℕ, List, [], map, IfOk, MatchOption};
+ghost use Rattle.std.specs.Prelude.{◌↔◌, ◌≡◌, ℕ, List, map, IfOk};
 ghost use Rattle.kp_parse_grammar.specs.Tokens.{Lexeme, lexemes};
 ghost use Rattle.kp_view_expected.specs.GoesOn.{class_of, GoesOn, Lists};
-ghost use Rattle.kp_view_expected.specs.inner.Plain.{stack, Follows, Fails, IsListing};
 
-use crate::rest::Rest;
+use crate::part::Part;
 use crate::set::Expected;
 use crate::token_class::TokenClass;
 use kp_base::NoMemory;
@@ -16,32 +15,24 @@ pub fn expected(alloc: Global, front: &[Token]) -> Result<Expected, NoMemory>
     // A token is of a listed class exactly where some description begins with these tokens and this one.
     ensures { IfOk result (λ e. (text : List ℕ) (t : Lexeme) → Lists e (class_of t.kind) ↔ GoesOn (lexemes text front.now) t) }
 {
-    match after(alloc, front)? {
-        Some(rest) => listed(alloc, &rest),
-        None => Ok(Expected::none()),
-    }
+    let classes = classes_of(alloc, front)?;
+    let mut listed = [false; 53];
+    kp_expected::expected(
+        alloc,
+        Part::Job,
+        classes.as_slice(),
+        TokenClass::all(),
+        &mut listed,
+    )?;
+    Ok(Expected { listed })
 }
 
-// What is still to come after these tokens, or none where no description begins with them.
-fn after(alloc: Global, front: &[Token]) -> Result<Option<Rest>, NoMemory>
-    ensures { IfOk result (λ r. MatchOption r (Fails (map (λ t. class_of t.kind) front.now)) (λ rest. Follows (map (λ t. class_of t.kind) front.now) [] (stack rest.symbols.items))) }
+fn classes_of(alloc: Global, tokens: &[Token]) -> Result<Vec<TokenClass>, NoMemory>
+    ensures { IfOk result (λ classes. classes.items ≡ map (λ t. class_of t.kind) tokens.now) }
 {
-    let mut rest = Rest::whole(alloc)?;
-    for token in front {
-        if !rest.read(TokenClass::of(token.kind))? {
-            return Ok(None);
-        }
+    let mut classes = Vec::new(alloc);
+    for token in tokens {
+        classes.push(TokenClass::of(token.kind))?;
     }
-    Ok(Some(rest))
-}
-
-// The classes that can come next.
-fn listed(alloc: Global, rest: &Rest) -> Result<Expected, NoMemory>
-    ensures { IfOk result (λ e. IsListing e.listed (stack rest.now.symbols.items)) }
-{
-    let mut expected = Expected::none();
-    for (i, class) in TokenClass::all().iter().enumerate() {
-        expected.listed[i] = rest.goes_on(alloc, *class)?;
-    }
-    Ok(expected)
+    Ok(classes)
 }

@@ -5,7 +5,6 @@ mod display;
 mod goes_on;
 pub mod laws;
 mod part;
-mod rest;
 mod set;
 mod token_class;
 

@@ -1,8 +1,9 @@
 // The tokens that may stand at a place.
-ghost use Rattle.std.specs.Prelude.{◌≡◌, ◌↔◌, false, length, All, IsTrue};
+ghost use Rattle.std.specs.Prelude.{◌↔◌, IsTrue};
 ghost use Rattle.kp_view_expected.specs.GoesOn.{Lists};
 
 use crate::token_class::TokenClass;
+use kp_expected::Class;
 
 /// A set of classes of tokens.
 #[derive(Clone, Copy)]
@@ -12,16 +13,6 @@ pub struct Expected {
 }
 
 impl Expected {
-    /// No class at all.
-    pub(crate) fn none() -> Expected
-        ensures off { All (λ b. b ≡ false) result.listed }
-        ensures len { length result.listed ≡ 53 }
-    {
-        Expected {
-            listed: [false; 53],
-        }
-    }
-
     /// Whether a token of this class is among them.
     pub fn has(&self, class: TokenClass) -> bool
         ensures { IsTrue result ↔ Lists self.now class }

@@ -1,0 +1,5 @@
+pub mod Plain
+pub mod Rows
+pub mod GoesOn
+pub mod Starts
+pub mod inner

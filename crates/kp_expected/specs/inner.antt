@@ -1,0 +1,3 @@
+-- Definitions for private contracts and proofs.
+pub mod Readable
+pub mod Steps
