@@ -86,7 +86,7 @@ quiet again make "$work/made"
     for it in kp kpview kpcore; do
         grep -q /opt/some/share "$at/share/man/man1/$it.1" || echo "$it.1 doesn't name the prefix"
     done
-    for it in yosys2kp kpasm kpvary; do
+    for it in yosys2kp kpasm kpvary kpcut; do
         "$at/bin/$it" --help < /dev/null | grep -q "^usage: $it " || echo "$it doesn't run where it is installed"
     done
     find "$root" -name __pycache__

@@ -1,0 +1,166 @@
+#!/usr/bin/env python3
+"""Whether what tools/kpcut writes is the same machine: python3 checks/kpcut.py [RANDOM]
+
+- each example, with --flat and its functions closed and open, is accepted, `kpview same` shows it, and `kp seq` prints the same after 20 instructions;
+- mini5, dlx5, dlxs and rv32i, flat, get the five stages of the examples by a few lines, and `kp sim` prints the rows of the example;
+- RANDOM random jobs, 40 by default, are written flat and with random lines, with the same results, or are rejected by one of K4 to K6;
+- each rule K1 to K6 is reported at its place;
+- where `kpview same` shows nothing, nothing is written, and the status is 6.
+
+KP and KPVIEW name other programs than ./kp and ./kpview. The last line is `N checked, M wrong`, and the status is 0 where M is 0; without `kpview same` it is 77."""
+import glob
+import os
+import random
+import re
+import subprocess
+import sys
+import tempfile
+
+sys.dont_write_bytecode = True
+TOP = os.path.dirname(os.path.dirname(os.path.abspath(__file__)))
+from random_job import random_job
+
+KP = os.environ.get('KP', f'{TOP}/kp')
+KPVIEW = os.environ.get('KPVIEW', f'{TOP}/kpview')
+EXAMPLES = sorted(set(glob.glob(f'{TOP}/examples/*.kp') + glob.glob(f'{TOP}/examples/cookbook/*.kp') + glob.glob(f'{TOP}/examples/riscv/*.kp')) - {f'{TOP}/examples/big.kp'})
+
+# The lines by which the flat form becomes the five stages of the example.
+BY_HAND = {
+    'mini5': 'a at 1\nb at 1\nsum at 2\nm at 3\nG at 2 3\nM at 3\nNPC at 2\nSAVED at 2\nG writes at 4',
+    'dlx5': 'a at 1\nb at 1\np at 1\nNPC at 1\nr at 2\nm at 3\nG at 2 3\nM at 3\nG writes at 4',
+    'dlxs': 'a at 1\nb at 1\nNPC at 2\nr at 2\nm at 3\nG at 2 3\nM at 3\nG writes at 4',
+    'riscv/rv32i': 'xa at 1\nxb at 1\nr at 2\nNPC at 2\nm at 3\nG at 2 3\nM at 3\nG writes at 4',
+}
+# Lines after mini5, and the place and the sentence of what is wrong with them; lines are counted from that after `end`.
+LINES = [
+    ('a at 1', (2, 1), 'K1', 'no line says how many stages there are'),
+    ('stages 5\nx y z', (2, 1), 'K1', 'no line begins with `x` and has this form'),
+    ('stages 5\nstages 6', (2, 1), 'K1', 'a second line `stages`'),
+    ('stages 5\ndepth deep', (2, 1), 'K1', 'no line begins with `depth` and has this form'),
+    ('stages 5\n  q at 2 // c', (2, 3), 'K2', 'no statement reads, names, puts, sets or aims `q`'),
+    ('stages 5\nop at 2', (2, 1), 'K2', '`op` consists of bits of other values, and has no stage of its own'),
+    ('stages 5\nR writes at 4', (2, 1), 'K2', 'there is no result `R`'),
+    ('stages 5\nopen f', (2, 6), 'K2', 'there is no function `f`'),
+    ('stages 5\nalone sum', (2, 7), 'K2', '`sum` is no read, and `alone` is for reads'),
+    ('stages 5\nagain i', (2, 7), 'K2', '`i` is a read, and `again` is for other values'),
+    ('stages 13', (1, 8), 'K3', 'a machine has 2 to 12 stages, not 13'),
+    ('stages 5\na at 5', (2, 6), 'K3', 'the stages are 0 to 4'),
+    ('stages 5\nG at 2', (2, 6), 'K3', '`G` is set 2 times'),
+    ('stages 5\nG at 3 2', (2, 8), 'K3', 'the sets of `G` are in rising stages'),
+    ('stages 5\na at 0\ni from 1', (2, 6), 'K4', '`a` can be in stage 1 at the earliest'),
+    ('stages 5\nG writes at 1', (2, 13), 'K4', '`G` can be written in stage 2 at the earliest'),
+    ('stages 3\na from 2\nm from 2\nG at 2 2', (4, 8), 'K3', 'the sets of `G` are in rising stages'),
+    ('stages 3\nG from 2 3', (2, 10), 'K3', 'the stages are 0 to 2'),
+    ('stages 5\nG from 4 4', (2, 10), 'K3', 'the sets of `G` are in rising stages'),
+    ('stages 4\nsum from 3\nalone m', (1, 8), 'K5', 'with these lines 5 stages are needed'),
+    ('stages 5\ndepth 1', (2, 7), 'K5', 'with this depth 7 stages are needed'),
+]
+
+
+def run(words, text='', status=None):
+    """Standard output, or `status N: ..` where another status was expected."""
+    said = subprocess.run(words, input=text.encode('latin-1'), stdout=subprocess.PIPE, stderr=subprocess.PIPE)
+    if said.returncode != (status or 0):
+        return f'status {said.returncode}: ' + said.stderr.decode('latin-1').strip()
+    return (said.stderr if status else said.stdout).decode('latin-1')
+
+
+def kpcut(text, *options, status=None):
+    return run([sys.executable, f'{TOP}/tools/kpcut', *options], text, status)
+
+
+def without_sections(text):
+    return re.sub(r'\bstalls\s*\{[^}]*\}', '', text)
+
+
+def differs(job, made):
+    """What is wrong with what was made of a job, or an empty text. That it is the same is checked by kpcut itself, and here by runs."""
+    if not made.startswith('status '):
+        runs = [run([*KP.split(), 'seq', '20'], it) for it in (without_sections(job), made)]
+        return '' if runs[0] == runs[1] and not runs[0].startswith('status') else f'other results: {runs[1][:60]}'
+    return made
+
+
+def examples():
+    for path in EXAMPLES:
+        with open(path, encoding='latin-1') as it:
+            job = it.read()
+        for lines in ('', 'open all\n'):
+            yield f'{os.path.relpath(path, TOP)} {lines.strip()}', differs(job, kpcut(job + lines, '--flat'))
+
+
+def by_hand():
+    for name, lines in BY_HAND.items():
+        with open(f'{TOP}/examples/{name}.kp', encoding='latin-1') as it:
+            job = it.read()
+        made = kpcut(kpcut(job, '--flat') + f'stages 5\n{lines}\n')
+        rows = [run([*KP.split(), 'sim', '60'], it) for it in (job, made)]
+        yield f'{name} by lines', differs(job, made) or ('' if rows[0] == rows[1] else 'other rows')
+
+
+def random_jobs(count):
+    written = 0
+    for seed in range(count):
+        rng, job = random.Random(seed), random_job(seed)
+        yield f'random job {seed}, flat', differs(job, kpcut(job, '--flat'))
+        names = sorted(set(re.findall(r'\b(?:read|let) (\w+)', job)))
+        stages = rng.randrange(3, 13)
+        lines = [f'stages {stages}', *([f'depth {rng.randrange(20, 200)}'] if rng.random() < 0.4 else [])]
+        lines += [f'{it} from {rng.randrange(stages)}' for it in names if rng.random() < 0.2]
+        made = kpcut(job + '\n'.join(lines) + '\n')
+        rejected = re.match(r'status 2: .*: error (K[2-6]):', made)
+        written += not rejected
+        yield f"random job {seed}, {'; '.join(lines)}", '' if rejected else differs(job, made)
+    yield 'random lines', '' if 2 * written >= count else f'only {written} of {count} are written'
+
+
+def rules():
+    with open(f'{TOP}/examples/mini5.kp', encoding='latin-1') as it:
+        job = it.read()
+    first = job.count('\n')
+    for lines, (line, column), rule, sentence in LINES:
+        said = kpcut(f'{job}{lines}\n', status=2)
+        head = f'<stdin>:{first + line}:{column}: error {rule}: {sentence}\n'
+        yield f'{lines!r}', '' if said.startswith(head) else f'says {said.strip()}'
+    many = ''.join(f'reg R{i} : 8 = 8\'h00;\n' for i in range(64)) + ''.join(f'result C{i} : 8 -> R{i} at 1;\n' for i in range(64))
+    reads = ''.join(f'  read a{i} = R{i};\n  let b{i} = a{i} + 8\'h01;\n  let c{i} = a{i} - 8\'h03;\n' for i in range(64))
+    sets = ''.join(f'  set C{i} = b{i} * c{i} + a{i};\n' for i in range(64))
+    wide = f'machine wide;\nstages 2;\n{many}stage 0 {{\n{reads}{sets}}}\nstage 1 {{ }}\nend\n'
+    last = wide.count('\n')
+    said = kpcut(wide + 'stages 3\n' + ''.join(f'C{i} at 2\n' for i in range(64)), status=2)
+    yield 'many pipes', '' if said == '' or f'<stdin>:{last + 1}:8: error K6: ' in said else f'says {said.strip()}'
+    said = kpcut(job.replace('sum when', 'sum + sum['), status=2)
+    yield 'a job that violates a rule', '' if said.startswith('<stdin>:') and 'E' in said else f'says {said.strip()}'
+
+
+def not_shown(work):
+    """kpcut with a `kpview same` that shows nothing."""
+    path = f'{work}/kpview'
+    with open(path, 'w', encoding='ascii') as it:
+        it.write("#!/bin/sh\n[ $1 = explain ] && exit 0\necho 'not shown: PC: value'\nexit 7\n")
+    os.chmod(path, 0o755)
+    with open(f'{TOP}/examples/acc3.kp', encoding='latin-1') as it:
+        job = it.read()
+    said = subprocess.run([sys.executable, f'{TOP}/tools/kpcut', '--flat'], input=job.encode(), stdout=subprocess.PIPE, stderr=subprocess.PIPE, env={**os.environ, 'KPVIEW': path})
+    right = said.returncode == 6 and not said.stdout and said.stderr == b"kpcut: the cut wasn't shown to be the same: not shown: PC: value\n"
+    yield 'not shown', '' if right else f'status {said.returncode}: {said.stderr.decode().strip()}'
+
+
+def main():
+    count = int(sys.argv[1]) if len(sys.argv) > 1 else 40
+    checked = wrong = 0
+    with tempfile.TemporaryDirectory() as work:
+        acc3, late3 = f'{TOP}/examples/acc3.kp', f'{TOP}/examples/late3.kp'
+        if subprocess.run([*KPVIEW.split(), 'same', acc3, late3], stdout=subprocess.PIPE, stderr=subprocess.PIPE).returncode:
+            print(f'{KPVIEW} has no word `same`')
+            return 77
+        for part in (examples(), by_hand(), random_jobs(count), rules(), not_shown(work)):
+            for what, fault in part:
+                checked, wrong = checked + 1, wrong + bool(fault)
+                if fault:
+                    print(f"{what}: {fault}", flush=True)
+    print(f'{checked} checked, {wrong} wrong')
+    return wrong > 0
+
+
+sys.exit(main())
