@@ -237,4 +237,4 @@ class CutText:
         for k, block in enumerate(self.blocks):
             lines += [f'stage {k} {{', *(f'  {it}' for it in block), '}']
         lines += [it for name, it in self.machine.sections.items() if name != 'stalls']
-        return self.machine.front + '\n'.join(lines) + '\nend\n'
+        return f'{self.machine.front}// Cut into {stages.count} stages by kpcut.\n' + '\n'.join(lines) + '\nend\n'
