@@ -124,11 +124,11 @@ def rules():
         yield f'{lines!r}', '' if said.startswith(head) else f'says {said.strip()}'
     many = ''.join(f'reg R{i} : 8 = 8\'h00;\n' for i in range(64)) + ''.join(f'result C{i} : 8 -> R{i} at 1;\n' for i in range(64))
     reads = ''.join(f'  read a{i} = R{i};\n  let b{i} = a{i} + 8\'h01;\n  let c{i} = a{i} - 8\'h03;\n' for i in range(64))
-    sets = ''.join(f'  set C{i} = b{i} * c{i} + a{i};\n' for i in range(64))
+    sets = ''.join(f'  let d{i} = a{i}[0] ? b{i} : c{i};\n  set C{i} = d{i};\n' for i in range(64))
     wide = f'machine wide;\nstages 2;\n{many}stage 0 {{\n{reads}{sets}}}\nstage 1 {{ }}\nend\n'
     last = wide.count('\n')
-    said = kpcut(wide + 'stages 3\n' + ''.join(f'C{i} at 2\n' for i in range(64)), status=2)
-    yield 'many pipes', '' if said == '' or f'<stdin>:{last + 1}:8: error K6: ' in said else f'says {said.strip()}'
+    said = kpcut(wide + 'stages 3\n' + ''.join(f'd{i} at 2\n' for i in range(64)), status=2)
+    yield 'many pipes', '' if said.startswith(f'<stdin>:{last + 1}:8: error K6: ') else f'says {said.strip()}'
     said = kpcut(job.replace('sum when', 'sum + sum['), status=2)
     yield 'a job that violates a rule', '' if said.startswith('<stdin>:') and 'E' in said else f'says {said.strip()}'
 

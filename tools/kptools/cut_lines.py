@@ -23,9 +23,6 @@ class Refused(Exception):
         super().__init__(sentence)
         self.rule, self.word, self.sentence, self.help = rule, word, sentence, help
 
-    def at(self, word):
-        return Refused(self.rule, word, self.sentence, self.help)
-
     def message(self, name, text):
         """As the messages of `kpview explain`."""
         lines = text.split('\n')
