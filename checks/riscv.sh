@@ -6,7 +6,7 @@
 # each instruction and one C program on the machines, and their Verilog. NAMES names other programs and machines (as `examples/riscv/check` does), or `all`.
 # The last line is `runs: N, different: M`, and the status is 0 where M is 0. KP names another program than ./kp.
 . "$(dirname "$0")/common.sh"
-names=${NAMES:-rv32i rv32ib rv32ip rv32im each fib}
+names=${NAMES:-rv32i rv32ib rv32ip rv32i3 rv32i_fast rv32im each fib}
 [ "$names" = all ] && names=
 verilog=
 { has iverilog || has verilator; } && verilog=--verilog
