@@ -107,6 +107,7 @@ def random_jobs(count):
         stages = rng.randrange(3, 13)
         lines = [f'stages {stages}', *([f'depth {rng.randrange(20, 200)}'] if rng.random() < 0.4 else [])]
         lines += [f'{it} from {rng.randrange(stages)}' for it in names if rng.random() < 0.2]
+        lines += [f'alone {it}' for it in names if it[0] == 'x' and rng.random() < 0.1]
         made = kpcut(job + '\n'.join(lines) + '\n')
         rejected = re.match(r'status 2: .*: error (K[2-6]):', made)
         written += not rejected

@@ -74,7 +74,7 @@ class CutText:
         early = set(self.puts)
         for base, later in self.later.items():
             first, last = self.stages.of[base], max(k for k, _ in later)
-            all_of_it = max((k for k, it in later if it == base), default=first)
+            all_of_it = max((k for k, it in later if it == base or it in early and k <= self.puts[it]), default=first)
             ends = {end: self._cost(base, later, first, end) for end in range(all_of_it, last + 1)}
             end = max(ends, key=lambda it: (-ends[it], it))
             if end > first:
