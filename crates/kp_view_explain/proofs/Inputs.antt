@@ -1,5 +1,5 @@
 -- From what the readers find to what is said of the input of a source.
-use Rattle.std.proofs.Common.{◌≡◌, ◌≤◌, ℕ, Bool, List, [], ◌++◌, length, drop, Ok, Err, Some, None, inl, inr, refl, ap, sym, arith}
+use Rattle.std.proofs.Common.{◌≡◌, ◌<◌, ◌≤◌, ℕ, Bool, List, [], ◌++◌, length, drop, Ok, Err, Some, None, inl, inr, refl, ap, sym, subst, arith}
 use Rattle.std.proofs.lemmas.Option.{IfSome_then}
 use Rattle.std.specs.{declared.option.Option.Option, Io.KnownBytes.Consumes, Io.KnownBytes.IsAtEnd}
 use Rattle.kp_base.specs.{Refusal.v_rule, declared.refusal.Refusal.Refusal}
@@ -11,13 +11,13 @@ use Rattle.kp_vlog.specs.{Denote.Denotes, Verdict.IsRefused}
 use Rattle.kp_debug_script.specs.{Scripts.script_of, declared.command.Command.Command}
 use Rattle.kp_implements.specs.Shows.{IsOfJob}
 use Rattle.kp_vread.specs.Matching.{IsRefused as IsOfOther}
-use Rattle.kp_frontend.specs.Judging.{JudgesText, JudgesHeadText, too_long}
+use Rattle.kp_frontend.specs.Judging.{JudgesText, JudgesHeadText, most_bytes, too_long}
 use Rattle.kp_view_excerpt.specs.Notes.{AppendsNoteAt}
 use Rattle.kp_view_texts.specs.{Heads.rule_head, Marks.program_mark, Marks.script_mark}
 use Rattle.kp_view_explain.specs.Explaining.{ExplainsText, FindsIn, HasJob, ShowsFirst, IsExplained, Says, rule_of, warned, Finds.over, Finds.within}
 use Rattle.kp_view_explain.specs.inner.Shown.{ExplainsModule, ExplainsScript, ExplainsShown, ShowsMarked}
 use Rattle.kp_view_explain.{specs.Showing.MarksIn, specs.Showing.ShowsPlace, specs.Showing.job_mark, proofs.Places.begins, proofs.Places.noted}
-use Rattle.kp_view_explain.specs.{Listing.ListsNext, declared.words.Subject.Subject}
+use Rattle.kp_view_explain.{specs.Listing.ListsNext, specs.declared.words.Subject.Subject, proofs.Agree.one_finding}
 use Rattle.kp_view_explain.specs.declared.words.Subject.TheVariants as subjects
 
 -- an input that violates a rule
@@ -112,6 +112,7 @@ of_input subject strict file old new input status text consumed end few (found, 
       consumed = consumed;
       whole = inl (end, few);
       explained = (found, within few finds, says);
+      agrees = λ other is. subst (λ (f : Option Refusal). Says subject strict file f status text) (one_finding subject input found other (within few finds) is) says;
       next = λ job few. next job;
       shown = λ few. shown;
     }
@@ -121,11 +122,13 @@ pub of_excess : (subject : Subject) (strict : Bool) (file : List ℕ) (old new :
     → Consumes old new input → length input ≡ 16777217 → Says subject strict file (Some too_long) status text
     → IsExplained subject strict file old new status text
 of_excess subject strict file old new input status text consumed count says =
+    let long : most_bytes < length input = omega (arith, count) in
     record {
       input = input;
       consumed = consumed;
       whole = inr count;
-      explained = (Some too_long, over (omega (arith, count)), says);
+      explained = (Some too_long, over long, says);
+      agrees = λ other is. subst (λ (f : Option Refusal). Says subject strict file f status text) (one_finding subject input (Some too_long) other (over long) is) says;
       next = λ job few. absurd (omega (arith, count, few));
       shown = λ few. absurd (omega (arith, count, few));
     }

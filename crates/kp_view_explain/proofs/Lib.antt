@@ -1,3 +1,6 @@
+mod Agree
 mod Inputs
 mod Next
 mod Places
+mod Found
+mod Said

@@ -18,7 +18,7 @@ use Rattle.kp_view_message.specs.declared.reading_fault.ReadingFault.TheVariants
 use Rattle.kp_view_findings.specs.Messages.{AppendsMessage}
 use Rattle.kp_view_texts.specs.Heads.{rule_head}
 use Rattle.kp_view_explain.specs.Listing.{IsNext, ListsNext, index_at, token_text, tokens_before}
-use Rattle.kp_view_explain.specs.inner.Naming.{ListsAfter, ListsAt, NamesAt, NamesNext, NamesWrong}
+use Rattle.kp_view_explain.specs.inner.Naming.{ListsAfter, NamesAt, NamesNext, SaysMessage}
 
 -- where no item passes, the first that does is past all
 pub none_passes : {X : Type 0} (test : X → Bool) (xs : List X) → None ≡ position test xs → length xs ≡ position_or_len test xs
@@ -43,43 +43,36 @@ names_next text tokens before p n found set width at here front exact =
       exact = subst (λ (ts : List Token). IsNext text ts set) same (exact text);
     }
 
+-- of another rule nothing is said here
+pub another_rule : (text : List ℕ) (tokens : List Token) (refusal : Refusal) (m : Message) → (refusal.number ≡ 4 → ⊥) → NamesAt text tokens refusal m
+another_rule text tokens refusal m other four = absurd (other four)
+
 -- a text with an invalid token has no other tokens
-pub no_tokens : (text : List ℕ) (refusal : Refusal) (p : Place) (m : Message) → HasOutcome text (Err refusal) → NamesWrong text p m
-no_tokens text refusal p m none lexed r h broken = cc (one_outcome h none)
+pub lists_no_tokens : (file text said : List ℕ) (refusal : Refusal) → HasOutcome text (Err refusal) → ListsAfter file text refusal said
+lists_no_tokens file text said refusal none lexed four h broken = cc (one_outcome h none)
+
+-- the line of the message for a token
+pub lists_token : (file text said : List ℕ) (l : Lexed) (refusal : Refusal) (m : Message) → HasOutcome text (Ok l) → NamesAt text l.tokens refusal m
+    → SaysMessage file refusal (message_text m) said → ListsAfter file text refusal said
+lists_token file text said l refusal m h names (facts, appends, whole) lexed four i broken =
+    let same : l ≡ lexed = cc (one_outcome h i) in
+    let named = subst (λ (x : Lexed). NamesNext text x.tokens refusal.place m) same (names four) in
+    let written = subst (λ (x : Message). AppendsMessage [] facts (message_text x)) named.is appends in
+    (facts, record { set = named.set; exact = named.exact; rest = written.0; line = rw (← named.here) written.1 }, whole)
 
 -- and tokens with a tree violate no rule of the grammar
-pub has_tree : (text : List ℕ) (l : Lexed) (job : Job) (p : Place) (m : Message) → HasOutcome text (Ok l) → IsTree text l.tokens job → NamesWrong text p m
-has_tree text l job p m h tree lexed r i broken =
+pub lists_tree : (file text said : List ℕ) (l : Lexed) (job : Job) (refusal : Refusal) → HasOutcome text (Ok l) → IsTree text l.tokens job → ListsAfter file text refusal said
+lists_tree file text said l job refusal h tree lexed four i broken =
     let same : lexed ≡ l = cc (one_outcome h i) in
-    absurd (no_rule text l.tokens job r tree (subst (λ (x : Lexed). Breaks text x.tokens r) same broken))
-
-pub names_wrong : (text : List ℕ) (l : Lexed) (p : Place) (m : Message) → HasOutcome text (Ok l) → NamesNext text l.tokens p m → NamesWrong text p m
-names_wrong text l p m h named lexed r i broken =
-    let same : l ≡ lexed = cc (one_outcome h i) in subst (λ (x : Lexed). NamesNext text x.tokens p m) same named
-
--- of another rule nothing is said here
-pub another_rule : (text : List ℕ) (refusal : Refusal) (m : Option Message) → (refusal.number ≡ 4 → ⊥) → NamesAt text refusal m
-another_rule text refusal m other four = absurd (other four)
-
--- the line of such a message
-pub line_of : (text : List ℕ) (refusal : Refusal) (m : Message) (said : List ℕ) → NamesAt text refusal (Some m) → AppendsMessage [] said (message_text m)
-    → ListsAt text refusal said
-line_of text refusal m said names appends lexed four h broken =
-    let named : NamesNext text lexed.tokens refusal.place m = names four lexed refusal h broken in
-    let written = subst (λ (x : Message). AppendsMessage [] said (message_text x)) named.is appends in
-    record { set = named.set; exact = named.exact; rest = written.0; line = rw (← named.here) written.1 }
-
-pub no_line : (text : List ℕ) (refusal : Refusal) (said : List ℕ) → NamesAt text refusal None → ListsAt text refusal said
-no_line text refusal said names lexed four h broken = absurd (names four)
+    absurd (no_rule text l.tokens job refusal tree (subst (λ (x : Lexed). Breaks text x.tokens refusal) same broken))
 
 -- the text of a job that violates a rule
 pub text_next : (file text said : List ℕ) (refusal : Refusal) → length text ≤ most_bytes → JudgesText text (Err refusal) → ListsAfter file text refusal said
     → ListsNext file text said
-text_next file text said refusal few judged (facts, lists, whole) lexed p h w =
+text_next file text said refusal few judged lists lexed p h w =
     let broken : Breaks text lexed.tokens (e_rule 4 p) = wrong_token w in
     let same : refusal ≡ e_rule 4 p = cc (one_verdict text _ _ (within few judged) (within few (no_sentence h broken))) in
-    let here = subst (λ (r : Refusal). ListsAt text r facts) same lists in
-    (facts, here lexed refl h broken, subst (λ (r : Refusal). said ≡ rule_head file r ++ facts) same whole)
+    subst (λ (r : Refusal). ListsAfter file text r said) same lists lexed refl h broken
 
 -- and of one that violates none
 pub accepted_next : (file text said : List ℕ) (job : Job) → length text ≤ most_bytes → JudgesText text (Ok job) → ListsNext file text said
@@ -89,11 +82,10 @@ accepted_next file text said job few judged lexed p h w =
 -- the same at the head of a text
 pub head_next : (file text said : List ℕ) (refusal : Refusal) → length text ≤ most_bytes → JudgesHeadText text (Err refusal) → ListsAfter file text refusal said
     → ListsNext file text said
-head_next file text said refusal few judged (facts, lists, whole) lexed p h w =
+head_next file text said refusal few judged lists lexed p h w =
     let broken : Breaks text lexed.tokens (e_rule 4 p) = wrong_token w in
     let same : refusal ≡ e_rule 4 p = cc (one_head text _ _ (head_within few judged) (head_within few (no_head_sentence h broken))) in
-    let here = subst (λ (r : Refusal). ListsAt text r facts) same lists in
-    (facts, here lexed refl h broken, subst (λ (r : Refusal). said ≡ rule_head file r ++ facts) same whole)
+    subst (λ (r : Refusal). ListsAfter file text r said) same lists lexed refl h broken
 
 pub accepted_head_next : (file text said : List ℕ) (job : Job) (from : ℕ) → length text ≤ most_bytes → JudgesHeadText text (Ok (job, from)) → ListsNext file text said
 accepted_head_next file text said job from few judged lexed p h w =

@@ -1,8 +1,8 @@
 -- The place of a violated rule in the text of an explanation.
-use Rattle.std.proofs.Common.{◌≡◌, ℕ, List, [], ◌∷◌, ◌++◌, ap, append_assoc, append-nil, sym, ◌∙◌}
+use Rattle.std.proofs.Common.{◌≡◌, ℕ, List, [], ◌∷◌, ◌++◌, Option, Some, None, ap, append_assoc, append-nil, sym, ◌∙◌}
 use Rattle.kp_base.specs.declared.{place.Place.Place, refusal.Refusal.Refusal}
 use Rattle.kp_view_excerpt.specs.{Excerpts.excerpt_text, Notes.AppendsNoteAt}
-use Rattle.kp_view_findings.specs.Messages.{AppendsShown, Grows}
+use Rattle.kp_view_findings.specs.Messages.{AppendsMessage, AppendsShown, Grows}
 use Rattle.kp_view_texts.specs.Heads.{rule_head}
 use Rattle.kp_view_verilog.specs.Marks.{Marks}
 use Rattle.kp_view_explain.specs.{Explaining.BeginsWith, Showing.ShowsPlace, Showing.job_mark, inner.Shown.ShowsMarked}
@@ -50,3 +50,8 @@ further first old new head line shown more (before, grown) all = (
 pub shown_further : (input old new : List ℕ) (p : Place) → AppendsShown input p [] old → Grows old new → AppendsShown input p [] new
 shown_further input old new p (line, (e, is, (more, all))) (after, grown) =
     (line, (e, is, (more ++ after, grown ∙ ap (λ (l : List ℕ). l ++ after) all ∙ simp append_assoc)))
+
+-- and so does what follows a message
+pub message_further : (message : Option (List ℕ)) (old new : List ℕ) → AppendsMessage [] old message → Grows old new → AppendsMessage [] new message
+message_further None old new said more = tt
+message_further (Some line) old new (rest, is) (more, grown) = (rest ++ more, grown ∙ ap (λ (l : List ℕ). l ++ more) is ∙ simp append_assoc)

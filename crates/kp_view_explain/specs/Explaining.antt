@@ -103,6 +103,8 @@ pub record IsExplained (subject : Subject) (strict : Bool) (file : List ℕ) (ol
   pub consumed : Consumes old new input
   pub whole : (IsAtEnd new × (length input ≤ 16777216)) ⊎ (length input ≡ 16777217)
   pub explained : Explains subject strict file input status text
+  -- So it is what is said for the verdict by which `kp` accepts or rejects the input.
+  pub agrees : (found : Option Refusal) → Finds subject input found → Says subject strict file found status text
   pub next : HasJob subject → length input ≤ most_bytes → ListsNext file input text
   pub shown : length input ≤ most_bytes → ShowsFirst subject file input text
 

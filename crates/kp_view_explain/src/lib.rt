@@ -1,14 +1,14 @@
 //! Why an input is rejected: the rule and the place that its reader names, and the facts that it rests on; and warnings for a job that is accepted.
 //!
-//! The facts come from a second pass over the text, its tokens or its tree, which goes on after a violation of a job. Where that pass has no finding of
-//! the rule at the place, it is a fixed sentence for the rule.
+//! The findings of a job are those of the passes that give its verdict (kp_width, kp_stage, kp_image): the first is the verdict, and the others are listed.
 #![tactic(auto)]
 
 mod explanation;
 mod of_job;
+mod passes;
 mod program;
+mod reading;
 mod script;
-mod syntax;
 mod text;
 mod top;
 mod verilog;

@@ -1,32 +1,27 @@
 // The explanation of a job.
 ghost use Rattle.std.specs.Prelude.{◌≡◌, ◌≢◌, ◌≤◌, [], length, Err, IfOk, OnOk};
-ghost use Rattle.kp_frontend.specs.Judging.{most_bytes, JudgesHeadText};
-ghost use Rattle.kp_frontend.specs.inner.Reading.{IsCountable};
+ghost use Rattle.kp_frontend.specs.{Judging.broken_in, Judging.most_bytes, Judging.JudgesHeadText, inner.Reading.IsCountable, inner.Reading.IsRead};
 ghost use Rattle.kp_view_texts.specs.Heads.{rule_head};
-ghost use Rattle.kp_view_explain.specs.{Explaining.BeginsWith, Explaining.warned, Showing.ShowsPlace, Showing.job_mark};
-ghost use Rattle.kp_view_explain.specs.Listing.{ListsNext};
-ghost use Rattle.kp_view_explain.specs.declared.words.Subject.TheVariants as subjects;
-ghost use Rattle.kp_view_explain.specs.inner.Naming.{ListsAfter, ListsAt};
-ghost use Rattle.kp_view_explain.specs.inner.Shown.{ExplainsShown};
 ghost use Rattle.kp_view_findings.specs.Messages.{AppendsShown, Grows};
+ghost use Rattle.kp_view_message.specs.Texts.{message_text};
+ghost use Rattle.kp_view_explain.specs.{Explaining.BeginsWith, Explaining.warned, Listing.ListsNext, Showing.ShowsPlace, Showing.job_mark};
+ghost use Rattle.kp_view_explain.specs.declared.words.Subject.TheVariants as subjects;
+ghost use Rattle.kp_view_explain.specs.inner.{Found.IsOfTree, Naming.SaysMessage, Shown.ExplainsShown};
 
 use crate::explanation::Explanation;
-use crate::syntax::reading_message;
+use crate::passes::violations;
+use crate::reading::{Reading, read};
 use kp_ast::Job;
-use kp_base::{NoMemory, Refusal, Refused};
-use kp_frontend::judge;
-use kp_image::section_findings;
-use kp_lex::lex;
-use kp_parse::parse;
-use kp_stage::stage_findings;
-use kp_view_findings::{Finding, Findings, MOST, write_caution, write_finding, write_message};
-use kp_view_message::{Message, SectionMessage, StageMessage, width_message};
+use kp_base::{NoMemory, Refusal};
+use kp_lex::tail;
+use kp_parse::Parsed;
+use kp_view_findings::{Finding, MOST, write_caution, write_finding, write_message};
+use kp_view_message::{Message, ReadingFault};
 use kp_view_stages::cautions;
-use kp_width::width_findings;
 use std::alloc::Global;
 
 /// The explanation of a job that is not too long: the first rule that it violates, and further violations, or warnings.
-#[tactic(auto, using(crate::proofs::Inputs::accepted_job, crate::proofs::Next::text_next))]
+#[tactic(auto, using(crate::proofs::Said::unread_said, crate::proofs::Said::unread_low, crate::proofs::Said::unread_next))]
 pub(crate) fn explain_job(
     alloc: Global,
     file: &[u8],
@@ -38,20 +33,48 @@ pub(crate) fn explain_job(
     ensures low { IfOk result (λ e. (e.status ≤ 2) × (e.status ≢ 1)) }
     ensures next { IfOk result (λ e. ListsNext file.now text.now e.text.items) }
 {
-    match judge(alloc, text) {
-        Ok(accepted) => {
-            let text = warnings(alloc, file, text, accepted.design.job())?;
+    match read(alloc, file, text)? {
+        Reading::Refused(said) => Ok(said),
+        Reading::Tree(parsed) => {
+            let said = explain_read(alloc, file, strict, text, &parsed)?;
+            drop(parsed);
+            Ok(said)
+        }
+    }
+}
+
+// The same for a text that has this tree at its head.
+#[tactic(auto, using(crate::proofs::Said::tail_said, crate::proofs::Said::tail_next, crate::proofs::Said::broken_said, crate::proofs::Said::broken_low, crate::proofs::Said::broken_next, crate::proofs::Said::right_said, crate::proofs::Said::right_next))]
+fn explain_read(
+    alloc: Global,
+    file: &[u8],
+    strict: bool,
+    text: &[u8],
+    parsed: &Parsed,
+) -> Result<Explanation, NoMemory>
+    requires short { length text.now ≤ most_bytes }
+    requires read { IsRead text.now parsed.now }
+    ensures said { IfOk result (λ e. ExplainsShown subjects.Job strict file.now text.now e.status e.text.items) }
+    ensures low { IfOk result (λ e. (e.status ≤ 2) × (e.status ≢ 1)) }
+    ensures next { IfOk result (λ e. ListsNext file.now text.now e.text.items) }
+{
+    if let Some(place) = tail(text, parsed.rest) {
+        let message = Message::Reading(ReadingFault::AfterEnd);
+        return Ok(explain_rule(alloc, file, text, Refusal::e(4, place), message, &[])?);
+    }
+    match explain_tree(alloc, file, text, &parsed.job)? {
+        Some(said) => Ok(said),
+        None => {
+            let text = warnings(alloc, file, text, &parsed.job)?;
             let status = warning_status(strict, text.as_slice());
             Ok(Explanation { status, text })
         }
-        Err(Refused::NoMemory) => Err(NoMemory),
-        Err(Refused::Rule(refusal)) => Ok(explain_refused(alloc, file, text, refusal)?),
     }
 }
 
 /// The explanation of a text that is not too long, where this is the first rule that the job at its head violates: the rule, and further violations. The only
 /// error is out of memory.
-#[tactic(auto, using(crate::proofs::Next::head_next, crate::proofs::Places::begins))]
+#[tactic(auto, using(crate::proofs::Said::unread_head, crate::proofs::Said::broken_head, crate::proofs::Said::no_head, crate::proofs::Places::begins))]
 pub fn explain_head(
     alloc: Global,
     file: &[u8],
@@ -65,31 +88,74 @@ pub fn explain_head(
     ensures shown { IfOk result (λ e. ShowsPlace file.now text.now refusal (job_mark text.now refusal) e.text.items) }
     ensures next { IfOk result (λ e. ListsNext file.now text.now e.text.items) }
 {
-    Ok(explain_refused(alloc, file, text, refusal)?)
+    match read(alloc, file, text)? {
+        Reading::Refused(said) => Ok(said),
+        Reading::Tree(parsed) => {
+            let said = explain_tree(alloc, file, text, &parsed.job)?;
+            drop(parsed);
+            match said {
+                Some(said) => Ok(said),
+                // Not reached, since the tree violates a rule.
+                None => Ok(Explanation::silent(alloc)),
+            }
+        }
+    }
 }
 
-// The explanation of a text that violates this rule.
-fn explain_refused(
+// The explanation of the first rule that a tree violates, and of further violations; none where it violates none.
+fn explain_tree(
+    alloc: Global,
+    file: &[u8],
+    text: &[u8],
+    job: &Job,
+) -> Result<Option<Explanation>, NoMemory>
+    requires { IsCountable job.now }
+    ensures { IfOk result (λ said. IsOfTree file.now text.now (broken_in job.now) said) }
+{
+    let found = violations(alloc, text, job)?;
+    match found.as_slice() {
+        [] => Ok(None),
+        [first, others @ ..] => {
+            let refusal = Refusal::e(first.message.rule(), first.place);
+            Ok(Some(explain_rule(alloc, file, text, refusal, first.message, others)?))
+        }
+    }
+}
+
+/// The explanation of this rule, with its message, and of further violations.
+#[tactic(auto, using(crate::proofs::Places::noted_job, crate::proofs::Places::shown_further, crate::proofs::Places::message_further))]
+pub(crate) fn explain_rule(
     alloc: Global,
     file: &[u8],
     text: &[u8],
     refusal: Refusal,
+    message: Message<'_>,
+    others: &[Finding<'_>],
 ) -> Result<Explanation, NoMemory>
-    requires { length text.now ≤ most_bytes }
     ensures status { IfOk result (λ e. e.status ≡ 2) }
     ensures shown { IfOk result (λ e. ShowsPlace file.now text.now refusal (job_mark text.now refusal) e.text.items) }
-    ensures next { IfOk result (λ e. ListsAfter file.now text.now refusal e.text.items) }
+    ensures message { IfOk result (λ e. SaysMessage file.now refusal (message_text message.entry) e.text.items) }
 {
-    let facts = facts(alloc, file, text, refusal)?;
+    let mut facts = Vec::new(alloc);
+    write_message(alloc, &mut facts, text, refusal.place, message)?;
+    write_others(alloc, &mut facts, file, text, others)?;
     Ok(Explanation::refused(alloc, file, refusal, facts.as_slice())?)
 }
 
-// The status for warnings.
-fn warning_status(strict: bool, text: &[u8]) -> u8
-    ensures status { result ≡ warned strict text.now }
-    ensures low { (result ≤ 2) × (result ≢ 1) }
+#[tactic(auto, using(crate::proofs::Places::stays))]
+fn write_others(
+    alloc: Global,
+    out: &mut Vec<u8>,
+    file: &[u8],
+    text: &[u8],
+    found: &[Finding<'_>],
+) -> Result<(), NoMemory>
+    ensures { OnOk result (Grows out.old.items out.new.items) }
 {
-    if strict && 0 < text.len() { 2 } else { 0 }
+    for finding in found {
+        write_finding(alloc, out, text, file, finding)?;
+    }
+    Ok(())
 }
 
 // The warnings for an accepted job.
@@ -102,133 +168,10 @@ fn warnings(alloc: Global, file: &[u8], text: &[u8], job: &Job) -> Result<Vec<u8
     Ok(report)
 }
 
-// What follows the head of the first rule that a job violates.
-#[tactic(auto, using(crate::proofs::Next::line_of, crate::proofs::Next::no_line))]
-fn facts(alloc: Global, file: &[u8], text: &[u8], refusal: Refusal) -> Result<Vec<u8>, NoMemory>
-    requires { length text.now ≤ most_bytes }
-    ensures next { IfOk result (λ out. ListsAt text.now refusal out.items) }
-    ensures shown { IfOk result (λ out. AppendsShown text.now refusal.place [] out.items) }
+// The status for warnings.
+fn warning_status(strict: bool, text: &[u8]) -> u8
+    ensures status { result ≡ warned strict text.now }
+    ensures low { (result ≤ 2) × (result ≢ 1) }
 {
-    match reading_message(alloc, text, refusal)? {
-        Some(message) => {
-            let mut out = Vec::new(alloc);
-            write_message(alloc, &mut out, text, refusal.place, message)?;
-            Ok(out)
-        }
-        None => of_tree(alloc, file, text, refusal),
-    }
-}
-
-// The same where the text has a tree.
-#[tactic(auto, using(kp_frontend::proofs::Judged::countable))]
-fn of_tree(alloc: Global, file: &[u8], text: &[u8], refusal: Refusal) -> Result<Vec<u8>, NoMemory>
-    requires { length text.now ≤ most_bytes }
-    ensures { IfOk result (λ out. AppendsShown text.now refusal.place [] out.items) }
-{
-    let lexed = match lex(alloc, text) {
-        Ok(lexed) => lexed,
-        Err(Refused::NoMemory) => return Err(NoMemory),
-        Err(Refused::Rule(_)) => return report(alloc, file, text, refusal, &[]),
-    };
-    match parse(alloc, &lexed, text) {
-        Ok(parsed) => {
-            let found = violations(alloc, text, &parsed.job)?;
-            report(alloc, file, text, refusal, found.as_slice())
-        }
-        Err(Refused::NoMemory) => Err(NoMemory),
-        Err(Refused::Rule(_)) => report(alloc, file, text, refusal, &[]),
-    }
-}
-
-// The violations of names and widths; where there are none, those of stages; where there are none of them, those of sections.
-fn violations<'t>(alloc: Global, text: &'t [u8], job: &'t Job) -> Result<Findings<'t>, NoMemory>
-    requires { IsCountable job.now }
-{
-    let found = of_widths(alloc, text, job)?;
-    if !found.as_slice().is_empty() {
-        return Ok(found);
-    }
-    let found = of_stages(alloc, text, job)?;
-    if !found.as_slice().is_empty() {
-        return Ok(found);
-    }
-    of_sections(alloc, text, job)
-}
-
-fn of_stages<'t>(alloc: Global, text: &'t [u8], job: &'t Job) -> Result<Findings<'t>, NoMemory> {
-    let mut all = Findings::new(alloc);
-    let found = stage_findings(alloc, job, MOST)?;
-    for finding in found.as_slice() {
-        let said = StageMessage::of(text, job, *finding);
-        all.add(finding.place, Message::Stage(said))?;
-    }
-    Ok(all)
-}
-
-fn of_widths<'t>(alloc: Global, text: &'t [u8], job: &'t Job) -> Result<Findings<'t>, NoMemory>
-    requires { IsCountable job.now }
-{
-    let mut all = Findings::new(alloc);
-    let found = width_findings(alloc, job, MOST)?;
-    for finding in found.as_slice() {
-        all.add(finding.place, width_message(text, job, *finding))?;
-    }
-    Ok(all)
-}
-
-fn of_sections<'t>(alloc: Global, text: &'t [u8], job: &Job) -> Result<Findings<'t>, NoMemory> {
-    let mut all = Findings::new(alloc);
-    let found = section_findings(alloc, job, MOST)?;
-    for finding in found.as_slice() {
-        let said = SectionMessage::of(text, *finding);
-        all.add(finding.place, Message::Section(said))?;
-    }
-    Ok(all)
-}
-
-// The finding of the rule at its place, and then the other ones.
-fn report(
-    alloc: Global,
-    file: &[u8],
-    text: &[u8],
-    refusal: Refusal,
-    found: &[Finding<'_>],
-) -> Result<Vec<u8>, NoMemory>
-    ensures { IfOk result (λ out. AppendsShown text.now refusal.place [] out.items) }
-{
-    let mut out = Vec::new(alloc);
-    let message = match found.iter().find(|each| is_of(refusal, each)) {
-        Some(finding) => finding.message,
-        None => Message::Fixed(refusal.number),
-    };
-    write_message(alloc, &mut out, text, refusal.place, message)?;
-    write_others(alloc, &mut out, file, text, refusal, found)?;
-    Ok(out)
-}
-
-// The findings but that of the rule at its place.
-#[tactic(auto, using(crate::proofs::Places::stays))]
-fn write_others(
-    alloc: Global,
-    out: &mut Vec<u8>,
-    file: &[u8],
-    text: &[u8],
-    refusal: Refusal,
-    found: &[Finding<'_>],
-) -> Result<(), NoMemory>
-    ensures { OnOk result (Grows out.old.items out.new.items) }
-{
-    for finding in found {
-        if !is_of(refusal, finding) {
-            write_finding(alloc, out, text, file, finding)?;
-        }
-    }
-    Ok(())
-}
-
-// Whether the finding is of the rule, at the place.
-fn is_of(refusal: Refusal, finding: &Finding<'_>) -> bool {
-    finding.place.line == refusal.place.line
-        && finding.place.col == refusal.place.col
-        && finding.message.rule() == refusal.number
+    if strict && 0 < text.len() { 2 } else { 0 }
 }

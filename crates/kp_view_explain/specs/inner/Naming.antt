@@ -1,5 +1,5 @@
 -- The message for a text that is no sentence of the language, before it is written.
-use Rattle.std.specs.Prelude.{◌≡◌, ◌++◌, ℕ, List, Option, MatchOption, Ok}
+use Rattle.std.specs.Prelude.{◌≡◌, ◌++◌, ℕ, List, [], Option, Ok}
 use Rattle.kp_base.specs.declared.{place.Place.Place, refusal.Refusal.Refusal}
 use Rattle.kp_lex.specs.{Text.HasOutcome, declared.token.Token.Token, declared.token.Lexed.Lexed}
 use Rattle.kp_parse.specs.Sentence.{Breaks}
@@ -8,6 +8,7 @@ use Rattle.kp_view_help.specs.{Texts.found_text, declared.found.FoundToken.Found
 use Rattle.kp_view_message.specs.declared.message.Message.{Message}
 use Rattle.kp_view_message.specs.declared.message.Message.TheVariants as messages
 use Rattle.kp_view_message.specs.declared.reading_fault.ReadingFault.TheVariants as faults
+use Rattle.kp_view_findings.specs.Messages.{AppendsMessage}
 use Rattle.kp_view_texts.specs.Heads.{rule_head}
 use Rattle.kp_view_explain.specs.Listing.{IsNext, SaysNext, found_at, tokens_before}
 
@@ -20,19 +21,15 @@ pub record NamesNext (text : List ℕ) (tokens : List Token) (p : Place) (m : Me
   pub here : found_text found ≡ found_at text tokens p
   pub exact : IsNext text (tokens_before p tokens) set
 
--- the same for the tokens of a text, where they are no sentence
-abbrev pub NamesWrong : List ℕ → Place → Message → Type 0
-NamesWrong text p m = (lexed : Lexed) (refusal : Refusal) → HasOutcome text (Ok lexed) → Breaks text lexed.tokens refusal → NamesNext text lexed.tokens p m
+-- the message for a violated rule of the grammar
+abbrev pub NamesAt : List ℕ → List Token → Refusal → Message → Type 0
+NamesAt text tokens refusal m = refusal.number ≡ 4 → NamesNext text tokens refusal.place m
 
--- the message for a violated rule, if there is one without a tree
-abbrev pub NamesAt : List ℕ → Refusal → Option Message → Type 0
-NamesAt text refusal m = refusal.number ≡ 4 → MatchOption m ⊥ (NamesWrong text refusal.place)
+-- The text is the head of a violated rule, a line with the text of a message, where that is known, and what follows it.
+abbrev pub SaysMessage : List ℕ → Refusal → Option (List ℕ) → List ℕ → Type 0
+SaysMessage file refusal message said = (facts : List ℕ) × AppendsMessage [] facts message × (said ≡ rule_head file refusal ++ facts)
 
--- what follows the head of the rule that a text violates
-abbrev pub ListsAt : List ℕ → Refusal → List ℕ → Type 0
-ListsAt text refusal said = (lexed : Lexed) → refusal.number ≡ 4 → HasOutcome text (Ok lexed) → Breaks text lexed.tokens refusal
-    → SaysNext text lexed.tokens refusal.place said
-
--- the text after that head
+-- The text on a rule that the tokens of a text violate: for E4 with the line that lists the classes.
 abbrev pub ListsAfter : List ℕ → List ℕ → Refusal → List ℕ → Type 0
-ListsAfter file text refusal said = (facts : List ℕ) × ListsAt text refusal facts × (said ≡ rule_head file refusal ++ facts)
+ListsAfter file text refusal said = (lexed : Lexed) → refusal.number ≡ 4 → HasOutcome text (Ok lexed) → Breaks text lexed.tokens refusal
+    → (facts : List ℕ) × SaysNext text lexed.tokens refusal.place facts × (said ≡ rule_head file refusal ++ facts)

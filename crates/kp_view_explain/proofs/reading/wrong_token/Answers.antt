@@ -1,5 +1,5 @@
 use Rattle.kp_view_explain.proofs.Next.{names_next}
-use Rattle.kp_view_explain.proofs.syntax.wrong_token.Goals as goal
+use Rattle.kp_view_explain.proofs.reading.wrong_token.Goals as goal
 
 pub returns : goal.returns
 returns c =

@@ -1,36 +1,75 @@
-// Why a text isn't read: no token begins, or no description goes on with one.
-ghost use Rattle.std.specs.Prelude.{◌≡◌, ◌≤◌, drop, length, slice_get, take, IfOk};
+// The tree at the head of a text, or why it isn't read: no token begins, or no description goes on with one.
+ghost use Rattle.std.specs.Prelude.{◌≡◌, ◌≤◌, drop, length, slice_get, take, Err, IfOk, Ok};
 ghost use Rattle.std.specs.List.{position};
+ghost use Rattle.kp_lex.specs.Text.{HasOutcome};
+ghost use Rattle.kp_parse.specs.Sentence.{Breaks};
 ghost use Rattle.kp_frontend.specs.Judging.{most_bytes};
 ghost use Rattle.kp_view_explain.specs.Listing.{index_at, is_at, kind_text, token_text};
 ghost use Rattle.kp_view_help.specs.Texts.{found_text, shown};
-ghost use Rattle.kp_view_explain.specs.inner.Naming.{NamesAt, NamesNext, NamesWrong};
+ghost use Rattle.kp_view_explain.specs.inner.Naming.{NamesAt, NamesNext};
+ghost use Rattle.kp_view_explain.specs.inner.Reading.{IsReadAs};
 
+use crate::explanation::Explanation;
+use crate::of_job::explain_rule;
 use kp_base::{NoMemory, Place, Refusal, Refused, word_length};
-use kp_lex::{Mark, Token, TokenKind, lex};
-use kp_parse::parse;
+use kp_lex::{Lexed, Mark, Token, TokenKind, lex};
+use kp_parse::{Parsed, parse};
 use kp_view_excerpt::offset_of;
 use kp_view_expected::expected;
 use kp_view_help::{FoundToken, Word};
 use kp_view_message::{Message, ReadingFault};
 use std::alloc::Global;
 
-/// The message for a violation of a rule of tokens or of the grammar; none for one of a rule of trees.
-#[tactic(auto, using(crate::proofs::Next::another_rule))]
-pub(crate) fn reading_message<'t>(
-    alloc: Global,
-    text: &'t [u8],
-    refusal: Refusal,
-) -> Result<Option<Message<'t>>, NoMemory>
+/// What is read of a text: the tree at its head, or the explanation of the rule of tokens or of the grammar that it violates first.
+#[derive(Drop)]
+pub(crate) enum Reading {
+    Tree(Parsed),
+    Refused(Explanation),
+}
+
+/// Reads the head of a text that is not too long. The only error is out of memory.
+pub(crate) fn read(alloc: Global, file: &[u8], text: &[u8]) -> Result<Reading, NoMemory>
     requires { length text.now ≤ most_bytes }
-    ensures { IfOk result (λ m. NamesAt text.now refusal m) }
+    ensures { IfOk result (λ r. IsReadAs file.now text.now r) }
 {
+    match lex(alloc, text) {
+        Ok(lexed) => {
+            let reading = read_tokens(alloc, file, text, &lexed)?;
+            drop(lexed);
+            Ok(reading)
+        }
+        Err(Refused::NoMemory) => Err(NoMemory),
+        Err(Refused::Rule(refusal)) => {
+            let message = no_tokens(text, refusal);
+            let said = explain_rule(alloc, file, text, refusal, message, &[])?;
+            Ok(Reading::Refused(said))
+        }
+    }
+}
+
+// The same for the tokens of a text.
+fn read_tokens(alloc: Global, file: &[u8], text: &[u8], lexed: &Lexed) -> Result<Reading, NoMemory>
+    requires short { length text.now ≤ most_bytes }
+    requires tokens { HasOutcome text.now (Ok lexed.now) }
+    ensures { IfOk result (λ r. IsReadAs file.now text.now r) }
+{
+    match parse(alloc, lexed, text) {
+        Ok(parsed) => Ok(Reading::Tree(parsed)),
+        Err(Refused::NoMemory) => Err(NoMemory),
+        Err(Refused::Rule(refusal)) => {
+            let message = no_sentence(alloc, text, lexed.tokens.as_slice(), refusal)?;
+            let said = explain_rule(alloc, file, text, refusal, message, &[])?;
+            Ok(Reading::Refused(said))
+        }
+    }
+}
+
+// The message where the text has no tokens (E1 and E2).
+fn no_tokens(text: &[u8], refusal: Refusal) -> Message<'_> {
     match refusal.number {
-        1 => Ok(Some(no_token(text, refusal.place))),
-        2 => Ok(Some(Message::Reading(ReadingFault::NoNumber))),
-        4 => Ok(Some(no_sentence(alloc, text, refusal.place)?)),
-        27 => Ok(Some(Message::Reading(ReadingFault::TooDeep))),
-        _ => Ok(None),
+        1 => no_token(text, refusal.place),
+        2 => Message::Reading(ReadingFault::NoNumber),
+        number => Message::Fixed(number),
     }
 }
 
@@ -47,21 +86,20 @@ fn no_token(text: &[u8], place: Place) -> Message<'_> {
     }
 }
 
-// Why the token at a place, or the end of the text there, can't follow: the classes of tokens that can.
-#[tactic(auto, using(crate::proofs::Next::no_tokens, crate::proofs::Next::names_wrong))]
-fn no_sentence<'t>(alloc: Global, text: &'t [u8], place: Place) -> Result<Message<'t>, NoMemory>
-    requires { length text.now ≤ most_bytes }
-    ensures { IfOk result (λ m. NamesWrong text.now place m) }
+// The message where the tokens are no sentence (E4 and E27).
+#[tactic(auto, using(crate::proofs::Next::another_rule))]
+fn no_sentence<'t>(
+    alloc: Global,
+    text: &'t [u8],
+    tokens: &[Token],
+    refusal: Refusal,
+) -> Result<Message<'t>, NoMemory>
+    ensures { IfOk result (λ m. NamesAt text.now tokens.now refusal m) }
 {
-    let lexed = match lex(alloc, text) {
-        Ok(lexed) => lexed,
-        Err(Refused::NoMemory) => return Err(NoMemory),
-        Err(Refused::Rule(_)) => return Ok(Message::Fixed(4)),
-    };
-    match parse(alloc, &lexed, text) {
-        Ok(_) => Ok(Message::Reading(ReadingFault::AfterEnd)),
-        Err(Refused::NoMemory) => Err(NoMemory),
-        Err(Refused::Rule(_)) => wrong_token(alloc, text, lexed.tokens.as_slice(), place),
+    match refusal.number {
+        4 => wrong_token(alloc, text, tokens, refusal.place),
+        27 => Ok(Message::Reading(ReadingFault::TooDeep)),
+        number => Ok(Message::Fixed(number)),
     }
 }
 
