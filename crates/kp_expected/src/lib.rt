@@ -6,6 +6,7 @@
 
 mod class;
 mod rest;
+mod table;
 
 pub use class::{Class, Part, Rule, Symbol};
 pub use rest::expected;

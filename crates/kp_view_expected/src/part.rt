@@ -4,7 +4,7 @@ ghost use Rattle.kp_view_expected.specs.inner.Plain.{name, number, plain_rules};
 
 use crate::token_class::TokenClass;
 use kp_expected::Symbol::{Inner as N, Token as T};
-use kp_expected::{Part as Names, Rule};
+use kp_expected::{Part as Names, Rule, maybe, rule, tokens};
 use kp_lex::{Keyword, Mark};
 
 /// A name of the grammar: `Or` to `Product` are the levels of operators with their operands, `MoreOr` to `MoreProduct` what may follow an operand.
@@ -65,61 +65,26 @@ pub(crate) enum Part {
     Parts,
 }
 
-// A class of tokens: its name, a keyword in parentheses, or a mark in brackets.
-macro_rules! class {
-    (NAME) => { TokenClass::Name };
-    (NUM) => { TokenClass::Number };
-    (LIT) => { TokenClass::Literal };
-    (($keyword:ident)) => { TokenClass::Keyword(Keyword::$keyword) };
-    ([$mark:ident]) => { TokenClass::Mark(Mark::$mark) };
-}
-
-// A symbol: a class of tokens, or a name.
-macro_rules! symbol {
-    (NAME) => { T(class!(NAME)) };
-    (NUM) => { T(class!(NUM)) };
-    (LIT) => { T(class!(LIT)) };
-    ($part:ident) => { N(Part::$part) };
-    ($token:tt) => { T(class!($token)) };
-}
-
-macro_rules! classes {
-    ($($class:tt)*) => { &[$(class!($class)),*] };
-}
-
-// The row of a name that isn't empty, and of one that may be: what it begins with, and its alternatives.
-macro_rules! rule {
-    ($name:ident, $first:expr, $({ $($symbol:tt)* })+) => {
-        Rule { first: $first, is_nullable: false, alternatives: &[$(&[$(symbol!($symbol)),*]),+] }
-    };
-}
-
-macro_rules! maybe {
-    ($name:ident, $first:expr, $({ $($symbol:tt)* })*) => {
-        Rule { first: $first, is_nullable: true, alternatives: &[$(&[$(symbol!($symbol)),*],)* &[]] }
-    };
-}
-
 // All classes, in the order of messages.
-pub(crate) const CLASSES: &[TokenClass] = classes!(
+pub(crate) const CLASSES: &[TokenClass] = tokens!(
     (Machine) (Stages) (Reg) (File) (Pipe) (Result) (Hint) (Fn) (Stage) (Read) (Let) (Put) (Set) (Aim) (Image) (Stalls) (End) (At)
     (When) (Guess) (From) (To) (Step) (Zext) (Sext) (Sample) (Inputs) [Semicolon] [Colon] [Comma] [Equals] [Arrow] [OpenParenthesis]
     [CloseParenthesis] [OpenBracket] [CloseBracket] [OpenBrace] [CloseBrace] [Question] [Tilde] [Star] [Plus] [Minus] [Ampersand]
     [Caret] [Bar] [Less] [ShiftLeft] [ShiftRight] [EqualsEquals] NAME NUM LIT
 );
 
-const DECL_WORDS: &[TokenClass] = classes!((Reg)(File)(Pipe)(Result)(Hint)(Sample)(Fn));
+const DECL_WORDS: &[TokenClass] = tokens!((Reg)(File)(Pipe)(Result)(Hint)(Sample)(Fn));
 
-const STMT_WORDS: &[TokenClass] = classes!((Read)(Let)(Put)(Set)(Aim));
+const STMT_WORDS: &[TokenClass] = tokens!((Read)(Let)(Put)(Set)(Aim));
 
-const PRIM_STARTS: &[TokenClass] = classes!(LIT NAME [OpenParenthesis] [OpenBrace] (Zext) (Sext));
+const PRIM_STARTS: &[TokenClass] = tokens!(LIT NAME [OpenParenthesis] [OpenBrace] (Zext) (Sext));
 
 const EXPR_STARTS: &[TokenClass] =
-    classes!([Tilde] LIT NAME [OpenParenthesis] [OpenBrace] (Zext) (Sext));
+    tokens!([Tilde] LIT NAME [OpenParenthesis] [OpenBrace] (Zext) (Sext));
 
 // In the order of the names.
 static RULES: [Rule<TokenClass, Part>; 53] = [
-    rule!(Job, classes!((Machine)), {(Machine) NAME [Semicolon] (Stages) NUM [Semicolon] Decls Stage Stages Image Stalls Inputs (End)}),
+    rule!(Job, tokens!((Machine)), {(Machine) NAME [Semicolon] (Stages) NUM [Semicolon] Decls Stage Stages Image Stalls Inputs (End)}),
     maybe!(Decls, DECL_WORDS, {Decl Decls}),
     rule!(Decl, DECL_WORDS,
         {(Reg) Par [Equals] LIT [Semicolon]}
@@ -130,12 +95,12 @@ static RULES: [Rule<TokenClass, Part>; 53] = [
         {(Sample) Par (At) NUM [Semicolon]}
         {(Fn) NAME [OpenParenthesis] Par Pars [CloseParenthesis] [Colon] NUM [Equals] Whole [Semicolon]}
     ),
-    maybe!(Index, classes!([OpenBracket]), {[OpenBracket] NAME [CloseBracket]}),
-    maybe!(Enable, classes!((When)), {(When) NAME}),
-    rule!(Par, classes!(NAME), {NAME [Colon] NUM}),
-    maybe!(Pars, classes!([Comma]), {[Comma] Par Pars}),
-    rule!(Stage, classes!((Stage)), {(Stage) NUM [OpenBrace] Stmts [CloseBrace]}),
-    maybe!(Stages, classes!((Stage)), {Stage Stages}),
+    maybe!(Index, tokens!([OpenBracket]), {[OpenBracket] NAME [CloseBracket]}),
+    maybe!(Enable, tokens!((When)), {(When) NAME}),
+    rule!(Par, tokens!(NAME), {NAME [Colon] NUM}),
+    maybe!(Pars, tokens!([Comma]), {[Comma] Par Pars}),
+    rule!(Stage, tokens!((Stage)), {(Stage) NUM [OpenBrace] Stmts [CloseBrace]}),
+    maybe!(Stages, tokens!((Stage)), {Stage Stages}),
     maybe!(Stmts, STMT_WORDS, {Stmt Stmts}),
     rule!(Stmt, STMT_WORDS,
         {(Read) NAME [Equals] NAME Address Hedge [Semicolon]}
@@ -144,43 +109,43 @@ static RULES: [Rule<TokenClass, Part>; 53] = [
         {(Set) Binding When [Semicolon]}
         {(Aim) Binding [Semicolon]}
     ),
-    rule!(Binding, classes!(NAME), {NAME [Equals] Whole}),
-    maybe!(Address, classes!([OpenBracket]), {[OpenBracket] Whole [CloseBracket]}),
-    maybe!(Hedge, classes!((When) (Guess)), {(When) Whole} {(Guess) Whole}),
-    maybe!(When, classes!((When)), {(When) Whole}),
+    rule!(Binding, tokens!(NAME), {NAME [Equals] Whole}),
+    maybe!(Address, tokens!([OpenBracket]), {[OpenBracket] Whole [CloseBracket]}),
+    maybe!(Hedge, tokens!((When) (Guess)), {(When) Whole} {(Guess) Whole}),
+    maybe!(When, tokens!((When)), {(When) Whole}),
     rule!(Whole, EXPR_STARTS, { Expr }),
-    maybe!(Image, classes!((Image)), {(Image) [OpenBrace] Words [CloseBrace]}),
-    maybe!(Words, classes!(NAME), {Word Words}),
-    rule!(Word, classes!(NAME), {NAME Numbered [Equals] LIT Lits [Semicolon]}),
-    maybe!(Numbered, classes!([OpenBracket]), {[OpenBracket] NUM [CloseBracket]}),
-    maybe!(Lits, classes!([Comma]), {[Comma] LIT Lits}),
-    maybe!(Stalls, classes!((Stalls)), {(Stalls) [OpenBrace] Spans [CloseBrace]}),
-    maybe!(Spans, classes!(NUM), {Span Spans}),
-    rule!(Span, classes!(NUM), {NUM (From) NUM (To) NUM Step [Semicolon]}),
-    maybe!(Step, classes!((Step)), {(Step) NUM}),
-    maybe!(Inputs, classes!((Inputs)), {(Inputs) [OpenBrace] Entries [CloseBrace]}),
-    maybe!(Entries, classes!(NAME), {Entry Entries}),
-    rule!(Entry, classes!(NAME), {NAME [Equals] LIT (From) NUM (To) NUM Step [Semicolon]}),
+    maybe!(Image, tokens!((Image)), {(Image) [OpenBrace] Words [CloseBrace]}),
+    maybe!(Words, tokens!(NAME), {Word Words}),
+    rule!(Word, tokens!(NAME), {NAME Numbered [Equals] LIT Lits [Semicolon]}),
+    maybe!(Numbered, tokens!([OpenBracket]), {[OpenBracket] NUM [CloseBracket]}),
+    maybe!(Lits, tokens!([Comma]), {[Comma] LIT Lits}),
+    maybe!(Stalls, tokens!((Stalls)), {(Stalls) [OpenBrace] Spans [CloseBrace]}),
+    maybe!(Spans, tokens!(NUM), {Span Spans}),
+    rule!(Span, tokens!(NUM), {NUM (From) NUM (To) NUM Step [Semicolon]}),
+    maybe!(Step, tokens!((Step)), {(Step) NUM}),
+    maybe!(Inputs, tokens!((Inputs)), {(Inputs) [OpenBrace] Entries [CloseBrace]}),
+    maybe!(Entries, tokens!(NAME), {Entry Entries}),
+    rule!(Entry, tokens!(NAME), {NAME [Equals] LIT (From) NUM (To) NUM Step [Semicolon]}),
     rule!(Expr, EXPR_STARTS, {Or Choice}),
-    maybe!(Choice, classes!([Question]), {[Question] Expr [Colon] Expr}),
+    maybe!(Choice, tokens!([Question]), {[Question] Expr [Colon] Expr}),
     rule!(Or, EXPR_STARTS, {Xor MoreOr}),
-    maybe!(MoreOr, classes!([Bar]), {[Bar] Xor MoreOr}),
+    maybe!(MoreOr, tokens!([Bar]), {[Bar] Xor MoreOr}),
     rule!(Xor, EXPR_STARTS, {And MoreXor}),
-    maybe!(MoreXor, classes!([Caret]), {[Caret] And MoreXor}),
+    maybe!(MoreXor, tokens!([Caret]), {[Caret] And MoreXor}),
     rule!(And, EXPR_STARTS, {Compare MoreAnd}),
-    maybe!(MoreAnd, classes!([Ampersand]), {[Ampersand] Compare MoreAnd}),
+    maybe!(MoreAnd, tokens!([Ampersand]), {[Ampersand] Compare MoreAnd}),
     rule!(Compare, EXPR_STARTS, {Shift MoreCompare}),
-    maybe!(MoreCompare, classes!([EqualsEquals] [Less]), {[EqualsEquals] Shift} {[Less] Shift}),
+    maybe!(MoreCompare, tokens!([EqualsEquals] [Less]), {[EqualsEquals] Shift} {[Less] Shift}),
     rule!(Shift, EXPR_STARTS, {Sum MoreShift}),
-    maybe!(MoreShift, classes!([ShiftLeft] [ShiftRight]), {[ShiftLeft] Sum MoreShift} {[ShiftRight] Sum MoreShift}),
+    maybe!(MoreShift, tokens!([ShiftLeft] [ShiftRight]), {[ShiftLeft] Sum MoreShift} {[ShiftRight] Sum MoreShift}),
     rule!(Sum, EXPR_STARTS, {Product MoreSum}),
-    maybe!(MoreSum, classes!([Plus] [Minus]), {[Plus] Product MoreSum} {[Minus] Product MoreSum}),
+    maybe!(MoreSum, tokens!([Plus] [Minus]), {[Plus] Product MoreSum} {[Minus] Product MoreSum}),
     rule!(Product, EXPR_STARTS, {Unary MoreProduct}),
-    maybe!(MoreProduct, classes!([Star]), {[Star] Unary MoreProduct}),
+    maybe!(MoreProduct, tokens!([Star]), {[Star] Unary MoreProduct}),
     rule!(Unary, EXPR_STARTS, {[Tilde] Unary} {Post}),
     rule!(Post, PRIM_STARTS, {Prim Slices}),
-    maybe!(Slices, classes!([OpenBracket]), {[OpenBracket] NUM Low [CloseBracket] Slices}),
-    maybe!(Low, classes!([Colon]), {[Colon] NUM}),
+    maybe!(Slices, tokens!([OpenBracket]), {[OpenBracket] NUM Low [CloseBracket] Slices}),
+    maybe!(Low, tokens!([Colon]), {[Colon] NUM}),
     rule!(Prim, PRIM_STARTS,
         {LIT}
         {NAME Call}
@@ -189,10 +154,10 @@ static RULES: [Rule<TokenClass, Part>; 53] = [
         {(Zext) Extended}
         {(Sext) Extended}
     ),
-    rule!(Extended, classes!([OpenParenthesis]), {[OpenParenthesis] Expr [Comma] NUM [CloseParenthesis]}),
-    maybe!(Call, classes!([OpenParenthesis]), {[OpenParenthesis] Exprs [CloseParenthesis]}),
+    rule!(Extended, tokens!([OpenParenthesis]), {[OpenParenthesis] Expr [Comma] NUM [CloseParenthesis]}),
+    maybe!(Call, tokens!([OpenParenthesis]), {[OpenParenthesis] Exprs [CloseParenthesis]}),
     rule!(Exprs, EXPR_STARTS, {Expr Parts}),
-    maybe!(Parts, classes!([Comma]), {[Comma] Expr Parts}),
+    maybe!(Parts, tokens!([Comma]), {[Comma] Expr Parts}),
 ];
 
 impl Names<TokenClass> for Part {

@@ -2,9 +2,9 @@
 ghost use Rattle.kp_vlog.specs.inner.Follow.{tables};
 ghost use Rattle.kp_view_verilog_faults.specs.inner.Plain.{name, number, plain_rules, ranks};
 
-use crate::class::Class;
+use crate::class::Class as TokenClass;
 use kp_expected::Symbol::{Inner as N, Token as T};
-use kp_expected::{Part as Names, Rule};
+use kp_expected::{Part as Names, Rule, maybe, rule, tokens};
 use kp_vlog::{Keyword, Mark};
 
 /// A name of the grammar. In a concatenation at most ten names may follow the first two, after one more at most nine, and so on.
@@ -43,119 +43,84 @@ pub(crate) enum Part {
     Names0,
 }
 
-// A class of tokens: its name, a keyword in parentheses, or a mark in brackets.
-macro_rules! class {
-    (ID) => { Class::Name };
-    (NUM) => { Class::Number };
-    (LIT) => { Class::Literal };
-    (($keyword:ident)) => { Class::Keyword(Keyword::$keyword) };
-    ([$mark:ident]) => { Class::Mark(Mark::$mark) };
-}
-
-// A symbol: a class of tokens, or a name.
-macro_rules! symbol {
-    (ID) => { T(class!(ID)) };
-    (NUM) => { T(class!(NUM)) };
-    (LIT) => { T(class!(LIT)) };
-    ($part:ident) => { N(Part::$part) };
-    ($token:tt) => { T(class!($token)) };
-}
-
-macro_rules! classes {
-    ($($class:tt)*) => { &[$(class!($class)),*] };
-}
-
-// The row of a name that isn't empty, and of one that may be: what it begins with, and its alternatives.
-macro_rules! rule {
-    ($name:ident, $first:expr, $({ $($symbol:tt)* })+) => {
-        Rule { first: $first, is_nullable: false, alternatives: &[$(&[$(symbol!($symbol)),*]),+] }
-    };
-}
-
-macro_rules! maybe {
-    ($name:ident, $first:expr, $({ $($symbol:tt)* })*) => {
-        Rule { first: $first, is_nullable: true, alternatives: &[$(&[$(symbol!($symbol)),*],)* &[]] }
-    };
-}
-
 // All classes, in the order of messages: the operators between two names are those from `<` on.
-pub(crate) const CLASSES: &[Class] = classes!(
+pub(crate) const CLASSES: &[TokenClass] = tokens!(
     (Module) (Input) (Output) (Wire) (Reg) (Integer) (Assign) (Initial) (Begin) (End) (For) (Always) (Posedge) (If) (Else)
     (Endmodule) [Semicolon] [Colon] [Comma] [Equals] [Arrow] [OpenParenthesis] [CloseParenthesis] [OpenBracket] [CloseBracket]
     [OpenBrace] [CloseBrace] [Tilde] [Question] [At] [Less] [Plus] [ShiftLeft] [ShiftRight] [EqualsEquals] [Minus] [Star]
-    [Ampersand] [Bar] [Caret] ID NUM LIT
+    [Ampersand] [Bar] [Caret] NAME NUM LIT
 );
 
-const ITEM_WORDS: &[Class] = classes!((Reg)(Integer)(Wire)(Assign));
+const ITEM_WORDS: &[TokenClass] = tokens!((Reg)(Integer)(Wire)(Assign));
 
 // In the order of the names.
-static RULES: [Rule<Class, Part>; 31] = [
-    rule!(Module, classes!((Module)),
-        {(Module) ID [OpenParenthesis] (Input) Wire ID [Comma] (Input) Wire Stalls Samples (Output) Port [Comma] (Output) Port
+static RULES: [Rule<TokenClass, Part>; 31] = [
+    rule!(Module, tokens!((Module)),
+        {(Module) NAME [OpenParenthesis] (Input) Wire NAME [Comma] (Input) Wire Stalls Samples (Output) Port [Comma] (Output) Port
         [Comma] (Output) Port [CloseParenthesis] [Semicolon] Items (Initial) (Begin) Inits (End) (Always) [At] [OpenParenthesis]
-        (Posedge) ID [CloseParenthesis] (Begin) Body (End) (Endmodule)}
+        (Posedge) NAME [CloseParenthesis] (Begin) Body (End) (Endmodule)}
     ),
-    maybe!(Wire, classes!((Wire)), { (Wire) }),
-    rule!(Range, classes!([OpenBracket]), {[OpenBracket] NUM [Colon] NUM [CloseBracket]}),
-    rule!(Port, classes!((Wire) [OpenBracket]), {Wire Range ID}),
-    rule!(Stalls, classes!(ID [OpenBracket]), {ID [Comma] (Input) Port [Comma]} {Range ID [Comma]}),
-    maybe!(Samples, classes!((Input)), {(Input) Port [Comma] Samples}),
+    maybe!(Wire, tokens!((Wire)), { (Wire) }),
+    rule!(Range, tokens!([OpenBracket]), {[OpenBracket] NUM [Colon] NUM [CloseBracket]}),
+    rule!(Port, tokens!((Wire) [OpenBracket]), {Wire Range NAME}),
+    rule!(Stalls, tokens!(NAME [OpenBracket]), {NAME [Comma] (Input) Port [Comma]} {Range NAME [Comma]}),
+    maybe!(Samples, tokens!((Input)), {(Input) Port [Comma] Samples}),
     maybe!(Items, ITEM_WORDS, {Item Items}),
     rule!(Item, ITEM_WORDS,
-        {(Reg) Range ID Declared}
-        {(Integer) ID [Semicolon]}
-        {(Wire) Range ID [Semicolon]}
-        {(Assign) ID [Equals] Right [Semicolon]}
+        {(Reg) Range NAME Declared}
+        {(Integer) NAME [Semicolon]}
+        {(Wire) Range NAME [Semicolon]}
+        {(Assign) NAME [Equals] Right [Semicolon]}
     ),
-    rule!(Declared, classes!([OpenBracket] [Semicolon]), {Range [Semicolon]} {[Semicolon]}),
-    rule!(Right, classes!(LIT ID [Tilde] [OpenBrace]), {LIT} {[Tilde] ID} {[OpenBrace] ID [Comma] ID Names10 [CloseBrace]} {ID Behind}),
-    maybe!(Behind, classes!([Ampersand] [Bar] [Caret] [Plus] [Minus] [Star] [EqualsEquals] [Less] [ShiftLeft] [ShiftRight] [Question] [OpenBracket]),
-        {[Ampersand] ID}
-        {[Bar] ID}
-        {[Caret] ID}
-        {[Plus] ID}
-        {[Minus] ID}
-        {[Star] ID}
-        {[EqualsEquals] ID}
-        {[Less] ID}
-        {[ShiftLeft] ID}
-        {[ShiftRight] ID}
-        {[Question] ID [Colon] ID}
+    rule!(Declared, tokens!([OpenBracket] [Semicolon]), {Range [Semicolon]} {[Semicolon]}),
+    rule!(Right, tokens!(LIT NAME [Tilde] [OpenBrace]), {LIT} {[Tilde] NAME} {[OpenBrace] NAME [Comma] NAME Names10 [CloseBrace]} {NAME Behind}),
+    maybe!(Behind, tokens!([Ampersand] [Bar] [Caret] [Plus] [Minus] [Star] [EqualsEquals] [Less] [ShiftLeft] [ShiftRight] [Question] [OpenBracket]),
+        {[Ampersand] NAME}
+        {[Bar] NAME}
+        {[Caret] NAME}
+        {[Plus] NAME}
+        {[Minus] NAME}
+        {[Star] NAME}
+        {[EqualsEquals] NAME}
+        {[Less] NAME}
+        {[ShiftLeft] NAME}
+        {[ShiftRight] NAME}
+        {[Question] NAME [Colon] NAME}
         {[OpenBracket] Index}
     ),
-    rule!(Index, classes!(NUM ID), {NUM [Colon] NUM [CloseBracket]} {ID [CloseBracket]}),
-    maybe!(Inits, classes!(ID (For)), {Init Inits}),
-    rule!(Init, classes!(ID (For)),
-        {(For) [OpenParenthesis] ID [Equals] NUM [Semicolon] ID [Less] NUM [Semicolon] ID [Equals] ID [Plus] NUM [CloseParenthesis]
-        ID [OpenBracket] ID [CloseBracket] [Equals] LIT [Semicolon]}
-        {ID Start}
+    rule!(Index, tokens!(NUM NAME), {NUM [Colon] NUM [CloseBracket]} {NAME [CloseBracket]}),
+    maybe!(Inits, tokens!(NAME (For)), {Init Inits}),
+    rule!(Init, tokens!(NAME (For)),
+        {(For) [OpenParenthesis] NAME [Equals] NUM [Semicolon] NAME [Less] NUM [Semicolon] NAME [Equals] NAME [Plus] NUM [CloseParenthesis]
+        NAME [OpenBracket] NAME [CloseBracket] [Equals] LIT [Semicolon]}
+        {NAME Start}
     ),
-    rule!(Start, classes!([Equals] [OpenBracket]), {[Equals] LIT [Semicolon]} {[OpenBracket] NUM [CloseBracket] [Equals] LIT [Semicolon]}),
-    maybe!(Body, classes!(ID (If)), {(If) [OpenParenthesis] ID [CloseParenthesis] Condition} {ID [Arrow] ID [Semicolon] Updates}),
-    rule!(Condition, classes!(ID (Begin)),
+    rule!(Start, tokens!([Equals] [OpenBracket]), {[Equals] LIT [Semicolon]} {[OpenBracket] NUM [CloseBracket] [Equals] LIT [Semicolon]}),
+    maybe!(Body, tokens!(NAME (If)), {(If) [OpenParenthesis] NAME [CloseParenthesis] Condition} {NAME [Arrow] NAME [Semicolon] Updates}),
+    rule!(Condition, tokens!(NAME (Begin)),
         {(Begin) Values (End) (Else) (Begin) Updates (End)}
-        {ID [OpenBracket] ID [CloseBracket] [Arrow] ID [Semicolon] Updates}
+        {NAME [OpenBracket] NAME [CloseBracket] [Arrow] NAME [Semicolon] Updates}
     ),
-    maybe!(Values, classes!(ID), {ID [Arrow] LIT [Semicolon] Values}),
-    maybe!(Updates, classes!(ID (If)), {Update Updates}),
-    rule!(Update, classes!(ID (If)),
-        {(If) [OpenParenthesis] ID [CloseParenthesis] ID [OpenBracket] ID [CloseBracket] [Arrow] ID [Semicolon]}
-        {ID [Arrow] ID [Semicolon]}
+    maybe!(Values, tokens!(NAME), {NAME [Arrow] LIT [Semicolon] Values}),
+    maybe!(Updates, tokens!(NAME (If)), {Update Updates}),
+    rule!(Update, tokens!(NAME (If)),
+        {(If) [OpenParenthesis] NAME [CloseParenthesis] NAME [OpenBracket] NAME [CloseBracket] [Arrow] NAME [Semicolon]}
+        {NAME [Arrow] NAME [Semicolon]}
     ),
-    maybe!(Names10, classes!([Comma]), {[Comma] ID Names9}),
-    maybe!(Names9, classes!([Comma]), {[Comma] ID Names8}),
-    maybe!(Names8, classes!([Comma]), {[Comma] ID Names7}),
-    maybe!(Names7, classes!([Comma]), {[Comma] ID Names6}),
-    maybe!(Names6, classes!([Comma]), {[Comma] ID Names5}),
-    maybe!(Names5, classes!([Comma]), {[Comma] ID Names4}),
-    maybe!(Names4, classes!([Comma]), {[Comma] ID Names3}),
-    maybe!(Names3, classes!([Comma]), {[Comma] ID Names2}),
-    maybe!(Names2, classes!([Comma]), {[Comma] ID Names1}),
-    maybe!(Names1, classes!([Comma]), {[Comma] ID Names0}),
-    maybe!(Names0, classes!(),),
+    maybe!(Names10, tokens!([Comma]), {[Comma] NAME Names9}),
+    maybe!(Names9, tokens!([Comma]), {[Comma] NAME Names8}),
+    maybe!(Names8, tokens!([Comma]), {[Comma] NAME Names7}),
+    maybe!(Names7, tokens!([Comma]), {[Comma] NAME Names6}),
+    maybe!(Names6, tokens!([Comma]), {[Comma] NAME Names5}),
+    maybe!(Names5, tokens!([Comma]), {[Comma] NAME Names4}),
+    maybe!(Names4, tokens!([Comma]), {[Comma] NAME Names3}),
+    maybe!(Names3, tokens!([Comma]), {[Comma] NAME Names2}),
+    maybe!(Names2, tokens!([Comma]), {[Comma] NAME Names1}),
+    maybe!(Names1, tokens!([Comma]), {[Comma] NAME Names0}),
+    maybe!(Names0, tokens!(),),
 ];
 
-impl Names<Class> for Part {
+impl Names<TokenClass> for Part {
     ghost name = { name };
 
     ghost rules = { plain_rules };
@@ -164,7 +129,7 @@ impl Names<Class> for Part {
 
     ghost ranks = { ranks };
 
-    fn rule(self) -> &'static Rule<Class, Part> {
+    fn rule(self) -> &'static Rule<TokenClass, Part> {
         &RULES[self as usize]
     }
 }
