@@ -1,9 +1,11 @@
 -- A request of the program, as what it asks for.
 use Rattle.std.specs.Prelude.{ℕ, List, Option, None, map, string_bytes, option_map}
-use Rattle.kp_view_words.specs.Words.{Asked, Order, Run, Task, bad_words, help, version, show, diagram, svg, page, paths, paths_svg, stalls}
+use Rattle.kp_command_line.specs.{declared.Input.Input, Words.file_seen}
+use Rattle.kp_view_words.specs.Words.{Asked, Order, Pair, Run, Task, bad_words, help, version, show, diagram, svg, page, paths, paths_svg, stalls}
 use Rattle.kp_view_words.specs.declared.words.Request.{Request}
 use Rattle.kp_view_words.specs.declared.task.Order as code_order
 use Rattle.kp_view_words.specs.declared.task.Order.TheVariants as orders
+use Rattle.kp_view_words.specs.declared.pair.Pair as code_pair
 use Rattle.kp_view_words.specs.declared.task.Run as code_run
 use Rattle.kp_view_words.specs.declared.task.Task as code_task
 use Rattle.kp_view_words.specs.declared.words.Request.TheVariants as requests
@@ -32,3 +34,6 @@ asked (requests.Show task) = show (task_seen task)
 abbrev pub file_asked : Asked → Option (List ℕ)
 file_asked (show task) = task.file
 file_asked _ = None
+
+abbrev pub pair_seen : code_pair.Pair → Pair
+pair_seen pair = record { first = file_seen pair.first; second = file_seen pair.second }

@@ -3,7 +3,7 @@ use Rattle.std.specs.Prelude.{◌==◌, ◌||◌, ◌&&◌, ◌-◌, not, ℕ, B
 use Rattle.std.specs.{List.list_all, List.list_any, Option.option_map_or, Str.bytes_eq}
 use Rattle.kp_base.specs.Characters.{is_word}
 use Rattle.kp_bits.specs.Literals.{number_of}
-use Rattle.kp_command_line.specs.Words.{Text, has_dash}
+use Rattle.kp_command_line.specs.Words.{Text, begins_with_dash, has_dash}
 use Rattle.kp_view_words.specs.declared.words.{Topic.Topic, Word.Word}
 use Rattle.kp_view_words.specs.declared.words.Topic.TheVariants as topics
 use Rattle.kp_view_words.specs.declared.words.Word.TheVariants as words
@@ -49,7 +49,8 @@ word_named name =
     else (if bytes_eq name (codes "svg") then Some words.Svg
     else (if bytes_eq name (codes "page") then Some words.Page
     else (if bytes_eq name (codes "paths") then Some words.Paths
-    else (if bytes_eq name (codes "stalls") then Some words.Stalls else None))))
+    else (if bytes_eq name (codes "stalls") then Some words.Stalls
+    else (if bytes_eq name (codes "same") then Some words.Same else None)))))
 
 -- the topic of a name: its word, or the program
 abbrev pub topic_named : Text → Topic
@@ -125,13 +126,14 @@ abbrev pub stalls_with : List Text → Option Task
 stalls_with [] = None
 stalls_with (number ∷ files) = option_and_then (λ count. with_file (stalls count) files) (count_of 100000 number)
 
--- what a word asks for, with these words after it
+-- what a word asks for, with these words after it: `same` nothing about a job alone
 abbrev pub task_with : Word → List Text → Option Task
 task_with words.Diagram rest = option_map (λ asked. record { order = diagram asked.run; file = asked.file }) (run_in rest)
 task_with words.Svg rest = option_map (λ asked. record { order = svg asked.run; file = asked.file }) (run_in rest)
 task_with words.Page rest = option_map (λ asked. record { order = page asked.run; file = asked.file }) (run_in rest)
 task_with words.Paths rest = with_file paths rest
 task_with words.Stalls rest = stalls_with rest
+task_with words.Same rest = None
 
 -- the task of an accepted list: a word, and at most 14 further words
 abbrev pub task_named : List Text → Option Task
@@ -161,3 +163,24 @@ asked_for all =
     if asks_help all then help (topic_of all)
     else (if list_any is_version_flag all then version
     else asked_or (topic_of all) (task_of all))
+
+-- THE TWO INPUTS of `same`; none is standard input.
+pub record Pair : Type 0 where
+  pub first : Option Text
+  pub second : Option Text
+
+-- the input of a word: a file, or standard input for `-`
+abbrev pub input_named : Text → Option (Option Text)
+input_named word = if bytes_eq word (codes "-") then Some None else (if begins_with_dash word then None else Some (Some word))
+
+-- at most one of them is standard input
+abbrev pub pair_with : Option Text → Option Text → Option Pair
+pair_with None None = None
+pair_with first second = Some (record { first = first; second = second })
+
+abbrev pub pair_of : List Text → Option Pair
+pair_of (word ∷ first ∷ second ∷ []) =
+    if bytes_eq word (codes "same")
+    then option_and_then (λ one. option_and_then (λ other. pair_with one other) (input_named second)) (input_named first)
+    else None
+pair_of _ = None

@@ -4,10 +4,12 @@
 //! What it takes is in its variant of `Order`.
 #![tactic(auto)]
 
+mod pair;
 mod task;
 mod texts;
 mod words;
 
+pub use pair::Pair;
 pub use task::{Cycles, Order, Run, Task};
 pub use texts::{help_of, usage_of, version};
 pub use words::{Request, Topic, Word};

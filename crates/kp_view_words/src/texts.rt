@@ -13,6 +13,7 @@ pub const USAGE: &str = "usage: kpview diagram N [NAMES] [FILE]
        kpview page N [NAMES] [FILE]
        kpview paths [--svg] [FILE]
        kpview stalls N [FILE]
+       kpview same FILE FILE
        kpview explain [--werror] [FILE]
        kpview explain read|watch|asm|debug [FILE]
        kpview --help
@@ -42,6 +43,11 @@ pub const USAGE_STALLS: &str = "usage: kpview stalls N [FILE]
 N is 0 to 100000
 ";
 
+/// How `same` is called.
+pub const USAGE_SAME: &str = "usage: kpview same FILE FILE
+one of the files may be `-`, standard input
+";
+
 /// The help of the program.
 pub const HELP: &str = "Draws how instructions move through the pipelined machine of a kp job.
 
@@ -53,6 +59,7 @@ words:
   page N [NAMES] [FILE]      the same as an HTML page, with the states
   paths [--svg] [FILE]       where each read takes its value from
   stalls N [FILE]            why instructions wait or are squashed
+  same FILE FILE             whether two jobs describe the same instruction
   explain [--werror] [FILE]  why the job is rejected, and warnings
   explain read|watch|asm|debug [FILE]
                              why another input of kp is rejected
@@ -64,7 +71,7 @@ options:
   -V, --version   print the version
 
 status: 0 done, 1 wrong words, 2 the job violates a rule, 3 reading failed,
-4 writing failed, 5 out of memory
+4 writing failed, 5 out of memory, 7 not shown to be the same
 ";
 
 /// The help of `diagram`.
@@ -168,6 +175,34 @@ or may write it; in a job with guesses, only of an instruction that retires in
 these N cycles.
 ";
 
+/// The help of `same`.
+pub const HELP_SAME: &str =
+    "Says whether two jobs describe the same instruction and start alike. Stages,
+pipes, write stages, guesses, hints, aims and the order of statements may differ.
+
+usage: kpview same FILE FILE
+
+  FILE    a job; one of the two may be `-`, standard input
+
+It prints `same` where both jobs have the same registers, files and samples, and
+for each register and file the same enable, address and value, built of the same
+operations. Then both sequential machines have the same state after every number
+of instructions, and the pipelined machine of each job shows the sequential
+machine of the other.
+
+Otherwise it prints where this isn't shown:
+  not shown: targets    the registers and files differ in name, width or order
+  not shown: samples    the same of samples
+  not shown: start      the start values differ
+  not shown: X: result  only one job writes X
+  not shown: X: enable, X: address or X: value
+                        the first register or file X with another one of these
+It is no proof that runs differ: `a + b` and `b + a` are other operations here.
+
+status: 0 same, 1 wrong words, 2 a job violates a rule, 3 reading failed,
+4 writing failed, 5 out of memory, 7 not shown
+";
+
 /// The help on a topic.
 pub fn help_of(topic: Topic) -> &'static str
     ensures { result.now ≡ help_text topic }
@@ -179,6 +214,7 @@ pub fn help_of(topic: Topic) -> &'static str
         Topic::Of(Word::Page) => HELP_PAGE,
         Topic::Of(Word::Paths) => HELP_PATHS,
         Topic::Of(Word::Stalls) => HELP_STALLS,
+        Topic::Of(Word::Same) => HELP_SAME,
     }
 }
 
@@ -193,6 +229,7 @@ pub fn usage_of(topic: Topic) -> &'static str
         Topic::Of(Word::Page) => USAGE_PAGE,
         Topic::Of(Word::Paths) => USAGE_PATHS,
         Topic::Of(Word::Stalls) => USAGE_STALLS,
+        Topic::Of(Word::Same) => USAGE_SAME,
     }
 }
 

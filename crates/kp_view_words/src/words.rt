@@ -19,18 +19,19 @@ const MOST_DRAWN: u32 = 1_000;
 const MOST_LISTED: u32 = 100_000;
 
 /// The words, each with the greatest number of words after it.
-const WORDS: [(&'static str, usize); 5] = [
+const WORDS: [(&'static str, usize); 6] = [
     ("diagram", 14),
     ("svg", 14),
     ("page", 14),
     ("paths", 14),
     ("stalls", 14),
+    ("same", 14),
 ];
 
 /// The greatest length of a stage's name, in bytes.
 const MOST_NAME: usize = 8;
 
-/// A word, which says what is to be written about a job.
+/// A word, which says what is to be written about a job, or about two.
 #[derive(Clone, Copy)]
 pub enum Word {
     /// `diagram`: the pipeline diagram as text.
@@ -43,6 +44,8 @@ pub enum Word {
     Paths,
     /// `stalls`: why instructions wait or are squashed.
     Stalls,
+    /// `same`: whether two jobs describe the same instruction. Its two files are a `Pair`.
+    Same,
 }
 
 /// What help and usage are about: the program or one of its words.
@@ -127,6 +130,7 @@ impl Word {
             "page" => Some(Word::Page),
             "paths" => Some(Word::Paths),
             "stalls" => Some(Word::Stalls),
+            "same" => Some(Word::Same),
             _ => None,
         }
     }
@@ -249,6 +253,7 @@ fn task_with<'w>(word: Word, rest: &'w [String]) -> Option<Task<'w>>
         }
         Word::Paths => with_file(Order::Paths, rest),
         Word::Stalls => stalls_with(rest),
+        Word::Same => None,
     }
 }
 

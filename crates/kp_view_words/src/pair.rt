@@ -1,0 +1,55 @@
+// The words of `same`.
+ghost use Rattle.std.specs.Prelude.{◌≡◌, map, string_bytes, option_map};
+ghost use Rattle.kp_command_line.specs.Words.{file_seen};
+ghost use Rattle.kp_view_words.specs.{Asked.pair_seen, Words.input_named, Words.pair_of, Words.pair_with};
+
+use kp_command_line::{Input, begins_with_dash};
+
+/// The two inputs that `same` compares, of which one may be standard input.
+#[derive(Clone, Copy)]
+pub struct Pair<'w> {
+    pub first: Input<'w>,
+    pub second: Input<'w>,
+}
+
+impl<'w> Pair<'w> {
+    /// The inputs of `same FILE FILE`. `None` for other words.
+    pub fn of(words: &'w [String]) -> Option<Self>
+        ensures { option_map pair_seen result ≡ pair_of (map string_bytes words.now) }
+    {
+        match words {
+            [word, first, second] => {
+                if word.as_str() == "same" {
+                    Pair::with(input_named(first)?, input_named(second)?)
+                } else {
+                    None
+                }
+            }
+            _ => None,
+        }
+    }
+
+    // Two inputs, unless both are standard input.
+    fn with(first: Input<'w>, second: Input<'w>) -> Option<Self>
+        ensures { option_map pair_seen result ≡ pair_with (file_seen first) (file_seen second) }
+    {
+        if first.file.is_none() && second.file.is_none() {
+            None
+        } else {
+            Some(Pair { first, second })
+        }
+    }
+}
+
+// The input of a word: a file, or standard input for `-`. No file begins with `-`.
+fn input_named(word: &String) -> Option<Input<'_>>
+    ensures { option_map file_seen result ≡ input_named (string_bytes word.now) }
+{
+    if word.as_str() == "-" {
+        Some(Input { file: None })
+    } else if begins_with_dash(word.as_bytes()) {
+        None
+    } else {
+        Some(Input { file: Some(word) })
+    }
+}
