@@ -17,5 +17,5 @@ mod words;
 pub use explanation::Explanation;
 pub use of_job::explain_head;
 pub use text::explain;
-pub use top::{Stop, explain_source};
+pub use top::{Stop, explain_excess, explain_source};
 pub use words::{HELP, Order, Subject, asks_help};

@@ -77,14 +77,14 @@ fn explanation<S: Source>(
 {
     match read_all(alloc, source) {
         Ok(input) => Ok(explain(alloc, file, subject, strict, input.as_slice())?),
-        Err(ReadAll::TooLong) => Ok(of_excess(alloc, file)?),
+        Err(ReadAll::TooLong) => Ok(explain_excess(alloc, file)?),
         Err(ReadAll::Fault) => Err(Stop::ReadFault),
         Err(ReadAll::NoMemory) => Err(Stop::NoMemory),
     }
 }
 
-// What is said of an input that is longer than it may be.
-fn of_excess(alloc: Global, file: &[u8]) -> Result<Explanation, NoMemory>
+/// What is said of an input that is longer than it may be. The only error is out of memory.
+pub fn explain_excess(alloc: Global, file: &[u8]) -> Result<Explanation, NoMemory>
     ensures said { IfOk result (λ e. (subject : SubjectOf) (strict : Bool) → Says subject strict file.now (Some too_long) e.status e.text.items) }
     ensures low { IfOk result (λ e. e.status ≡ 2) }
 {

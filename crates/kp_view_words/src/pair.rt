@@ -31,12 +31,14 @@ impl<'w> Pair<'w> {
 
     // Two inputs, unless both are standard input.
     fn with(first: Input<'w>, second: Input<'w>) -> Option<Self>
-        ensures { option_map pair_seen result ≡ pair_with (file_seen first) (file_seen second) }
+        ensures { option_map pair_seen result ≡ pair_with (file_seen first.entry) (file_seen second.entry) }
     {
-        if first.file.is_none() && second.file.is_none() {
-            None
-        } else {
-            Some(Pair { first, second })
+        match first.file {
+            Some(_) => Some(Pair { first, second }),
+            None => match second.file {
+                Some(_) => Some(Pair { first, second }),
+                None => None,
+            },
         }
     }
 }

@@ -3,11 +3,11 @@ use Rattle.kp_view_explain.specs.Explaining.{ExplainsText, ShowsFirst}
 use Rattle.kp_view_explain.{specs.Listing.ListsNext, proofs.Inputs.of_excess, proofs.Inputs.of_input}
 use Rattle.kp_view_explain.proofs.top.explanation.Goals as goal
 
-pub returns-in_ok-of_excess-in-Err-TooLong-clause-explained : goal.returns-in_ok-of_excess-in-Err-TooLong-clause-explained
-returns-in_ok-of_excess-in-Err-TooLong-clause-explained g c =
+pub returns-in_ok-explain_excess-in-Err-TooLong-clause-explained : goal.returns-in_ok-explain_excess-in-Err-TooLong-clause-explained
+returns-in_ok-explain_excess-in-Err-TooLong-clause-explained g c =
     let (taken, consumed, count) = c.read_all.ensures.too_long (c.in-Err-TooLong.is ∙ ap Err c.in-Err-TooLong.field-0-is) in
     of_excess c.args.subject c.args.strict c.args.file.now _ _ taken _ _ consumed count
-    (c.in_ok-of_excess-in-Err-TooLong.ensures.said c.args.subject c.args.strict)
+    (c.in_ok-explain_excess-in-Err-TooLong.ensures.said c.args.subject c.args.strict)
 
 pub returns-in_ok-explain-in-Ok-clause-explained : goal.returns-in_ok-explain-in-Ok-clause-explained
 returns-in_ok-explain-in-Ok-clause-explained g c =
