@@ -14,13 +14,13 @@ _kpview() {
             ((count += 1))
         fi
     done
-    if [[ $is_target || $cur == [\<\>]* || $count -ge 2 ]]; then
+    if [[ $is_target || $cur == [\<\>]* || $count -ge 2 || ( $count -eq 1 && ${COMP_WORDS[1]} == same ) ]]; then
         compopt -o default 2>/dev/null
         return
     fi
     compopt +o default 2>/dev/null
     case $count in
-        0) COMPREPLY=($(compgen -W 'diagram svg page paths stalls explain help --help --version' -- "$cur")) ;;
+        0) COMPREPLY=($(compgen -W 'diagram svg page paths stalls same explain help --help --version' -- "$cur")) ;;
         1)
             case ${COMP_WORDS[1]} in
                 paths) COMPREPLY=($(compgen -f -W '--svg' -- "$cur")) ;;

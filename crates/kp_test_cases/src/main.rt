@@ -4,7 +4,7 @@
 //! text up to the next head. The program is `kp`, `kpview`, `kpcore` or `explain`; the last is what `kpview explain` calls, and its words begin with its
 //! name. For each case of these its head, its status and the texts of standard output and standard error are printed; the second begins with a line `--`, and is
 //! left out where it is empty. `explain` has one text, that of standard error, or its help, and the status 1 where its words are not accepted. A head of
-//! the words `# ..` is a title: it is printed, and the text below it is no input of any case.
+//! the words `# ..` is a title: it is printed, and the text below it is no input of any case. `kpview same` has two inputs, before and after a line `----`.
 //!
 //! `==== piped PROGRAM WORDS` is a call of the program, and its input is the text, followed by what `kp pipe` writes for it. If `kp pipe` ends with another
 //! status than 0, this is printed, and there is no call.
@@ -19,8 +19,8 @@
 //!
 //! - `most N`: source and sinks transfer at most N bytes a call;
 //! - `room N`, `err-room N`: standard output or standard error has a capacity of N bytes;
-//! - `read-fails K,K..`, `write-fails K,K..`, `err-fails K,K..`: the calls of the source, of standard output or of standard error that fail, counted
-//!   from 1; of `explain` standard error has the options of standard output;
+//! - `read-fails K,K..`, `second-fails K,K..`, `write-fails K,K..`, `err-fails K,K..`: the calls of the source, of the second one, of standard output or of standard
+//!   error that fail, counted from 1; of `explain` standard error has the options of standard output;
 //! - `times N`: the first line of the input is repeated N times;
 //! - `unended`: the line feed that ends the input is not part of it.
 #![tactic(auto)]

@@ -5,7 +5,8 @@ use kp_core::{Request as CoreRequest, run_core};
 use kp_tool::tool;
 use kp_view::view;
 use kp_view_explain::{HELP, Order, asks_help, explain_source};
-use kp_view_words::Request as ViewRequest;
+use kp_view_same::{Stop, same_sources};
+use kp_view_words::{Pair, Request as ViewRequest};
 use std::alloc::Global;
 
 /// Calls the program that the words begin with. Without one of the four programs nothing is called, and the status is 1.
@@ -15,15 +16,9 @@ pub fn run(alloc: Global, words: &[String], streams: &mut Streams) -> u8 {
     };
     match program.as_str() {
         "kp" => tool(alloc, rest, &mut streams.source, &mut streams.out),
-        "kpview" => match ViewRequest::of(alloc, rest) {
-            Ok(request) => view(
-                alloc,
-                &request,
-                &mut streams.source,
-                &mut streams.out,
-                &mut streams.err,
-            ),
-            Err(NoMemory) => 5,
+        "kpview" => match Pair::of(rest) {
+            Some(pair) => same(alloc, &pair, streams),
+            None => view_words(alloc, rest, streams),
         },
         "kpcore" => match CoreRequest::of(alloc, rest) {
             Ok(request) => run_core(
@@ -40,6 +35,46 @@ pub fn run(alloc: Global, words: &[String], streams: &mut Streams) -> u8 {
     }
 }
 
+fn view_words(alloc: Global, words: &[String], streams: &mut Streams) -> u8 {
+    match ViewRequest::of(alloc, words) {
+        Ok(request) => view(
+            alloc,
+            &request,
+            &mut streams.source,
+            &mut streams.out,
+            &mut streams.err,
+        ),
+        Err(NoMemory) => 5,
+    }
+}
+
+// Compares the jobs of both sources, under the names of the words.
+fn same(alloc: Global, pair: &Pair<'_>, streams: &mut Streams) -> u8 {
+    let end = same_sources(
+        alloc,
+        name_of(pair.first.file),
+        &mut streams.source,
+        name_of(pair.second.file),
+        &mut streams.second,
+        &mut streams.out,
+        &mut streams.err,
+    );
+    match end {
+        Ok(status) => status,
+        Err(Stop::Unread(_)) => 3,
+        Err(Stop::Unwritten) => 4,
+        Err(Stop::NoMemory) => 5,
+    }
+}
+
+// The name of a file, or of standard input.
+fn name_of(file: Option<&String>) -> &[u8] {
+    match file {
+        Some(name) => name.as_bytes(),
+        None => b"<stdin>",
+    }
+}
+
 fn explain(alloc: Global, words: &[String], source: &mut MemSource, sink: &mut MemSink) -> u8 {
     if asks_help(words) {
         return match write_all(sink, HELP.as_bytes()) {
@@ -52,9 +87,6 @@ fn explain(alloc: Global, words: &[String], source: &mut MemSource, sink: &mut M
         Ok(None) => return 1,
         Err(NoMemory) => return 5,
     };
-    let file = match order.file {
-        Some(name) => name.as_bytes(),
-        None => b"<stdin>",
-    };
+    let file = name_of(order.file);
     explain_source(alloc, file, order.subject, order.strict, source, sink)
 }

@@ -1,11 +1,13 @@
 //! The program `kpview`: it passes what the words of its command line ask for, a file or standard input, and the standard streams to a top call: that of
-//! `explain`, or that of all other words. The help of `explain` is printed here.
+//! `explain`, that of `same`, which has two files, or that of all other words. The help of `explain` is printed here.
 #![tactic(auto)]
 
-use kp_base::{NoMemory, StdSink, StdSource, write_all};
+use kp_base::{NoMemory, StdSink, StdSource, write_all, write_pieces};
+use kp_command_line::Input;
 use kp_view::view;
 use kp_view_explain::{HELP, Order, asks_help, explain_source};
-use kp_view_words::Request;
+use kp_view_same::{Side, Stop, same_sources};
+use kp_view_words::{Pair, Request};
 use std::alloc::AllocError;
 use std::env::Env;
 use std::io::{BufWriter, ErrorKind, Read};
@@ -24,12 +26,17 @@ const NO_MEMORY: u8 = 5;
 /// The size of a page in bytes.
 const PAGE: usize = 65_536;
 
+/// The name of standard input in messages.
+const STDIN: &[u8] = b"<stdin>";
+
 fn main(rt: HostRuntime) -> ExitCode {
     let status = match words(&rt) {
-        Ok(words) => run(&rt, &words),
-        Err(AllocError) => NO_MEMORY,
+        Ok(words) => match Pair::of(&words) {
+            Some(pair) => same(&rt, &pair),
+            None => report(&rt, run(&rt, &words)),
+        },
+        Err(AllocError) => report(&rt, NO_MEMORY),
     };
-    report(&rt, status);
     ExitCode::from(status)
 }
 
@@ -107,7 +114,7 @@ fn help(rt: &HostRuntime) -> u8 {
 // Explains a file, or standard input.
 fn explain(rt: &HostRuntime, order: &Order<'_>) -> u8 {
     let Some(file) = order.file else {
-        return explain_reader(rt, b"<stdin>", order, rt.reader());
+        return explain_reader(rt, STDIN, order, rt.reader());
     };
     match fs::open(rt, file.as_str()) {
         Ok(reader) => explain_reader(rt, file.as_bytes(), order, reader),
@@ -135,13 +142,82 @@ fn explain_reader<R: Read + Drop>(
     )
 }
 
-// Says on standard error why nothing, or not all, was printed. The status says the same, so a failure here is ignored.
-fn report(rt: &HostRuntime, status: u8) {
+// Says whether the jobs of two inputs are the same.
+fn same(rt: &HostRuntime, pair: &Pair<'_>) -> u8 {
+    let Some(file) = pair.first.file else {
+        return same_with(rt, STDIN, rt.reader(), pair.second);
+    };
+    match fs::open(rt, file.as_str()) {
+        Ok(reader) => same_with(rt, file.as_bytes(), reader, pair.second),
+        Err(error) => unopened(rt, file.as_bytes(), error.kind()),
+    }
+}
+
+// The same where the first input is that of a reader.
+fn same_with<R: Read + Drop>(rt: &HostRuntime, name: &[u8], reader: R, second: Input<'_>) -> u8 {
+    let Some(file) = second.file else {
+        return same_readers(rt, name, reader, STDIN, rt.reader());
+    };
+    match fs::open(rt, file.as_str()) {
+        Ok(other) => same_readers(rt, name, reader, file.as_bytes(), other),
+        Err(error) => unopened(rt, file.as_bytes(), error.kind()),
+    }
+}
+
+// The same of two readers.
+fn same_readers<R: Read + Drop, Q: Read + Drop>(
+    rt: &HostRuntime,
+    name: &[u8],
+    reader: R,
+    other: &[u8],
+    second: Q,
+) -> u8 {
+    let end = same_sources(
+        rt.alloc(),
+        name,
+        &mut StdSource::new(reader),
+        other,
+        &mut StdSource::new(second),
+        &mut StdSink::new(io::writer(rt)),
+        &mut StdSink::new(rt.stderr()),
+    );
+    match end {
+        Ok(status) => status,
+        Err(Stop::Unread(Side::First)) => unread(rt, name),
+        Err(Stop::Unread(Side::Second)) => unread(rt, other),
+        Err(Stop::Unwritten) => report(rt, UNWRITTEN),
+        Err(Stop::NoMemory) => report(rt, NO_MEMORY),
+    }
+}
+
+// A file of `same` can't be opened.
+fn unopened(rt: &HostRuntime, name: &[u8], kind: ErrorKind) -> u8 {
+    if kind == ErrorKind::OutOfMemory {
+        report(rt, NO_MEMORY)
+    } else {
+        unread(rt, name)
+    }
+}
+
+// Says on standard error that one of two inputs couldn't be read. A failure here is ignored, as in `report`.
+fn unread(rt: &HostRuntime, name: &[u8]) -> u8 {
+    let pieces = [
+        b"kpview: reading failed: ".as_slice(),
+        name,
+        b"\n".as_slice(),
+    ];
+    let _ = write_pieces(&mut StdSink::new(rt.stderr()), &pieces);
+    UNREAD
+}
+
+// Says on standard error why nothing, or not all, was printed, and returns the status. The status says the same, so a failure here is ignored.
+fn report(rt: &HostRuntime, status: u8) -> u8 {
     let reason = match status {
         UNREAD => "kpview: reading failed\n",
         UNWRITTEN => "kpview: writing failed\n",
         NO_MEMORY => "kpview: out of memory\n",
-        _ => return,
+        _ => return status,
     };
     let _ = write_all(&mut StdSink::new(rt.stderr()), reason.as_bytes());
+    status
 }

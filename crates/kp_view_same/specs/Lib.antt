@@ -1,0 +1,4 @@
+pub mod Texts
+pub mod Comparing
+pub mod Ends
+pub mod inner
