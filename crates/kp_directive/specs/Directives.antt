@@ -1,10 +1,14 @@
 -- THE DIRECTIVES of a job: comments that begin with `//:` and have only blanks before them in their line. What follows `//:` in the line is a word and its
 -- arguments.
-use Rattle.std.specs.Prelude.{◌≡◌, ℕ, ◌+◌, Bool, true, false, not, ◌&&◌, ◌==◌, if◌then◌else◌, List, [], ◌∷◌, drop, take, codes, Option, Some, None}
+use Rattle.std.specs.Prelude.{ℕ, ◌+◌, Bool, false, not, ◌&&◌, ◌==◌, if◌then◌else◌, List, [], ◌∷◌, length, drop, take, codes, Option, Some, None}
 use Rattle.std.specs.Str.{bytes_eq}
-use Rattle.kp_base.specs.{Characters.run_length, Lines.IsWithin, Lines.Piece, Lines.is_blank, Lines.lines_of, Lines.piece_of}
+use Rattle.kp_base.specs.{Characters.run_length, Lines.IsWithin, Lines.Piece, Lines.is_blank, Lines.lines_of, Lines.piece_of, declared.run.Run.Run}
 use Rattle.kp_directive.specs.declared.directive.{Directive.Directive, Verb.Verb}
 use Rattle.kp_directive.specs.declared.directive.Verb.TheVariants as verbs
+
+-- where a piece is in its text
+abbrev pub run_of : Piece → Run
+run_of p = record { at = p.at; end = p.at + length p.bytes }
 
 -- the bytes of a piece from the n-th on
 abbrev pub from_on : ℕ → Piece → Piece
@@ -19,7 +23,7 @@ abbrev pub is_marked : List ℕ → Bool
 is_marked (a ∷ b ∷ c ∷ rest) = a == 47 && (b == 47 && c == 58)
 is_marked _ = false
 
--- the bytes up to the first blank
+-- the bytes up to the first blank, and those after them
 abbrev pub is_solid : ℕ → Bool
 is_solid byte = not (is_blank byte)
 
@@ -35,35 +39,25 @@ verb_of word =
     if bytes_eq word (codes "stages") then Some verbs.Stages else (if bytes_eq word (codes "label") then Some verbs.Label
     else (if bytes_eq word (codes "expect") then Some verbs.Expect else None))
 
--- A directive: its first word, what that means, and what follows it in its line.
-pub record Directed : Type 0 where
-  pub verb : Option Verb
-  pub word : Piece
-  pub rest : Piece
-
--- the directive after `//:`
-abbrev pub directed : Piece → Directed
-directed p = record { verb = verb_of (first_word p).bytes; word = first_word p; rest = after_word p }
+-- the directive after `//:`: its first word, what that means, and what follows it in its line
+abbrev pub directed : Piece → Directive
+directed p = record { verb = verb_of (first_word p).bytes; word = run_of (first_word p); rest = run_of (after_word p) }
 
 -- the directive of a line, if it is one
-abbrev pub directive_in : Piece → Option Directed
+abbrev pub directive_in : Piece → Option Directive
 directive_in line = if is_marked (trimmed line).bytes then Some (directed (trimmed (from_on 3 (trimmed line)))) else None
 
-abbrev pub with_directive : Option Directed → List Directed → List Directed
+abbrev pub with_directive : Option Directive → List Directive → List Directive
 with_directive None rest = rest
 with_directive (Some d) rest = d ∷ rest
 
-abbrev pub directives_from : List Piece → List Directed
+abbrev pub directives_from : List Piece → List Directive
 directives_from [] = []
 directives_from (line ∷ lines) = with_directive (directive_in line) (directives_from lines)
 
--- The directives of a text up to this offset, in order.
-abbrev pub directives_of : List ℕ → ℕ → List Directed
+-- THE DIRECTIVES of a text up to an offset, in order.
+abbrev pub directives_of : List ℕ → ℕ → List Directive
 directives_of text end = directives_from (lines_of (piece_of text (record { at = 0; end = end })))
-
--- a directive of the code
-abbrev pub directive_seen : List ℕ → Directive → Directed
-directive_seen text d = record { verb = d.verb; word = piece_of text d.word; rest = piece_of text d.rest }
 
 -- the runs of a directive are within the text
 abbrev pub AreWithin : List ℕ → Directive → Type 0

@@ -1,8 +1,10 @@
 // A directive, and how it is refused.
 ghost use Rattle.std.specs.Prelude.{◌≡◌};
 ghost use Rattle.kp_directive.specs.Faults.{fault_number, fault_word};
+ghost use Rattle.kp_directive.specs.declared.directive.DirectivesRefused.TheVariants as refused;
 
-use kp_base::Run;
+use kp_base::{NoMemory, Run};
+use std::alloc::{AllocError, AllocFailed};
 
 /// The first word of a directive.
 #[derive(Clone, Copy)]
@@ -61,5 +63,36 @@ impl DirectiveFault {
             | DirectiveFault::Name(word)
             | DirectiveFault::Label(word) => word,
         }
+    }
+}
+
+/// Why no directives are returned: a violated rule, or out of memory.
+#[derive(Clone, Copy)]
+pub enum DirectivesRefused {
+    Rule(DirectiveFault),
+    NoMemory,
+}
+
+impl From<NoMemory> for DirectivesRefused {
+    ghost from_gives = { λ _ e. e ≡ refused.NoMemory };
+
+    fn from(_: NoMemory) -> Self {
+        DirectivesRefused::NoMemory
+    }
+}
+
+impl From<AllocError> for DirectivesRefused {
+    ghost from_gives = { λ _ e. e ≡ refused.NoMemory };
+
+    fn from(_: AllocError) -> Self {
+        DirectivesRefused::NoMemory
+    }
+}
+
+impl<T: Drop> From<AllocFailed<T>> for DirectivesRefused {
+    ghost from_gives = { λ _ e. e ≡ refused.NoMemory };
+
+    fn from(_: AllocFailed<T>) -> Self {
+        DirectivesRefused::NoMemory
     }
 }

@@ -10,7 +10,7 @@ mod message;
 mod reader;
 mod rules;
 
-pub use directive::{Directive, DirectiveFault, Verb};
+pub use directive::{Directive, DirectiveFault, DirectivesRefused, Verb};
 pub use message::message_of;
 pub use reader::{bytes_of, directives_in};
-pub use rules::{broken_in, directive_of, names_broken};
+pub use rules::{broken_in, directive_of, stage_names};

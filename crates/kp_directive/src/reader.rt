@@ -1,7 +1,7 @@
 // The directives of a text.
-ghost use Rattle.std.specs.Prelude.{◌≡◌, ◌≤◌, ◌+◌, ◌<◌, ◌^◌, All, IfOk, IfSome, length, map, option_map, take};
+ghost use Rattle.std.specs.Prelude.{◌≡◌, ◌≤◌, ◌+◌, ◌<◌, ◌^◌, All, IfOk, IfSome, length, map, take};
 ghost use Rattle.kp_base.specs.Lines.{IsWithin, is_blank as is_blank_byte, piece_of};
-ghost use Rattle.kp_directive.specs.Directives.{AreWithin, after_word, directed, directive_in, directive_seen, directives_from, directives_of, first_word, from_on, is_marked, is_solid as is_solid_byte, trimmed, verb_of};
+ghost use Rattle.kp_directive.specs.Directives.{AreWithin, after_word, directed, directive_in, directives_from, directives_of, first_word, from_on, is_marked, is_solid as is_solid_byte, trimmed, verb_of};
 
 use crate::directive::{Directive, Verb};
 use kp_base::{NoMemory, Run, lines_in, run_length};
@@ -11,7 +11,7 @@ use std::alloc::Global;
 pub fn directives_in(alloc: Global, text: &[u8], end: u32) -> Result<Vec<Directive>, NoMemory>
     requires end { end ≤ length text.now }
     requires few { length text.now < 2 ^ 32 }
-    ensures directives { IfOk result (λ found. map (directive_seen text.now) found.items ≡ directives_of text.now end) }
+    ensures directives { IfOk result (λ found. found.items ≡ directives_of text.now end) }
     ensures within { IfOk result (λ found. All (AreWithin text.now) found.items) }
 {
     let lines = lines_in(alloc, text, Run { at: 0, end })?;
@@ -26,7 +26,7 @@ fn directives_of_lines(
 ) -> Result<Vec<Directive>, NoMemory>
     requires within { All (IsWithin text.now) lines.now }
     requires few { length text.now < 2 ^ 32 }
-    ensures directives { IfOk result (λ found. map (directive_seen text.now) found.items ≡ directives_from (map (piece_of text.now) lines.now)) }
+    ensures directives { IfOk result (λ found. found.items ≡ directives_from (map (piece_of text.now) lines.now)) }
     ensures within { IfOk result (λ found. All (AreWithin text.now) found.items) }
 {
     let mut found = Vec::new(alloc);
@@ -42,7 +42,7 @@ fn directives_of_lines(
 fn directive_in(text: &[u8], line: Run) -> Option<Directive>
     requires within { IsWithin text.now line }
     requires few { length text.now < 2 ^ 32 }
-    ensures directive { option_map (directive_seen text.now) result ≡ directive_in (piece_of text.now line) }
+    ensures directive { result ≡ directive_in (piece_of text.now line) }
     ensures within { IfSome result (AreWithin text.now) }
 {
     let line = trimmed(text, line);
@@ -57,7 +57,7 @@ fn directive_in(text: &[u8], line: Run) -> Option<Directive>
 fn directed(text: &[u8], run: Run) -> Directive
     requires within { IsWithin text.now run }
     requires few { length text.now < 2 ^ 32 }
-    ensures directive { directive_seen text.now result ≡ directed (piece_of text.now run) }
+    ensures directive { result ≡ directed (piece_of text.now run) }
     ensures within { AreWithin text.now result }
 {
     let size = run_length(bytes_of(text, run), is_solid);
@@ -70,7 +70,6 @@ fn directed(text: &[u8], run: Run) -> Directive
 }
 
 // The first bytes of a run.
-#[tactic(auto, using(crate::proofs::Ranges::front_bytes))]
 fn up_to(text: &[u8], run: Run, size: usize) -> Run
     requires within { IsWithin text.now run }
     requires size { size ≤ length (piece_of text.now run).bytes }
