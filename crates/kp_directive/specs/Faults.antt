@@ -1,6 +1,6 @@
 -- THE RULES of directives. D1: a directive begins with `stages`, `label` or `expect`, and of `stages` and `label` there is one at most. D2: `stages` has a
 -- name for each stage, of 1 to 8 letters, digits or `_`. (D3, on labels, is a matter of the declarations.)
-use Rattle.std.specs.Prelude.{◌≡◌, ℕ, ◌+◌, Bool, true, false, ◌&&◌, ◌==◌, nat_lt, nat_le, if◌then◌else◌, List, [], ◌∷◌, length, map, take, Option, Some, None, Result, Ok, Err, ⊤}
+use Rattle.std.specs.Prelude.{◌≡◌, ℕ, ◌+◌, Bool, true, false, not, ◌&&◌, ◌==◌, nat_lt, nat_le, if◌then◌else◌, List, [], ◌∷◌, length, map, take, Option, Some, None, Result, Ok, Err, ⊤}
 use Rattle.std.specs.List.{list_all, list_any}
 use Rattle.kp_base.specs.{Characters.is_word, Lines.IsWithin, Lines.Piece, Lines.piece_of, Lines.words_of, declared.run.Run.Run}
 use Rattle.kp_directive.specs.{Directives.directives_of, Directives.run_of, declared.directive.Directive.Directive, declared.directive.DirectiveFault.DirectiveFault, declared.directive.Verb.Verb}
@@ -38,10 +38,13 @@ may_repeat _ = false
 abbrev pub has_verb : Verb → Directive → Bool
 has_verb verb d = is_verb verb d.verb
 
+-- an earlier directive begins with the same word, which may not repeat
+abbrev pub is_again : List Directive → Verb → Bool
+is_again before verb = not (may_repeat verb) && list_any (has_verb verb) before
+
 -- what a directive violates after these
 abbrev pub again_after : List Directive → Verb → Run → Option DirectiveFault
-again_after before verb word =
-    if may_repeat verb then None else (if list_any (has_verb verb) before then Some (Again word) else None)
+again_after before verb word = if is_again before verb then Some (Again word) else None
 
 abbrev pub broken_after : List Directive → Option Verb → Run → Option DirectiveFault
 broken_after before None word = Some (Unknown word)

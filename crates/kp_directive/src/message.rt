@@ -119,18 +119,33 @@ fn names_of(given: usize) -> &'static [u8]
 fn add_name(out: &mut Vec<u8>, word: &[u8]) -> Result<(), NoMemory>
     ensures { OnOk result (out.new.items ≡ out.old.items ++ name word.now) }
 {
-    let mut size = Buffer::new();
     let pieces = [
         b"the name of a stage has 1 to 8 letters, digits or `_`: `".as_slice(),
         word,
         b"`".as_slice(),
     ];
     add(out, &pieces)?;
-    if word.len() <= 8 {
-        add(out, &[b" has others".as_slice()])
+    add_reason(out, word.len())
+}
+
+fn add_reason(out: &mut Vec<u8>, size: usize) -> Result<(), NoMemory>
+    ensures { OnOk result (out.new.items ≡ out.old.items ++ reason size) }
+{
+    if size <= 8 {
+        out.extend_from_slice(b" has others")?;
+        Ok(())
     } else {
-        add(out, &[b" has ".as_slice(), size.format(word.len()).as_bytes()])
+        add_long(out, size)
     }
+}
+
+#[tactic(auto, unfolding(crate::specs::Messages::long))]
+fn add_long(out: &mut Vec<u8>, size: usize) -> Result<(), NoMemory>
+    ensures { OnOk result (out.new.items ≡ out.old.items ++ long size) }
+{
+    let mut digits = Buffer::new();
+    let pieces = [b" has ".as_slice(), digits.format(size).as_bytes()];
+    add(out, &pieces)
 }
 
 #[tactic(auto, unfolding(crate::specs::Messages::label))]

@@ -1,7 +1,7 @@
 // The directives of a text.
-ghost use Rattle.std.specs.Prelude.{◌≡◌, ◌≤◌, ◌+◌, ◌<◌, ◌^◌, All, IfOk, IfSome, length, map, take};
+ghost use Rattle.std.specs.Prelude.{◌≡◌, ◌≤◌, ◌+◌, ◌++◌, [], ◌<◌, ◌^◌, All, IfOk, IfSome, OnOk, length, map, take};
 ghost use Rattle.kp_base.specs.Lines.{IsWithin, is_blank as is_blank_byte, piece_of};
-ghost use Rattle.kp_directive.specs.Directives.{AreWithin, after_word, directed, directive_in, directives_from, directives_of, first_word, from_on, is_marked, is_solid as is_solid_byte, trimmed, verb_of};
+ghost use Rattle.kp_directive.specs.Directives.{AreWithin, after_word, directed, directive_in, directives_from, directives_of, first_word, from_on, is_marked, is_solid as is_solid_byte, trimmed, verb_of, with_directive};
 
 use crate::directive::{Directive, Verb};
 use kp_base::{NoMemory, Run, lines_in, run_length};
@@ -31,11 +31,26 @@ fn directives_of_lines(
 {
     let mut found = Vec::new(alloc);
     for line in lines {
-        if let Some(directive) = directive_in(text, *line) {
-            found.push(directive)?;
-        }
+        add_line(text, *line, &mut found)?;
     }
     Ok(found)
+}
+
+// Appends the directive of a line, if it is one.
+fn add_line(text: &[u8], line: Run, found: &mut Vec<Directive>) -> Result<(), NoMemory>
+    requires line { IsWithin text.now line }
+    requires few { length text.now < 2 ^ 32 }
+    requires within { All (AreWithin text.now) found.old.items }
+    ensures added { OnOk result (found.new.items ≡ found.old.items ++ with_directive (directive_in (piece_of text.now line)) []) }
+    ensures within { OnOk result (All (AreWithin text.now) found.new.items) }
+{
+    match directive_in(text, line) {
+        Some(directive) => {
+            found.push(directive)?;
+            Ok(())
+        }
+        None => Ok(()),
+    }
 }
 
 // The directive of a line, if it is one.
@@ -72,6 +87,7 @@ fn directed(text: &[u8], run: Run) -> Directive
 // The first bytes of a run.
 fn up_to(text: &[u8], run: Run, size: usize) -> Run
     requires within { IsWithin text.now run }
+    requires few { length text.now < 2 ^ 32 }
     requires size { size ≤ length (piece_of text.now run).bytes }
     ensures piece { piece_of text.now result ≡ record { at = run.at; bytes = take size (piece_of text.now run).bytes } }
     ensures within { IsWithin text.now result }
@@ -85,6 +101,7 @@ fn up_to(text: &[u8], run: Run, size: usize) -> Run
 // The bytes of a run from one of them on.
 fn from_on(text: &[u8], run: Run, size: usize) -> Run
     requires within { IsWithin text.now run }
+    requires few { length text.now < 2 ^ 32 }
     requires size { size ≤ length (piece_of text.now run).bytes }
     ensures piece { piece_of text.now result ≡ from_on size (piece_of text.now run) }
     ensures within { IsWithin text.now result }
@@ -98,6 +115,7 @@ fn from_on(text: &[u8], run: Run, size: usize) -> Run
 // A run without the blanks at its start.
 fn trimmed(text: &[u8], run: Run) -> Run
     requires within { IsWithin text.now run }
+    requires few { length text.now < 2 ^ 32 }
     ensures piece { piece_of text.now result ≡ trimmed (piece_of text.now run) }
     ensures within { IsWithin text.now result }
 {

@@ -1,10 +1,10 @@
 // Rules D1 and D2.
 ghost use Rattle.std.specs.Prelude.{◌≡◌, ℕ, List, ◌≤◌, ◌<◌, ◌^◌, All, IfErr, IfOk, IfSome, None, length, map, string_bytes, true};
-ghost use Rattle.std.specs.List.{list_all};
+ghost use Rattle.std.specs.List.{list_all, list_any};
 ghost use Rattle.kp_base.specs.Characters.{is_word as is_word_byte};
 ghost use Rattle.kp_base.specs.Lines.{IsWithin, piece_of};
 ghost use Rattle.kp_directive.specs.Directives.{AreWithin};
-ghost use Rattle.kp_directive.specs.Faults.{IsIn, Yields, fault_word, broken_after, broken_in as first_broken, directive_of as first_directive, has_length, has_verb as has_this_verb, is_name, may_repeat as repeats, names_after, names_broken, no_name, stage_names as names_given};
+ghost use Rattle.kp_directive.specs.Faults.{IsIn, Yields, again_after, broken_after, fault_word, broken_in as first_broken, directive_of as first_directive, has_length, has_verb as has_this_verb, is_again, is_name, may_repeat as repeats, names_after, names_broken, no_name, stage_names as names_given};
 
 use crate::directive::{Directive, DirectiveFault, DirectivesRefused, Verb};
 use crate::reader::{bytes_of, directives_in};
@@ -31,13 +31,34 @@ fn broken_after(before: &[Directive], directive: Directive) -> Option<DirectiveF
     ensures fault { result ≡ broken_after before.now directive.verb directive.word }
 {
     match directive.verb {
-        Some(verb) => if !may_repeat(verb) && before.iter().any(|d| has_verb(verb, d)) {
-            Some(DirectiveFault::Again(directive.word))
-        } else {
-            None
-        },
+        Some(verb) => again_after(before, verb, directive.word),
         None => Some(DirectiveFault::Unknown(directive.word)),
     }
+}
+
+// The same for a directive with this word.
+fn again_after(before: &[Directive], verb: Verb, word: Run) -> Option<DirectiveFault>
+    ensures word { IfSome result (λ fault. fault_word fault ≡ word) }
+    ensures fault { result ≡ again_after before.now verb word }
+{
+    if is_again(before, verb) {
+        Some(DirectiveFault::Again(word))
+    } else {
+        None
+    }
+}
+
+// Whether an earlier directive begins with the same word, which may not repeat.
+fn is_again(before: &[Directive], verb: Verb) -> bool
+    ensures { result ≡ is_again before.now verb }
+{
+    !may_repeat(verb) && is_there(before, verb)
+}
+
+fn is_there(before: &[Directive], verb: Verb) -> bool
+    ensures { result ≡ list_any (has_this_verb verb) before.now }
+{
+    before.iter().any(|d| has_verb(verb, d))
 }
 
 fn may_repeat(verb: Verb) -> bool
