@@ -4,14 +4,25 @@ use Rattle.std.specs.{declared.option.Option.Option, declared.result.Result.Resu
 use Rattle.kp_base.specs.{Bytes.AppendsPart, Causes.Rose, declared.refusal.Refused.Refused}
 use Rattle.kp_base.specs.declared.refusal.Refused.TheVariants as refused
 use Rattle.kp_ast.specs.declared.tree.Job.{Job}
-use Rattle.kp_frontend.specs.{Judging.JudgesText, Judging.Judges.within, Accepting.AnswersText}
-use Rattle.kp_view_words.specs.Words.{Order, Task, names_for, show}
+use Rattle.kp_frontend.specs.{Judging.JudgesText, Judging.Judges.within, Judging.JudgesText.accepted, Accepting.AnswersText}
+use Rattle.kp_base.specs.declared.refusal.Refusal.{Refusal}
+use Rattle.kp_lex.{specs.Text.HasOutcome, specs.declared.token.Lexed.Lexed, proofs.Outcome.one_outcome}
+use Rattle.kp_directive.specs.{Faults.stage_names, declared.directive.DirectiveFault.DirectiveFault}
+use Rattle.kp_view_words.specs.Words.{Order, Task, named, names_for, show}
 use Rattle.kp_view.specs.Complaints.{complaint_status, complaint_text}
-use Rattle.kp_view.specs.{Due.DueFor, Due.DueOfJob, Due.DueOfNames, Due.Draws, Due.IsShown, Due.Says, Due.names_fit, Due.order_text, Texts.names_text}
+use Rattle.kp_view.specs.{Due.directive_text, Due.DueFor, Due.DueOfJob, Due.DueOfNames, Due.DueOfOrder, Due.Draws, Due.IsShown, Due.Says, Due.names_fit, Due.order_text, Texts.names_text}
 use Rattle.kp_view.specs.{Ends.Ends, Ends.EndsAt, inner.Failures.failure_of, declared.failure.Complaint.Complaint, declared.failure.Failure.Failure}
 use Rattle.kp_view.specs.declared.failure.{Failure.TheVariants.Complained, Failure.TheVariants.Stopped, Stop.Stop}
 use Rattle.kp_view.specs.declared.failure.Complaint.TheVariants as complaints
 use Rattle.kp_view.specs.declared.failure.Stop.TheVariants as stops
+
+-- the offset after the `end` of an input
+abbrev pub Before : List ℕ → ℕ → Type 0
+Before input end = (lexed : Lexed) × HasOutcome input (Ok lexed) × (end ≡ lexed.rest)
+
+-- a text that describes a job has tokens
+pub never_refused : (input : List ℕ) (job : Job) (refusal : Refusal) → JudgesText input (Ok job) → HasOutcome input (Err refusal) → ⊥
+never_refused input job refusal (accepted d unbroken) broken = let same = one_outcome d.sentence.tokens broken in cc same
 
 -- a complaint has another status than 0
 never_zero : (c : Complaint) → complaint_status c ≡ 0 → ⊥
@@ -45,9 +56,9 @@ module _ {S : Type 0} (held : S → Option (List ℕ)) (faults : S → ℕ) (fil
 
   -- a job that violates none
   pub accepted_job : (task : Task) (input : List ℕ) (job : Job) → length input ≤ 16777216 → JudgesText input (Ok job) → (old new : S) {T : Type 0} (r : Result T Failure)
-      → Ends held faults ⊥ (DueOfJob task.order input job) file old new r → Ends held faults ⊥ (DueFor (show task) input) file old new r
+      → Ends held faults ⊥ (DueOfJob task input job) file old new r → Ends held faults ⊥ (DueFor (show task) input) file old new r
   accepted_job task input job short judged old new r ends =
-      weaker ⊥ ⊥ (DueOfJob task.order input job) (DueFor (show task) input) (λ u. u) (λ status text due. (Ok job, within short judged, due)) old new r ends
+      weaker ⊥ ⊥ (DueOfJob task input job) (DueFor (show task) input) (λ u. u) (λ status text due. (Ok job, within short judged, due)) old new r ends
 
   -- the names are or aren't names for the stages of the job
   pub by_names : (fit other : Bool) (order : Order) (input : List ℕ) (job : Job) → fit ≡ other → (old new : S) {T : Type 0} (r : Result T Failure)
@@ -55,16 +66,30 @@ module _ {S : Type 0} (held : S → Option (List ℕ)) (faults : S → ℕ) (fil
   by_names fit other order input job is old new r ends = subst (λ (b : Bool). Ends held faults ⊥ (DueOfNames b order input job) file old new r) (sym is) ends
 
   pub names_wrong : (T : Type 0) (order : Order) (input : List ℕ) (job : Job) (given stages : ℕ) (s : S) → names_fit order job ≡ false → given ≡ length (names_for order)
-      → stages ≡ job.stages.value → Ends {U = T} held faults ⊥ (DueOfJob order input job) file s s (Err (Complained (complaints.WrongNames given stages)))
+      → stages ≡ job.stages.value → Ends {U = T} held faults ⊥ (DueOfOrder order input job) file s s (Err (Complained (complaints.WrongNames given stages)))
   names_wrong T order input job given stages s unfit g k =
       by_names (names_fit order job) false order input job unfit s s {T = T} (Err (Complained (complaints.WrongNames given stages))) (refl, (refl, ap₂ names_text g k))
 
+  -- the names of the directives were taken
+  pub with_listed : (task : Task) (order : Order) (input : List ℕ) (job : Job) (end : ℕ) (listed : List (List ℕ)) → Before input end → stage_names input end job.stages.value ≡ Ok listed
+      → order ≡ named listed task.order → (old new : S) {T : Type 0} (r : Result T Failure)
+      → Ends held faults ⊥ (DueOfOrder order input job) file old new r → Ends held faults ⊥ (DueOfJob task input job) file old new r
+  with_listed task order input job end listed (lexed, tokens, is) given same old new r ends =
+      weaker ⊥ ⊥ (DueOfOrder order input job) (DueOfJob task input job) (λ u. u)
+      (λ status text due. (Ok listed, (lexed, tokens, rw (← is) given), subst (λ (o : Order). DueOfOrder o input job status text) same due)) old new r ends
+
+  -- a directive violates a rule
+  pub misdirected : (T : Type 0) (task : Task) (input : List ℕ) (job : Job) (end : ℕ) (fault : DirectiveFault) (c : Complaint) (s : S) → Before input end
+      → stage_names input end job.stages.value ≡ Err fault → complaint_status c ≡ 2 → complaint_text file c ≡ directive_text task.file input fault
+      → Ends {U = T} held faults ⊥ (DueOfJob task input job) file s s (Err (Complained c))
+  misdirected T task input job end fault c s (lexed, tokens, is) given status text = (refl, (Err fault, (lexed, tokens, rw (← is) given), (status, text)))
+
 -- the text of a word was written, which shows the run
-pub drawn_by : {S : Type 0} (held : S → Option (List ℕ)) (faults : S → ℕ) (task : Task) (order : Order) (input : List ℕ) (job : Job) → task.order ≡ order → IsShown order job
+pub drawn_by : {S : Type 0} (held : S → Option (List ℕ)) (faults : S → ℕ) (file : Option (List ℕ)) (asked order : Order) (input : List ℕ) (job : Job) → asked ≡ order → IsShown order job
     → (old new : S) {T : Type 0} (r : Result T Failure) → Ends held faults ⊥ (Says 0 (order_text order input job)) None old new r
-    → Ends held faults ⊥ (Draws task.order input job) task.file old new r
-drawn_by held faults task order input job is shows old new r ends =
-    said held faults task.file None ⊥ (Draws task.order input job) (order_text order input job)
+    → Ends held faults ⊥ (Draws asked input job) file old new r
+drawn_by held faults file asked order input job is shows old new r ends =
+    said held faults file None ⊥ (Draws asked input job) (order_text order input job)
     (subst (λ (o : Order). Draws o input job 0 (order_text order input job)) (sym is) (refl, refl, shows)) old new r ends
 
 -- a complaint was written
@@ -80,6 +105,7 @@ module _ {S T : Type 0} (held : S → Option (List ℕ)) (faults : S → ℕ) (h
   complained (complaints.BadWords topic) text old new old_err new_err (Err stop) (same, due) (is, rose, part) = rw is (inr rose, 1, text, due, (same, part))
   complained (complaints.WrongNames given stages) text old new old_err new_err (Err stop) (same, due) (is, rose, part) = rw is (inr rose, 1, text, due, (same, part))
   complained (complaints.Refused refusal) text old new old_err new_err (Err stop) (same, due) (is, rose, part) = rw is (inr rose, 2, text, due, (same, part))
+  complained (complaints.Misdirected said) text old new old_err new_err (Err stop) (same, due) (is, rose, part) = rw is (inr rose, 2, text, due, (same, part))
   complained _ text old new old_err new_err (Ok status) (same, due) (is, appended) = rw is (text, due, (same, appended))
 
   -- no complaint was to be written

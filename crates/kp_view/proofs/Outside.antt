@@ -4,9 +4,10 @@ use Rattle.std.specs.{declared.option.Option.Option, declared.result.Result.Resu
 use Rattle.kp_base.specs.{declared.refusal.Refusal.Refusal, Causes.Rose}
 use Rattle.kp_ast.specs.declared.tree.Job.{Job}
 use Rattle.kp_frontend.{specs.Judging.Judges, specs.Judging.too_long, specs.Judging.Judges.over, specs.Judging.Judges.within, proofs.Verdicts.one_verdict}
-use Rattle.kp_view_words.specs.{Words.Asked, Words.Order, Words.Task, Words.bad_words, Words.help, Words.version, Words.show, declared.words.Topic.Topic}
+use Rattle.kp_directive.specs.declared.directive.DirectiveFault.{DirectiveFault}
+use Rattle.kp_view_words.specs.{Words.Asked, Words.named, Words.Order, Words.Task, Words.bad_words, Words.help, Words.version, Words.show, declared.words.Topic.Topic}
 use Rattle.kp_view_words.specs.Texts.{help_text, version_text}
-use Rattle.kp_view.specs.Due.{Says, DueFor, IsShown, order_text, wrong_names_text, DueOfNames, IsDue, IsFinal, IsWhole, Completes, Begins, Between, Prints, IsDrawn, IsRefusal, IsUnaccepted, IsUnrefused, names_fit, reads_input}
+use Rattle.kp_view.specs.Due.{Says, DueFor, IsShown, order_text, wrong_names_text, DueOfListed, DueOfNames, Lists, IsDue, IsFinal, IsWhole, Completes, Begins, Between, Prints, IsDrawn, IsRefusal, IsUnaccepted, IsUnrefused, names_fit, reads_input}
 use Rattle.kp_view.specs.{Texts.refusal_text, Ends.Ends, Ends.EndsAt, inner.Failures.stop_status, inner.Failures.end_status, declared.failure.Failure.Failure}
 use Rattle.kp_view.specs.declared.failure.{Failure.TheVariants.Complained, Stop.Stop}
 use Rattle.kp_view.specs.declared.failure.Stop.TheVariants.{ReadFault, WriteFault, NoMemory}
@@ -30,8 +31,13 @@ low_names : (fit : _) (order : Order) (input : List ℕ) (job : Job) (status : �
 low_names true order input job status text (zero_is, same, shows) = omega (arith, zero_is)
 low_names false order input job status text (one, rest) = omega (arith, one)
 
+low_listed : (task : Task) (input : List ℕ) (job : Job) (listed : Result (List (List ℕ)) DirectiveFault) (status : ℕ) (text : List ℕ) → DueOfListed task input job listed status text
+    → IsLow status
+low_listed task input job (Ok names) status text due = low_names (names_fit (named names task.order) job) (named names task.order) input job status text due
+low_listed task input job (Err fault) status text (two, rest) = omega (arith, two)
+
 low : (asked : Asked) (input : List ℕ) (status : ℕ) (text : List ℕ) → DueFor asked input status text → IsLow status
-low (show task) input status text (Ok job, judged, due) = low_names (names_fit task.order job) task.order input job status text due
+low (show task) input status text (Ok job, judged, (listed, lists, due)) = low_listed task input job listed status text due
 low (show task) input status text (Err refusal, judged, (is, rest)) = omega (arith, is)
 low (bad_words topic) input status text (is, rest) = omega (arith, is)
 low (help topic) input status text (is, rest) = omega (arith, is)
@@ -189,12 +195,20 @@ names_at_one true order input job status text due one = let e = due.0 in absurd 
 names_at_one false order input job status text (is, same) one = (refl, same)
 
 -- what isn't accepted
+unaccepted_names : (task : Task) (input : List ℕ) (job : Job) → Judges input (Ok job) → (listed : Result (List (List ℕ)) DirectiveFault) → Lists input job listed
+    → (status : ℕ) (text : List ℕ) → DueOfListed task input job listed status text → status ≡ 1 → IsUnaccepted (show task) input text
+unaccepted_names task input job judged (Ok names) lists status text due one =
+    let order = named names task.order in
+    let (unfit, same) = names_at_one (names_fit order job) order input job status text due one in
+    (job, judged, order, (names, lists, refl), unfit, same)
+unaccepted_names task input job judged (Err fault) lists status text (two, same) one = absurd (omega (arith, two, one))
+
 unaccepted_at : (asked : Asked) (input text : List ℕ) (status : ℕ) → DueFor asked input status text → status ≡ 1 → IsUnaccepted asked input text
 unaccepted_at (bad_words topic) input text status (is, same) one = same
 unaccepted_at (help topic) input text status (is, same) one = absurd (omega (arith, is, one))
 unaccepted_at version input text status (is, same) one = absurd (omega (arith, is, one))
-unaccepted_at (show task) input text status (Ok job, judged, due) one =
-    let (unfit, same) = names_at_one (names_fit task.order job) task.order input job status text due one in (job, judged, unfit, same)
+unaccepted_at (show task) input text status (Ok job, judged, (listed, lists, due)) one =
+    unaccepted_names task input job judged listed lists status text due one
 unaccepted_at (show task) input text status (Err refusal, judged, (is, same)) one = absurd (omega (arith, is, one))
 
 module _ {S T : Type 0} (held : S → Option (List ℕ)) (held_err : T → Option (List ℕ)) (asked : Asked) (left left_after : Option (List ℕ)) (old new : S)
@@ -206,13 +220,26 @@ module _ {S T : Type 0} (held : S → Option (List ℕ)) (held_err : T → Optio
       (due.taken, text, due.consumed, printed.1, unaccepted_at asked due.taken text 1 due.due refl)
 
 module _ {S T : Type 0} (held : S → Option (List ℕ)) (held_err : T → Option (List ℕ)) (task : Task) where
+  refused_names : (input : List ℕ) (job : Job) → Judges input (Ok job) → (listed : Result (List (List ℕ)) DirectiveFault) → Lists input job listed
+      → (status : ℕ) (text : List ℕ) → DueOfListed task input job listed status text → status ≡ 2 → IsRefusal task input text
+  refused_names input job judged (Ok names) lists status text due two =
+      let order = named names task.order in absurd (names_never_two (names_fit order job) order input job status text due two)
+  refused_names input job judged (Err fault) lists status text due two = inr (job, judged, fault, lists, due.1)
+
   refusal_at : (input text : List ℕ) (status : ℕ) → DueFor (show task) input status text → status ≡ 2 → IsRefusal task input text
-  refusal_at input text status (Ok job, judged, due) two = absurd (names_never_two (names_fit task.order job) task.order input job status text due two)
-  refusal_at input text status (Err refusal, judged, due) two = (refusal, judged, due.1)
+  refusal_at input text status (Ok job, judged, (listed, lists, due)) two = refused_names input job judged listed lists status text due two
+  refusal_at input text status (Err refusal, judged, due) two = inl (refusal, judged, due.1)
+
+  drawn_names : (input : List ℕ) (job : Job) → Judges input (Ok job) → (listed : Result (List (List ℕ)) DirectiveFault) → Lists input job listed
+      → (status : ℕ) (text : List ℕ) → DueOfListed task input job listed status text → status ≡ 0 → IsDrawn task input text
+  drawn_names input job judged (Ok names) lists status text due zero_is =
+      let order = named names task.order in
+      let (fit, reported, shown) = names_at_zero (names_fit order job) order input job status text due zero_is in
+      (job, judged, order, (names, lists, refl), fit, reported, shown)
+  drawn_names input job judged (Err fault) lists status text (two, same) zero_is = absurd (omega (arith, two, zero_is))
 
   drawn_at : (input text : List ℕ) (status : ℕ) → DueFor (show task) input status text → status ≡ 0 → IsDrawn task input text
-  drawn_at input text status (Ok job, judged, due) zero_is =
-      let (fit, reported, shown) = names_at_zero (names_fit task.order job) task.order input job status text due zero_is in (job, judged, fit, reported, shown)
+  drawn_at input text status (Ok job, judged, (listed, lists, due)) zero_is = drawn_names input job judged listed lists status text due zero_is
   drawn_at input text status (Err refusal, judged, due) zero_is = let e = due.0 in absurd (omega (arith, e, zero_is))
 
   module _ (asked : Asked) (left left_after : Option (List ℕ)) (old new : S) (old_err new_err : T) (is : asked ≡ show task) where
@@ -237,5 +264,5 @@ module _ {S T : Type 0} (held : S → Option (List ℕ)) (held_err : T → Optio
 
     pub unrefused : (status : ℕ) → status ≡ 0 → All status → Between left left_after (held old) (held new) IsUnrefused
     unrefused status zero_is whole =
-        let (input, text, consumed, appended, (job, judged, fit, reported, shown)) = drawn status zero_is whole in
+        let (input, text, consumed, appended, (job, judged, order, is_named, fit, reported, shown)) = drawn status zero_is whole in
         (input, text, consumed, appended, λ refusal broken. ok_never_err input job refusal judged broken)

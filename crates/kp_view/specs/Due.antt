@@ -1,11 +1,11 @@
 -- What is specified: a status and a text for what is asked and the bytes of the source. The text of status 0 goes to standard output, and any other to
 -- standard error.
-use Rattle.std.specs.Prelude.{◌≡◌, ◌≢◌, ◌≤◌, ◌⊎◌, Bool, true, false, ℕ, zero, suc, List, [], length, Ok, Err, Option, Result}
+use Rattle.std.specs.Prelude.{◌≡◌, ◌≢◌, ◌≤◌, ◌⊎◌, Bool, true, false, ℕ, zero, suc, List, [], ◌++◌, length, Ok, Err, Option, Result}
 use Rattle.std.specs.Io.KnownBytes.{Consumes, Appends, IsAtEnd}
 use Rattle.kp_base.specs.{Bytes.AppendsPart, declared.refusal.Refusal.Refusal}
 use Rattle.kp_ast.specs.declared.tree.Job.{Job}
 use Rattle.kp_frontend.specs.Judging.{Judges}
-use Rattle.kp_view_words.specs.Words.{Asked, Order, Run, Task, bad_words, help, version, show, diagram, svg, page, paths, paths_svg, stalls, names_for}
+use Rattle.kp_view_words.specs.Words.{Asked, Order, Run, Task, bad_words, help, version, show, diagram, svg, page, paths, paths_svg, stalls, named, names_for}
 use Rattle.kp_view_words.specs.Texts.{help_text, usage_text, version_text}
 use Rattle.kp_pipeline.specs.Rows.{Row}
 use Rattle.kp_diagram_text.specs.{Charts.are_names, Figures.Figure, Text.diagram_text}
@@ -16,7 +16,9 @@ use Rattle.kp_machine.specs.Machine.{inputs_from, pipe_of}
 use Rattle.kp_page.specs.{Claims.listed_last, States.states_text, Page.page as page_text}
 use Rattle.kp_paths.specs.{Claims.ArePaths, Text.paths_text, ArrowClaims.ShowsCells, Picture.paths_svg_text}
 use Rattle.kp_stalls_text.specs.{Labels.labels_from, Text.stalls_text}
-use Rattle.kp_view.specs.Texts.{names_text, refusal_text}
+use Rattle.kp_lex.specs.{Text.HasOutcome, declared.token.Lexed.Lexed}
+use Rattle.kp_directive.specs.{Faults.stage_names, Messages.message, declared.directive.DirectiveFault.DirectiveFault}
+use Rattle.kp_view.specs.Texts.{file_text, names_text, refusal_text}
 
 -- exactly this status and this text
 abbrev pub Says : ℕ → List ℕ → ℕ → List ℕ → Type 0
@@ -69,12 +71,29 @@ abbrev pub DueOfNames : Bool → Order → List ℕ → Job → ℕ → List ℕ
 DueOfNames true order input job = Draws order input job
 DueOfNames false order input job = Says 1 (wrong_names_text order job)
 
-abbrev pub DueOfJob : Order → List ℕ → Job → ℕ → List ℕ → Type 0
-DueOfJob order input job = DueOfNames (names_fit order job) order input job
+abbrev pub DueOfOrder : Order → List ℕ → Job → ℕ → List ℕ → Type 0
+DueOfOrder order input job = DueOfNames (names_fit order job) order input job
+
+-- the message on a directive that violates a rule, after the name of the file
+abbrev pub directive_text : Option (List ℕ) → List ℕ → DirectiveFault → List ℕ
+directive_text file input fault = file_text file ++ message input fault
+
+-- the outcome for the names that the directives of the input give, or for the rule that they violate; names on the command line win
+abbrev pub DueOfListed : Task → List ℕ → Job → Result (List (List ℕ)) DirectiveFault → ℕ → List ℕ → Type 0
+DueOfListed task input job (Ok listed) = DueOfOrder (named listed task.order) input job
+DueOfListed task input job (Err fault) = Says 2 (directive_text task.file input fault)
+
+-- what the directives before the `end` of the input give
+abbrev pub Lists : List ℕ → Job → Result (List (List ℕ)) DirectiveFault → Type 0
+Lists input job listed = (lexed : Lexed) × HasOutcome input (Ok lexed) × (stage_names input lexed.rest job.stages.value ≡ listed)
+
+abbrev pub DueOfJob : Task → List ℕ → Job → ℕ → List ℕ → Type 0
+DueOfJob task input job status text =
+    (listed : Result (List (List ℕ)) DirectiveFault) × Lists input job listed × DueOfListed task input job listed status text
 
 -- the outcome for a verdict on the input
 abbrev pub DueOfVerdict : Task → List ℕ → Result Job Refusal → ℕ → List ℕ → Type 0
-DueOfVerdict task input (Ok job) = DueOfJob task.order input job
+DueOfVerdict task input (Ok job) = DueOfJob task input job
 DueOfVerdict task input (Err refusal) = Says 2 (refusal_text task.file refusal)
 
 -- the outcome for what is asked, on an input
@@ -133,23 +152,36 @@ abbrev pub Between : (left left_after held held_after : Option (List ℕ)) → (
 Between left left_after held held_after Fact =
     (input : List ℕ) × (text : List ℕ) × Consumes left left_after input × Appends held held_after text × Fact input text
 
+-- what is asked for, with the names that the directives give where the command line gives none
+abbrev pub IsNamed : Task → List ℕ → Job → Order → Type 0
+IsNamed task input job order = (listed : List (List ℕ)) × Lists input job (Ok listed) × (order ≡ named listed task.order)
+
 -- THE HEADLINE. The input is a job that violates no rule, for whose stages the names are, and the text shows what was asked: the run of its pipelined
 -- machine, with the instructions in the full stages, the marks with their reasons, the instructions that retire in order, and each cycle counted under
 -- its cause; or the paths of its reads, with the stages that have a value, and those that never have one; or all of this, with the input and the states.
 abbrev pub IsDrawn : Task → List ℕ → List ℕ → Type 0
 IsDrawn task input text =
-    (job : Job) × Judges input (Ok job) × (names_fit task.order job ≡ true) × (text ≡ order_text task.order input job) × IsShown task.order job
+    (job : Job) × Judges input (Ok job) × (order : Order) × IsNamed task input job order × (names_fit order job ≡ true)
+    × (text ≡ order_text order input job) × IsShown order job
 
--- the text names the first rule that the input violates
+-- the text names the first rule that the input violates, or that its directives violate
+abbrev pub IsRuled : Task → List ℕ → List ℕ → Type 0
+IsRuled task input text = (refusal : Refusal) × Judges input (Err refusal) × (text ≡ refusal_text task.file refusal)
+
+abbrev pub IsMisdirected : Task → List ℕ → List ℕ → Type 0
+IsMisdirected task input text =
+    (job : Job) × Judges input (Ok job) × (fault : DirectiveFault) × Lists input job (Err fault) × (text ≡ directive_text task.file input fault)
+
 abbrev pub IsRefusal : Task → List ℕ → List ℕ → Type 0
-IsRefusal task input text = (refusal : Refusal) × Judges input (Err refusal) × (text ≡ refusal_text task.file refusal)
+IsRefusal task input text = IsRuled task input text ⊎ IsMisdirected task input text
 
 -- The words aren't accepted, and the text says how the program is called; or the input is a job that violates no rule, the names aren't names for
 -- its stages, and the text says how many there are of both.
 abbrev pub IsUnaccepted : Asked → List ℕ → List ℕ → Type 0
 IsUnaccepted (bad_words topic) input text = text ≡ usage_text topic
 IsUnaccepted (show task) input text =
-    (job : Job) × Judges input (Ok job) × (names_fit task.order job ≡ false) × (text ≡ wrong_names_text task.order job)
+    (job : Job) × Judges input (Ok job) × (order : Order) × IsNamed task input job order × (names_fit order job ≡ false)
+    × (text ≡ wrong_names_text order job)
 IsUnaccepted _ input text = ⊥
 
 -- the input violates no rule, or what was asked isn't about an input

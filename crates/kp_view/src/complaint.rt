@@ -25,19 +25,20 @@ pub fn complain<K: Sink>(
         (λ s. (s ≡ stop.WriteFault) × Rose (K.faults err.old) (K.faults err.new)
         × AppendsPart (K.held err.old) (K.held err.new) (complaint_text (option_map (λ name. string_bytes name.now) file.entry) complaint)) }
 {
+    let status = complaint.status();
     match write_complaint(complaint, file_name(file), err) {
-        Ok(()) => Ok(complaint.status()),
+        Ok(()) => Ok(status),
         Err(_) => Err(Stop::WriteFault),
     }
 }
 
 impl Complaint {
-    fn status(self) -> u8
-        ensures { result ≡ complaint_status self }
+    fn status(&self) -> u8
+        ensures { result ≡ complaint_status self.now }
     {
         match self {
             Complaint::BadWords(_) | Complaint::WrongNames(_, _) => 1,
-            Complaint::Refused(_) => 2,
+            Complaint::Refused(_) | Complaint::Misdirected(_) => 2,
         }
     }
 }
@@ -59,6 +60,7 @@ fn write_complaint<K: Sink>(complaint: Complaint, file: &[u8], err: &mut K) -> R
         Complaint::BadWords(topic) => write_all(err, usage_of(topic).as_bytes()),
         Complaint::WrongNames(given, stages) => write_names(given, stages, err),
         Complaint::Refused(refusal) => write_refusal(refusal, file, err),
+        Complaint::Misdirected(said) => write_pieces(err, &[file, said.as_slice()]),
     }
 }
 

@@ -29,7 +29,7 @@ impl Stop {
 }
 
 /// What is to be printed on standard error.
-#[derive(Clone, Copy)]
+#[derive(Drop)]
 pub enum Complaint {
     /// The words aren't accepted.
     BadWords(Topic),
@@ -37,10 +37,12 @@ pub enum Complaint {
     WrongNames(usize, u8),
     /// The job violates a rule.
     Refused(Refusal),
+    /// A directive violates a rule: the message, after the name of the file.
+    Misdirected(Vec<u8>),
 }
 
 /// Why a call ends early. A complaint is still to be printed.
-#[derive(Clone, Copy)]
+#[derive(Drop)]
 pub enum Failure {
     Complained(Complaint),
     Stopped(Stop),

@@ -1,20 +1,25 @@
 // What is shown of a job.
-ghost use Rattle.std.specs.Prelude.{◌≡◌, ◌≤◌, length, true};
+ghost use Rattle.std.specs.Prelude.{◌≡◌, ◌≤◌, ℕ, IfOk, List, Ok, Option, length, true};
+ghost use Rattle.kp_frontend.specs.Judging.{JudgesText};
+ghost use Rattle.kp_lex.specs.{Text.HasOutcome, declared.token.Lexed.Lexed};
 ghost use Rattle.kp_view_words.specs.{Asked.order_seen, Asked.task_seen, Words.show};
-ghost use Rattle.kp_view.specs.Due.{DueFor, DueOfJob, Draws, names_fit};
+ghost use Rattle.kp_view.specs.Due.{DueFor, DueOfJob, DueOfOrder, Draws, names_fit};
 ghost use Rattle.kp_view.specs.Ends.{Ends};
 
 use crate::diagram::diagram;
-use crate::failure::{Complaint, Failure};
+use crate::failure::{Complaint, Failure, Stop};
 use crate::page::page;
 use crate::paths::paths;
 use crate::paths_svg::paths_svg;
 use crate::stalls::stalls;
 use crate::svg::svg;
-use kp_base::Sink;
+use kp_base::{NoMemory, Refused, Sink};
 use kp_diagram_run::laws::a_figure_shows_the_run;
 use kp_diagram_text::are_names;
+use kp_directive::{DirectivesRefused, message_of, stage_names};
 use kp_frontend::{Accepted, judge};
+use kp_lex::laws::tokens_stand_in_their_text;
+use kp_lex::lex;
 use kp_page::laws::listed_words_give_the_states;
 use kp_paths::laws::{the_arrows_are_the_cells, the_cells_are_the_paths};
 use kp_stalls_run::laws::the_lines_show_causes;
@@ -37,7 +42,7 @@ pub fn on_job<K: Sink>(
     end
 }
 
-// The same for a job that violates no rule.
+// The same for a job that violates no rule, with the names of stages that its directives give.
 fn of_job<K: Sink>(
     alloc: Global,
     task: &Task<'_>,
@@ -45,12 +50,56 @@ fn of_job<K: Sink>(
     job: &Accepted,
     out: &mut K,
 ) -> Result<(), Failure>
-    ensures { Ends K.held K.faults ⊥ (DueOfJob (task_seen task.now).order input.now job.now.design.job) (task_seen task.now).file out.old out.new result }
+    requires short { length input.now ≤ 16777216 }
+    requires judged { JudgesText input.now (Ok job.now.design.job) }
+    ensures { Ends K.held K.faults ⊥ (DueOfJob (task_seen task.now) input.now job.now.design.job) (task_seen task.now).file out.old out.new result }
+{
+    let end = end_of(alloc, input, job)?;
+    let stages = job.design.job().stages.value as u8;
+    match stage_names(alloc, input, end, stages) {
+        Ok(listed) => {
+            let order = task.order.named(listed.as_slice());
+            let done = of_order(alloc, &order, input, job, out);
+            drop(listed);
+            done
+        }
+        Err(DirectivesRefused::Rule(fault)) => {
+            let said = message_of(alloc, input, fault)?;
+            Err(Failure::Complained(Complaint::Misdirected(said)))
+        }
+        Err(DirectivesRefused::NoMemory) => Err(Failure::Stopped(Stop::NoMemory)),
+    }
+}
+
+// The offset after the `end` of a job that violates no rule.
+fn end_of(alloc: Global, input: &[u8], _job: &Accepted) -> Result<u32, NoMemory>
+    requires short { length input.now ≤ 16777216 }
+    requires judged { JudgesText input.now (Ok _job.now.design.job) }
+    ensures end { IfOk result (λ end. (lexed : Lexed) × HasOutcome input.now (Ok lexed) × (end ≡ lexed.rest)) }
+    ensures within { IfOk result (λ end. end ≤ length input.now) }
+{
+    tokens_stand_in_their_text();
+    match lex(alloc, input) {
+        Ok(lexed) => Ok(lexed.rest),
+        Err(Refused::Rule(_)) => unreachable!(),
+        Err(Refused::NoMemory) => Err(NoMemory),
+    }
+}
+
+// The same for what is asked with these names.
+fn of_order<K: Sink>(
+    alloc: Global,
+    order: &Order<'_>,
+    input: &[u8],
+    job: &Accepted,
+    out: &mut K,
+) -> Result<(), Failure>
+    ensures { (file : Option (List ℕ)) → Ends K.held K.faults ⊥ (DueOfOrder (order_seen order.now) input.now job.now.design.job) file out.old out.new result }
 {
     let stages = job.design.job().stages.value as u8;
-    let names = task.order.names();
+    let names = order.names();
     if are_names(names, stages) {
-        drawn(alloc, task, input, job, out)
+        drawn(alloc, order, input, job, out)
     } else {
         Err(Failure::Complained(Complaint::WrongNames(names.len(), stages)))
     }
@@ -59,20 +108,20 @@ fn of_job<K: Sink>(
 // The same where the names are names for its stages. Each word is an arm here.
 fn drawn<K: Sink>(
     alloc: Global,
-    task: &Task<'_>,
+    order: &Order<'_>,
     input: &[u8],
     job: &Accepted,
     out: &mut K,
 ) -> Result<(), Failure>
-    requires { names_fit (task_seen task.now).order job.now.design.job ≡ true }
-    ensures { Ends K.held K.faults ⊥ (Draws (task_seen task.now).order input.now job.now.design.job) (task_seen task.now).file out.old out.new result }
+    requires { names_fit (order_seen order.now) job.now.design.job ≡ true }
+    ensures { (file : Option (List ℕ)) → Ends K.held K.faults ⊥ (Draws (order_seen order.now) input.now job.now.design.job) file out.old out.new result }
 {
     a_figure_shows_the_run(job);
     the_cells_are_the_paths();
     the_arrows_are_the_cells();
     listed_words_give_the_states();
     the_lines_show_causes(job);
-    match &task.order {
+    match order {
         Order::Diagram(run) => diagram(alloc, run, job, out),
         Order::Svg(run) => svg(alloc, run, job, out),
         Order::Page(run) => page(alloc, run, input, job, out),

@@ -35,7 +35,7 @@ use kp_view_words::{Request, Task, help_of, version};
 use std::alloc::Global;
 
 /// Does what is asked for: reads the source if something is to be shown of a job, writes to standard output or to standard error, and returns the status. It is 0 if
-/// all was written to standard output, 1 for words that aren't accepted or another number of names than of stages, 2 if the input violates a rule,
+/// all was written to standard output, 1 for words that aren't accepted or another number of names than of stages, 2 if the input or a directive in it violates a rule,
 /// 3 for a fault of the source, 4 for a fault of a sink, and 5 for out of memory.
 pub fn view<S: Source, K: Sink, E: Sink>(
     alloc: Global,
@@ -66,7 +66,7 @@ pub fn view<S: Source, K: Sink, E: Sink>(
     ensures bad_words { (topic : Topic) → asked request.now ≡ bad_words topic → IsFinal result → result ≡ 1 }
     ensures unaccepted { result ≡ 1 → Between (S.left source.old) (S.left source.new) (E.held err.old) (E.held err.new) (IsUnaccepted (asked request.now)) }
 
-    // Status 2 comes with the first rule that the input violates, and whenever it violates one.
+    // Status 2 comes with the first rule that the input violates, or that its directives violate, and whenever the input violates one.
     ensures refused { (task : TaskAsked) → asked request.now ≡ show task → result ≡ 2
         → Between (S.left source.old) (S.left source.new) (E.held err.old) (E.held err.new) (IsRefusal task) }
     ensures refused_only { (task : TaskAsked) → asked request.now ≡ show task → result ≡ 0

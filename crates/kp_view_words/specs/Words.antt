@@ -42,6 +42,18 @@ names_for paths = []
 names_for paths_svg = []
 names_for (stalls count) = []
 
+-- the same with these names of the stages, where none are given
+abbrev pub run_named : List Text → Run → Run
+run_named listed run = record { count = run.count; names = if length run.names == 0 then listed else run.names }
+
+abbrev pub named : List Text → Order → Order
+named listed (diagram run) = diagram (run_named listed run)
+named listed (svg run) = svg (run_named listed run)
+named listed (page run) = page (run_named listed run)
+named listed paths = paths
+named listed paths_svg = paths_svg
+named listed (stalls count) = stalls count
+
 -- the word of this name
 abbrev pub word_named : Text → Option Word
 word_named name =

@@ -1,10 +1,10 @@
 // The words of a command line, and what they ask for.
 ghost use Rattle.std.specs.Prelude.{◌≡◌, ◌&&◌, ltb, leb, ◌≤◌, IfOk, IfSome, map, string_bytes, option_map, length, false};
 ghost use Rattle.std.specs.List.{list_any, list_all};
-ghost use Rattle.kp_view_words.specs.{Asked.asked, Asked.file_asked, Asked.order_seen, Asked.task_seen, inner.Asking.run_asked, inner.Matching.task_matched};
+ghost use Rattle.kp_view_words.specs.{Asked.asked, Asked.file_asked, Asked.order_seen, Asked.run_seen, Asked.task_seen, inner.Asking.run_asked, inner.Matching.task_matched};
 ghost use Rattle.kp_command_line.specs.Words.{has_dash, matched_seen};
 ghost use Rattle.kp_base.specs.Characters.{is_word};
-ghost use Rattle.kp_view_words.specs.Words.{asked_for, names_for, topic_of, topic_named, help_place, is_help_word, is_help_flag, is_version_flag, asks_help, task_of, task_named, task_with, stalls_with, with_file, flagged_task, asks_picture, run_in, run_with, word_named, count_of, names_in, file_in, is_file_after, is_name, is_path};
+ghost use Rattle.kp_view_words.specs.Words.{asked_for, named, names_for, run_named, topic_of, topic_named, help_place, is_help_word, is_help_flag, is_version_flag, asks_help, task_of, task_named, task_with, stalls_with, with_file, flagged_task, asks_picture, run_in, run_with, word_named, count_of, names_in, file_in, is_file_after, is_name, is_path};
 
 use crate::task::{Cycles, Order, Run, Task};
 use kp_base::{NoMemory, is_word};
@@ -103,6 +103,33 @@ impl<'w> Order<'w> {
         match self {
             Order::Diagram(run) | Order::Svg(run) | Order::Page(run) => run.names,
             Order::Paths | Order::PathsSvg | Order::Stalls(_) => &[],
+        }
+    }
+
+    /// The same with these names of the stages, where none are given.
+    pub fn named(self, listed: &'w [String]) -> Order<'w>
+        ensures { order_seen result ≡ named (map string_bytes listed.now) (order_seen self.entry) }
+    {
+        match self {
+            Order::Diagram(run) => Order::Diagram(run.named(listed)),
+            Order::Svg(run) => Order::Svg(run.named(listed)),
+            Order::Page(run) => Order::Page(run.named(listed)),
+            Order::Paths | Order::PathsSvg | Order::Stalls(_) => self,
+        }
+    }
+}
+
+impl<'w> Run<'w> {
+    fn named(self, listed: &'w [String]) -> Run<'w>
+        ensures { run_seen result ≡ run_named (map string_bytes listed.now) (run_seen self.entry) }
+    {
+        if self.names.is_empty() {
+            Run {
+                count: self.count,
+                names: listed,
+            }
+        } else {
+            self
         }
     }
 }

@@ -24,6 +24,7 @@ syntax region kpBlock matchgroup=kpOperator start="{\ze\s*\%(//.*\)\?$" end="^\s
 
 syntax match kpOperator "[-+*&|^~?<>]\|==\|->"
 syntax match kpComment "//.*$" contains=kpTodo,@Spell
+syntax match kpDirective "^\s*//:.*$"
 syntax keyword kpTodo contained TODO FIXME XXX
 
 highlight default link kpSection Structure
@@ -37,6 +38,7 @@ highlight default link kpLiteral Number
 highlight default link kpWrong Error
 highlight default link kpOperator Operator
 highlight default link kpComment Comment
+highlight default link kpDirective PreProc
 highlight default link kpTodo Todo
 
 let b:current_syntax = 'kp'

@@ -1,19 +1,19 @@
 use Rattle.std.proofs.Common.{ap}
 use Rattle.kp_machine.specs.Machine.{inputs_from, pipe_of}
-use Rattle.kp_view_words.specs.{Asked.order_seen, Asked.run_seen, Asked.task_seen, Words.diagram, Words.svg, Words.page, Words.paths, Words.paths_svg, Words.stalls}
+use Rattle.kp_view_words.specs.{Asked.order_seen, Asked.run_seen, Words.diagram, Words.svg, Words.page, Words.paths, Words.paths_svg, Words.stalls}
 use Rattle.kp_view.proofs.Ends.{drawn_by}
 use Rattle.kp_view.proofs.job.drawn.Goals as goal
 
 pub returns-in-Diagram : goal.returns-in-Diagram
 returns-in-Diagram g c =
     let run = run_seen c.in-Diagram.run' in
-    drawn_by g.K.Sink.held g.K.Sink.faults (task_seen c.args.task.now) (diagram run) c.args.input.now c.args.job.now.design.job (ap order_seen c.in-Diagram.is)
+    λ file. drawn_by g.K.Sink.held g.K.Sink.faults file (order_seen c.args.order.now) (diagram run) c.args.input.now c.args.job.now.design.job (ap order_seen c.in-Diagram.is)
     (c.a_figure_shows_the_run.ensures run.names run.count) _ _ _ c.diagram.ensures
 
 pub returns-in-Svg : goal.returns-in-Svg
 returns-in-Svg g c =
     let run = run_seen c.in-Svg.run' in
-    drawn_by g.K.Sink.held g.K.Sink.faults (task_seen c.args.task.now) (svg run) c.args.input.now c.args.job.now.design.job (ap order_seen c.in-Svg.is)
+    λ file. drawn_by g.K.Sink.held g.K.Sink.faults file (order_seen c.args.order.now) (svg run) c.args.input.now c.args.job.now.design.job (ap order_seen c.in-Svg.is)
     (c.a_figure_shows_the_run.ensures run.names run.count) _ _ _ c.svg.ensures
 
 pub returns-in-Page : goal.returns-in-Page
@@ -21,22 +21,22 @@ returns-in-Page g c =
     let job = c.args.job.now.design.job in
     let run = run_seen c.in-Page.run' in
     let states = c.listed_words_give_the_states.ensures (pipe_of job (inputs_from job 0 run.count)).visible in
-    drawn_by g.K.Sink.held g.K.Sink.faults (task_seen c.args.task.now) (page run) c.args.input.now job (ap order_seen c.in-Page.is)
+    λ file. drawn_by g.K.Sink.held g.K.Sink.faults file (order_seen c.args.order.now) (page run) c.args.input.now job (ap order_seen c.in-Page.is)
     (c.a_figure_shows_the_run.ensures run.names run.count, c.the_cells_are_the_paths.ensures job, states) _ _ _ c.page.ensures
 
 pub returns-in-Paths : goal.returns-in-Paths
 returns-in-Paths g c =
     let job = c.args.job.now.design.job in
-    drawn_by g.K.Sink.held g.K.Sink.faults (task_seen c.args.task.now) paths c.args.input.now job (ap order_seen c.in-Paths.is) (c.the_cells_are_the_paths.ensures job) _ _ _ c.paths.ensures
+    λ file. drawn_by g.K.Sink.held g.K.Sink.faults file (order_seen c.args.order.now) paths c.args.input.now job (ap order_seen c.in-Paths.is) (c.the_cells_are_the_paths.ensures job) _ _ _ c.paths.ensures
 
 pub returns-in-PathsSvg : goal.returns-in-PathsSvg
 returns-in-PathsSvg g c =
     let job = c.args.job.now.design.job in
-    drawn_by g.K.Sink.held g.K.Sink.faults (task_seen c.args.task.now) paths_svg c.args.input.now job (ap order_seen c.in-PathsSvg.is)
+    λ file. drawn_by g.K.Sink.held g.K.Sink.faults file (order_seen c.args.order.now) paths_svg c.args.input.now job (ap order_seen c.in-PathsSvg.is)
     (c.the_cells_are_the_paths.ensures job, c.the_arrows_are_the_cells.ensures job) _ _ _ c.paths_svg.ensures
 
 pub returns-in-Stalls : goal.returns-in-Stalls
 returns-in-Stalls g c =
     let count = c.in-Stalls.cycles.count in
-    drawn_by g.K.Sink.held g.K.Sink.faults (task_seen c.args.task.now) (stalls count) c.args.input.now c.args.job.now.design.job (ap order_seen c.in-Stalls.is)
+    λ file. drawn_by g.K.Sink.held g.K.Sink.faults file (order_seen c.args.order.now) (stalls count) c.args.input.now c.args.job.now.design.job (ap order_seen c.in-Stalls.is)
     (c.the_lines_show_causes.ensures count) _ _ _ c.stalls.ensures

@@ -1,10 +1,9 @@
-use Rattle.std.proofs.{Common.◌∙◌, Common.◌≤◌, Common.sym, Common.ap, Common.arith, Common.true, lemmas.List.length-map}
-use Rattle.std.specs.Prelude.{List, ℕ, length, string_bytes, ⊤}
-use Rattle.kp_ast.specs.declared.tree.Job.{Job}
+use Rattle.std.proofs.Common.{◌∙◌, ◌≤◌, ◌++◌, ℕ, List, ap, arith, map, refl, string_bytes}
+use Rattle.std.specs.Prelude.{⊤}
 use Rattle.kp_run.proofs.Machines.{stages_fit}
-use Rattle.kp_diagram_text.specs.Charts.{are_names}
-use Rattle.kp_view_words.specs.Asked.{task_seen}
-use Rattle.kp_view.{specs.Due.names_fit, proofs.Ends.by_names, proofs.Ends.names_wrong}
+use Rattle.kp_view_words.specs.{Asked.order_seen, Asked.task_seen, Words.named}
+use Rattle.kp_view.{specs.Texts.file_text, proofs.Ends.with_listed, proofs.Ends.misdirected}
+use Rattle.kp_view.specs.declared.failure.Complaint.TheVariants as complaints
 use Rattle.kp_view.proofs.job.of_job.Goals as goal
 
 pub overflow_cast-stages : goal.overflow_cast-stages
@@ -12,19 +11,18 @@ overflow_cast-stages g c =
     let few : c.job.result.now.stages.value ≤ 12 = rw c.job.ensures.job (stages_fit c.args.job.now.design.job c.job.ensures.sound.stages).1 in
     omega (arith, few)
 
-pub returns-then-are_names : goal.returns-then-are_names
-returns-then-are_names g c =
-    let order = (task_seen c.args.task.now).order in
-    by_names g.K.Sink.held g.K.Sink.faults (task_seen c.args.task.now).file (names_fit order c.args.job.now.design.job) true
-    order c.args.input.now c.args.job.now.design.job
-    (ap (λ (names : List (List ℕ)). are_names names c.args.job.now.design.job.stages.value) (sym c.names-names.ensures)
-    ∙ rw c.job.ensures.job at (sym c.are_names.ensures ∙ c.if-are_names.true)) _ _ _ c.drawn.ensures
+pub returns-in-Ok : goal.returns-in-Ok
+returns-in-Ok g c =
+    let task = task_seen c.args.task.now in
+    with_listed g.K.Sink.held g.K.Sink.faults task.file task (order_seen c.named-order.result) c.args.input.now c.args.job.now.design.job c.in_ok-end.end
+    (map string_bytes c.in-Ok.listed.items) c.in_ok-end.ensures.end (rw c.job.ensures.job at c.in-Ok.ensures.names)
+    (c.named-order.ensures ∙ ap (λ l. named (map string_bytes l) (order_seen c.args.task.now.order)) c.as_slice.ensures.value) _ _ _
+    (c.of_order-done.ensures task.file)
 
-pub returns-else-are_names : goal.returns-else-are_names
-returns-else-are_names g c =
-    let order = (task_seen c.args.task.now).order in
-    names_wrong g.K.Sink.held g.K.Sink.faults (task_seen c.args.task.now).file ⊤ order c.args.input.now c.args.job.now.design.job _ _ c.args.out.now
-    (ap (λ (names : List (List ℕ)). are_names names c.args.job.now.design.job.stages.value) (sym c.names-names.ensures)
-    ∙ rw c.job.ensures.job at (sym c.are_names.ensures ∙ c.if-are_names.false))
-    (sym (length-map c.names-names.result.now string_bytes) ∙ ap (λ (names : List (List ℕ)). length names) c.names-names.ensures)
-    (ap (λ (j : Job). j.stages.value) c.job.ensures.job)
+pub returns-in_ok-said-in-Err-Rule : goal.returns-in_ok-said-in-Err-Rule
+returns-in_ok-said-in-Err-Rule g c =
+    let task = task_seen c.args.task.now in
+    misdirected g.K.Sink.held g.K.Sink.faults task.file ⊤ task c.args.input.now c.args.job.now.design.job c.in_ok-end.end c.in-Err-Rule.fault
+    (complaints.Misdirected c.in_ok-said-in-Err-Rule.said) c.args.out.now c.in_ok-end.ensures.end
+    (rw (c.in-Err-Rule.field-0-is, c.job.ensures.job) at c.in-Err-Rule.ensures.names) refl
+    (ap (λ (t : List ℕ). file_text task.file ++ t) c.in_ok-said-in-Err-Rule.ensures)
