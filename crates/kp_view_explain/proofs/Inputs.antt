@@ -17,7 +17,7 @@ use Rattle.kp_view_texts.specs.{Heads.rule_head, Marks.program_mark, Marks.scrip
 use Rattle.kp_view_explain.specs.Explaining.{ExplainsText, FindsIn, HasJob, ShowsFirst, IsExplained, Says, rule_of, warned, Finds.over, Finds.within}
 use Rattle.kp_view_explain.specs.inner.Shown.{ExplainsModule, ExplainsScript, ExplainsShown, ShowsMarked}
 use Rattle.kp_view_explain.{specs.Showing.MarksIn, specs.Showing.ShowsPlace, specs.Showing.job_mark, proofs.Places.begins, proofs.Places.noted}
-use Rattle.kp_view_explain.{specs.Listing.ListsNext, specs.declared.words.Subject.Subject, proofs.Agree.one_finding}
+use Rattle.kp_view_explain.{specs.Listing.ListsNext, specs.Printed.IsPrinted, specs.declared.words.Subject.Subject, proofs.Agree.one_finding}
 use Rattle.kp_view_explain.specs.declared.words.Subject.TheVariants as subjects
 
 -- an input that violates a rule
@@ -26,9 +26,9 @@ pub refused : (subject : Subject) (strict : Bool) (file input said : List ℕ) (
 refused subject strict file input said refusal status count finds is marks shown = (Some refusal, finds, (is, begins shown), (count, marks, shown))
 
 -- a job
-pub accepted_job : (strict : Bool) (file text : List ℕ) (job : Job) (status : ℕ) (said : List ℕ) → JudgesText text (Ok job) → status ≡ warned strict said
+pub accepted_job : (strict : Bool) (file text : List ℕ) (job : Job) (status : ℕ) (said : List ℕ) → JudgesText text (Ok job) → IsPrinted file text job said → status ≡ warned strict said
     → ExplainsShown subjects.Job strict file text status said
-accepted_job strict file text job status said judged is = (None, (Ok job, judged, refl), is, tt)
+accepted_job strict file text job status said judged printed is = (None, (Ok job, judged, refl), (job, judged, printed, is), tt)
 
 -- a program
 pub accepted_program : (file text words : List ℕ) (status : ℕ) (said : List ℕ) → assembled text ≡ Ok words → status ≡ 0 → said ≡ []
@@ -112,14 +112,14 @@ of_input subject strict file old new input status text consumed end few (found, 
       consumed = consumed;
       whole = inl (end, few);
       explained = (found, within few finds, says);
-      agrees = λ other is. subst (λ (f : Option Refusal). Says subject strict file f status text) (one_finding subject input found other (within few finds) is) says;
+      agrees = λ other is. subst (λ (f : Option Refusal). Says subject strict file input f status text) (one_finding subject input found other (within few finds) is) says;
       next = λ job few. next job;
       shown = λ few. shown;
     }
 
 -- an input that is too long
 pub of_excess : (subject : Subject) (strict : Bool) (file : List ℕ) (old new : Option (List ℕ)) (input : List ℕ) (status : ℕ) (text : List ℕ)
-    → Consumes old new input → length input ≡ 16777217 → Says subject strict file (Some too_long) status text
+    → Consumes old new input → length input ≡ 16777217 → Says subject strict file input (Some too_long) status text
     → IsExplained subject strict file old new status text
 of_excess subject strict file old new input status text consumed count says =
     let long : most_bytes < length input = omega (arith, count) in
@@ -128,7 +128,7 @@ of_excess subject strict file old new input status text consumed count says =
       consumed = consumed;
       whole = inr count;
       explained = (Some too_long, over long, says);
-      agrees = λ other is. subst (λ (f : Option Refusal). Says subject strict file f status text) (one_finding subject input (Some too_long) other (over long) is) says;
+      agrees = λ other is. subst (λ (f : Option Refusal). Says subject strict file input f status text) (one_finding subject input (Some too_long) other (over long) is) says;
       next = λ job few. absurd (omega (arith, count, few));
       shown = λ few. absurd (omega (arith, count, few));
     }

@@ -2,5 +2,6 @@ mod Agree
 mod Inputs
 mod Next
 mod Places
+mod Printed
 mod Found
 mod Said

@@ -9,7 +9,7 @@ use Rattle.kp_frontend.specs.Judging.JudgesText.{no_tokens, no_sentence, no_job,
 use Rattle.kp_frontend.specs.Judging.JudgesHeadText.{no_head_tokens, no_head_sentence, no_head_job, head_accepted}
 use Rattle.kp_frontend.{specs.Judging.JudgesHead.head_within, proofs.Judged.described, proofs.Judged.end_refused, proofs.Verdicts.one_head}
 use Rattle.kp_frontend.specs.inner.Reading.{IsRead, IsUnread, IsUnread.wrong_tokens, IsUnread.wrong_sentence}
-use Rattle.kp_view_explain.specs.{Explaining.warned, Listing.ListsNext, declared.explanation.Explanation.Explanation}
+use Rattle.kp_view_explain.specs.{Explaining.warned, Printed.IsPrinted, Listing.ListsNext, declared.explanation.Explanation.Explanation}
 use Rattle.kp_view_explain.specs.inner.{Found.IsOfRule, Found.IsOfTree, Naming.ListsAfter, Reading.IsOfHead, Reading.IsReadAs, Shown.ExplainsShown}
 use Rattle.kp_view_explain.specs.declared.words.Subject.TheVariants as subjects
 use Rattle.kp_view_explain.specs.declared.reading.Reading.TheVariants as readings
@@ -85,8 +85,9 @@ module _ (file text : List ℕ) (e : Explanation) where
 
 -- a tree that violates none
 pub right_said : (strict : Bool) (file text : List ℕ) (read : Parsed) (status : ℕ) (said : List ℕ) → IsRead text read → None ≡ tail_of text read.rest
-    → broken_in read.job ≡ None → status ≡ warned strict said → ExplainsShown subjects.Job strict file text status said
-right_said strict file text read status said is tail none warns = accepted_job strict file text read.job status said (accepted (described text read is tail) none) warns
+    → broken_in read.job ≡ None → IsPrinted file text read.job said → status ≡ warned strict said → ExplainsShown subjects.Job strict file text status said
+right_said strict file text read status said is tail none printed warns =
+    accepted_job strict file text read.job status said (accepted (described text read is tail) none) printed warns
 
 pub right_next : (file text said : List ℕ) (read : Parsed) → length text ≤ most_bytes → IsRead text read → None ≡ tail_of text read.rest → broken_in read.job ≡ None
     → ListsNext file text said

@@ -11,7 +11,7 @@ use Rattle.kp_debug_script.specs.Scripts.{script_of}
 use Rattle.kp_implements.specs.Shows.{IsOfJob}
 use Rattle.kp_frontend.specs.Judging.{JudgesText, JudgesHeadText, most_bytes, too_long}
 use Rattle.kp_view_texts.specs.Heads.{rule_head}
-use Rattle.kp_view_explain.specs.{Listing.ListsNext, Showing.Shows, declared.words.Subject.Subject}
+use Rattle.kp_view_explain.specs.{Listing.ListsNext, Printed.IsPrinted, Showing.Shows, declared.words.Subject.Subject}
 use Rattle.kp_view_explain.specs.declared.words.Subject.TheVariants as subjects
 
 -- the violated rule, if a verdict is one
@@ -66,24 +66,25 @@ warned strict text = if strict && ltb 0 (length text) then 2 else 0
 abbrev pub BeginsWith : List ℕ → List ℕ → Type 0
 BeginsWith front text = (rest : List ℕ) × (text ≡ front ++ rest)
 
--- the outcome for an input that violates no rule: for a job status 0, or 2 where there are warnings and they count as errors; for other inputs status 0
--- and no text
-abbrev pub SaysOfAccepted : Subject → Bool → ℕ → List ℕ → Type 0
-SaysOfAccepted subjects.Job strict status text = status ≡ warned strict text
-SaysOfAccepted _ strict status text = (status ≡ 0) × (text ≡ [])
+-- the outcome for an input that violates no rule: for a job its warnings, and status 0, or 2 where there are some and they count as errors; for other inputs
+-- status 0 and no text
+abbrev pub SaysOfAccepted : Subject → Bool → List ℕ → List ℕ → ℕ → List ℕ → Type 0
+SaysOfAccepted subjects.Job strict file input status text =
+    (job : Job) × JudgesText input (Ok job) × IsPrinted file input job text × (status ≡ warned strict text)
+SaysOfAccepted _ strict file input status text = (status ≡ 0) × (text ≡ [])
 
 -- The outcome for an input. Where it violates a rule the status is 2, and the text begins with the file, the place and the first rule that it violates.
-abbrev pub Says : Subject → Bool → List ℕ → Option Refusal → ℕ → List ℕ → Type 0
-Says subject strict file None status text = SaysOfAccepted subject strict status text
-Says subject strict file (Some refusal) status text = (status ≡ 2) × BeginsWith (rule_head file refusal) text
+abbrev pub Says : Subject → Bool → List ℕ → List ℕ → Option Refusal → ℕ → List ℕ → Type 0
+Says subject strict file input None status text = SaysOfAccepted subject strict file input status text
+Says subject strict file input (Some refusal) status text = (status ≡ 2) × BeginsWith (rule_head file refusal) text
 
 -- the same, for what the rules find in an input that is not too long
 abbrev pub ExplainsText : Subject → Bool → List ℕ → List ℕ → ℕ → List ℕ → Type 0
-ExplainsText subject strict file input status text = (found : Option Refusal) × FindsIn subject input found × Says subject strict file found status text
+ExplainsText subject strict file input status text = (found : Option Refusal) × FindsIn subject input found × Says subject strict file input found status text
 
 -- the same for any input
 abbrev pub Explains : Subject → Bool → List ℕ → List ℕ → ℕ → List ℕ → Type 0
-Explains subject strict file input status text = (found : Option Refusal) × Finds subject input found × Says subject strict file found status text
+Explains subject strict file input status text = (found : Option Refusal) × Finds subject input found × Says subject strict file input found status text
 
 -- The text shows the place of the first rule that an input violates which is not too long, if it violates one.
 abbrev pub ShowsFirst : Subject → List ℕ → List ℕ → List ℕ → Type 0
@@ -104,7 +105,7 @@ pub record IsExplained (subject : Subject) (strict : Bool) (file : List ℕ) (ol
   pub whole : (IsAtEnd new × (length input ≤ 16777216)) ⊎ (length input ≡ 16777217)
   pub explained : Explains subject strict file input status text
   -- So it is what is said for the verdict by which `kp` accepts or rejects the input.
-  pub agrees : (found : Option Refusal) → Finds subject input found → Says subject strict file found status text
+  pub agrees : (found : Option Refusal) → Finds subject input found → Says subject strict file input found status text
   pub next : HasJob subject → length input ≤ most_bytes → ListsNext file input text
   pub shown : length input ≤ most_bytes → ShowsFirst subject file input text
 

@@ -1,4 +1,5 @@
 pub mod Showing
+pub mod Printed
 pub mod Explaining
 pub mod Listing
 pub mod Words

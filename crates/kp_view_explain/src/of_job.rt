@@ -4,7 +4,7 @@ ghost use Rattle.kp_frontend.specs.{Judging.broken_in, Judging.most_bytes, Judgi
 ghost use Rattle.kp_view_texts.specs.Heads.{rule_head};
 ghost use Rattle.kp_view_findings.specs.Messages.{AppendsShown, Grows};
 ghost use Rattle.kp_view_message.specs.Texts.{message_text};
-ghost use Rattle.kp_view_explain.specs.{Explaining.BeginsWith, Explaining.warned, Listing.ListsNext, Showing.ShowsPlace, Showing.job_mark};
+ghost use Rattle.kp_view_explain.specs.{Explaining.BeginsWith, Explaining.warned, Listing.ListsNext, Printed.IsPrinted, Printed.Prints, Showing.ShowsPlace, Showing.job_mark};
 ghost use Rattle.kp_view_explain.specs.declared.words.Subject.TheVariants as subjects;
 ghost use Rattle.kp_view_explain.specs.inner.{Found.IsOfTree, Naming.SaysMessage, Shown.ExplainsShown};
 
@@ -15,7 +15,7 @@ use kp_ast::Job;
 use kp_base::{NoMemory, Refusal};
 use kp_lex::tail;
 use kp_parse::Parsed;
-use kp_view_findings::{Finding, MOST, write_caution, write_finding, write_message};
+use kp_view_findings::{Caution, Finding, MOST, write_caution, write_finding, write_message};
 use kp_view_message::{Message, ReadingFault};
 use kp_view_stages::cautions;
 use std::alloc::Global;
@@ -158,14 +158,30 @@ fn write_others(
     Ok(())
 }
 
-// The warnings for an accepted job.
-fn warnings(alloc: Global, file: &[u8], text: &[u8], job: &Job) -> Result<Vec<u8>, NoMemory> {
-    let mut report = Vec::new(alloc);
-    let all = cautions(alloc, job)?;
-    for caution in all.iter().take(MOST) {
-        write_caution(alloc, &mut report, text, file, caution)?;
+// What is printed for a job that violates no rule: its first warnings.
+fn warnings(alloc: Global, file: &[u8], text: &[u8], job: &Job) -> Result<Vec<u8>, NoMemory>
+    ensures { IfOk result (λ out. IsPrinted file.now text.now job.now out.items) }
+{
+    let mut all = cautions(alloc, job)?;
+    all.truncate(MOST);
+    let mut out = Vec::new(alloc);
+    write_warnings(alloc, &mut out, file, text, all.as_slice())?;
+    Ok(out)
+}
+
+fn write_warnings(
+    alloc: Global,
+    out: &mut Vec<u8>,
+    file: &[u8],
+    text: &[u8],
+    all: &[Caution<'_>],
+) -> Result<(), NoMemory>
+    ensures { OnOk result (Prints file.now text.now all.now out.old.items out.new.items) }
+{
+    for caution in all {
+        write_caution(alloc, out, text, file, caution)?;
     }
-    Ok(report)
+    Ok(())
 }
 
 // The status for warnings.

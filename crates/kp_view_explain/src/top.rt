@@ -85,7 +85,7 @@ fn explanation<S: Source>(
 
 /// What is said of an input that is longer than it may be. The only error is out of memory.
 pub fn explain_excess(alloc: Global, file: &[u8]) -> Result<Explanation, NoMemory>
-    ensures said { IfOk result (λ e. (subject : SubjectOf) (strict : Bool) → Says subject strict file.now (Some too_long) e.status e.text.items) }
+    ensures said { IfOk result (λ e. (subject : SubjectOf) (strict : Bool) (input : List ℕ) → Says subject strict file.now input (Some too_long) e.status e.text.items) }
     ensures low { IfOk result (λ e. e.status ≡ 2) }
 {
     let mut text = Vec::new(alloc);

@@ -9,9 +9,9 @@ use Rattle.kp_view_same.specs.declared.{input.Input.Input, judged.Judged.Judged}
 use Rattle.kp_view_same.specs.declared.input.Input.TheVariants as inputs
 use Rattle.kp_view_same.specs.declared.judged.Judged.TheVariants as judged
 
-pub of_excess : (file taken : List ℕ) (said : Explanation) → ((subject : Subject) (strict : Bool) → Says subject strict file (Some too_long) said.status said.text.items)
+pub of_excess : (file taken : List ℕ) (said : Explanation) → ((subject : Subject) (strict : Bool) (input : List ℕ) → Says subject strict file input (Some too_long) said.status said.text.items)
     → Holds inputs.TooLong taken → IsJudged file taken (judged.Refused said)
-of_excess file taken said says long = (too_long, over (omega (arith, long)), says subjects.Job false)
+of_excess file taken said says long = (too_long, over (omega (arith, long)), says subjects.Job false taken)
 
 pub accepted : (file text : List ℕ) (job : Accepted) → length text ≤ most_bytes → JudgesText text (Ok job.design.job) → IsJudged file text (judged.Job job)
 accepted file text job few judges = within few judges
@@ -21,4 +21,4 @@ pub refused : (file text : List ℕ) (refusal : Refusal) (said : Explanation) �
 refused file text refusal said few judges (found, (verdict, finds, is), says) =
     let same = one_verdict text verdict (Err refusal) (within few finds) (within few judges) in
     let e : found ≡ Some refusal = is ∙ ap rule_of same in
-    (refusal, within few judges, subst (λ (o : Option Refusal). Says subjects.Job false file o said.status said.text.items) e says)
+    (refusal, within few judges, subst (λ (o : Option Refusal). Says subjects.Job false file text o said.status said.text.items) e says)

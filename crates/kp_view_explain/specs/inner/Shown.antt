@@ -11,7 +11,7 @@ use Rattle.kp_view_explain.specs.declared.words.Subject.TheVariants as subjects
 
 abbrev pub ExplainsShown : Subject → Bool → List ℕ → List ℕ → ℕ → List ℕ → Type 0
 ExplainsShown subject strict file input status text =
-    (found : Option Refusal) × FindsIn subject input found × Says subject strict file found status text × IfSome found (λ r. Shows subject file input r text)
+    (found : Option Refusal) × FindsIn subject input found × Says subject strict file input found status text × IfSome found (λ r. Shows subject file input r text)
 
 -- the place of a violation in the Verilog text from an offset on
 abbrev pub ShowsMarked : List ℕ → List ℕ → ℕ → Refusal → List ℕ → Type 0
@@ -24,12 +24,12 @@ ShowsModule file input from refusal text = (count : ℕ) × MarksModule input fr
 -- the Verilog text after a job
 abbrev pub ExplainsModule : Job → List ℕ → List ℕ → ℕ → ℕ → List ℕ → Type 0
 ExplainsModule job file input from status text =
-    (found : Option Refusal) × FindsInModule job input from found × ((strict : Bool) → Says subjects.Watched strict file found status text)
+    (found : Option Refusal) × FindsInModule job input from found × ((strict : Bool) → Says subjects.Watched strict file input found status text)
     × IfSome found (λ r. ShowsModule file input from r text)
 
 -- the script after a job
 abbrev pub ExplainsScript : List Decl → List ℕ → List ℕ → ℕ → ℕ → List ℕ → Type 0
 ExplainsScript decls file input from status text =
     let found = rule_of (script_of decls input from) in
-    ((strict : Bool) → Says subjects.Debugged strict file found status text)
+    ((strict : Bool) → Says subjects.Debugged strict file input found status text)
     × IfSome found (λ r. ShowsPlace file input r (script_mark input r) text)

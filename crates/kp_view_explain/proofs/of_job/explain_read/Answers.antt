@@ -41,7 +41,7 @@ returns-in_ok-text-in-None-clause-said c =
     let read = c.args.parsed.now in
     let none = subst (λ (o : Option Explanation). IsOfTree file text (broken_in read.job) o) c.in-None.is c.in_ok-said.ensures in
     let warns = c.warning_status-status.ensures.status ∙ ap (warned c.args.strict) c.as_slice.ensures.value in
-    right_said c.args.strict file text read _ c.in_ok-text-in-None.text.items c.requires.read c.in_default.ensures none warns
+    right_said c.args.strict file text read _ c.in_ok-text-in-None.text.items c.requires.read c.in_default.ensures none c.in_ok-text-in-None.ensures warns
 
 pub returns-in_ok-text-in-None-clause-next : goal.returns-in_ok-text-in-None-clause-next
 returns-in_ok-text-in-None-clause-next c =

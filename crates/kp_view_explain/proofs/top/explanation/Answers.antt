@@ -7,7 +7,7 @@ pub returns-in_ok-explain_excess-in-Err-TooLong-clause-explained : goal.returns-
 returns-in_ok-explain_excess-in-Err-TooLong-clause-explained g c =
     let (taken, consumed, count) = c.read_all.ensures.too_long (c.in-Err-TooLong.is ∙ ap Err c.in-Err-TooLong.field-0-is) in
     of_excess c.args.subject c.args.strict c.args.file.now _ _ taken _ _ consumed count
-    (c.in_ok-explain_excess-in-Err-TooLong.ensures.said c.args.subject c.args.strict)
+    (c.in_ok-explain_excess-in-Err-TooLong.ensures.said c.args.subject c.args.strict taken)
 
 pub returns-in_ok-explain-in-Ok-clause-explained : goal.returns-in_ok-explain-in-Ok-clause-explained
 returns-in_ok-explain-in-Ok-clause-explained g c =
