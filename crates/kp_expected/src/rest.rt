@@ -146,7 +146,11 @@ fn begins<C: Class, P: Part<C>>(symbols: &[Symbol<C, P>], class: C) -> bool
 {
     match symbols {
         [] => false,
-        [first, others @ ..] => begins_with(*first, class, begins(others, class)),
+        [Symbol::Token(wanted), ..] => wanted.is(class),
+        [Symbol::Inner(part), others @ ..] => {
+            let rule = part.rule();
+            is_among(rule.first, class) || (rule.is_nullable && begins(others, class))
+        }
     }
 }
 
