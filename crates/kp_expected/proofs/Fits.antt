@@ -1,12 +1,12 @@
 -- What the tests say of each alternative and of each row.
-use Rattle.std.proofs.Common.{ℕ, zero, suc, ◌≡◌, ◌==◌, ◌<◌, ◌≤◌, ◌+◌, List, [], ◌∷◌, ◌++◌, Bool, true, false, not, cond, ◌||◌, ◌&&◌, ◌⊎◌, inl, inr, Option, Some, None, refl, sym, subst, arith}
+use Rattle.std.proofs.Common.{ℕ, suc, ◌≡◌, ◌==◌, ◌<◌, ◌≤◌, ◌+◌, List, [], ◌∷◌, ◌++◌, Bool, true, false, not, cond, ◌||◌, ◌&&◌, inl, inr, refl, sym, subst, arith}
 use Rattle.std.{proofs.lemmas.Bool.and_parts, proofs.lemmas.Bool.or_cases, proofs.lemmas.Bool.eqb-true, proofs.lemmas.Bool.ltb-true, specs.Prelude.nat_lt}
 use Rattle.kp_grammar.specs.Grammar.{Terminal, Nonterminal, Action, alternatives, Has, here, there}
-use Rattle.kp_grammar.specs.Tables.{Tables, Row, among, first_of, empty_of, firsts, vanishes, choose, pick}
+use Rattle.kp_grammar.specs.Tables.{Tables, Row, among, first_of, empty_of, firsts, vanishes}
 use Rattle.kp_grammar.specs.Ranks.{Ranks}
-use Rattle.kp_grammar.proofs.TableTests.{picks_rule, implied}
+use Rattle.kp_grammar.proofs.TableTests.{implied}
 use Rattle.kp_expected.specs.{Plain.Plain, Plain.PlainRules}
-use Rattle.kp_expected.specs.inner.Readable.{work, all_end, body_fits, bodies_fit, all_fit, some_begins, is_empty, some_empty, each_begins, rows_exact, known_among, IsReadable}
+use Rattle.kp_expected.specs.inner.Readable.{work, all_end, body_fits, bodies_fit, all_fit, some_begins, some_empty, each_begins, rows_exact, known_among, IsReadable}
 
 module _ (rules : PlainRules) (t : Tables) (rank : Ranks) (known : ℕ → Bool) (short : ℕ) where
   one_fits : (n : ℕ) (b : List Plain) (bs : List (List Plain)) → Has b bs → bodies_fit rules t rank known short n bs ≡ true → body_fits rules t rank known short n b ≡ true

@@ -1,12 +1,12 @@
 -- The steps of the machine.
-use Rattle.std.proofs.Common.{ℕ, zero, suc, ◌≡◌, ◌==◌, ◌<◌, ◌≤◌, ◌+◌, List, [], ◌∷◌, ◌++◌, Bool, true, false, cond, ◌||◌, Option, Some, None, refl, sym, ap, ◌∙◌, subst, eq-eqb, arith, map, drop, length, get_or}
+use Rattle.std.proofs.Common.{ℕ, ◌≡◌, ◌==◌, ◌<◌, ◌≤◌, ◌+◌, List, [], ◌∷◌, ◌++◌, Bool, true, false, Some, None, refl, sym, ap, ◌∙◌, subst, eq-eqb, drop, length, get_or}
 use Rattle.std.{specs.Prelude.⊤, specs.Prelude.◌↔◌, proofs.lemmas.Bool.eqb-true, proofs.lemmas.List.drop_all, proofs.lemmas.List.drop_more}
-use Rattle.kp_grammar.specs.Grammar.{Terminal, Nonterminal, Action, Has, alternatives, Derives, stay, expand, read, build}
-use Rattle.kp_grammar.specs.{Tables.Tables, Tables.IsPredictive, Tables.among, Tables.firsts, Tables.choose, Tables.pick, Machine.Accepts, Machine.goes, Machine.take, Machine.make, Machine.accept}
+use Rattle.kp_grammar.specs.Grammar.{Terminal, Nonterminal, Derives, stay, expand, read}
+use Rattle.kp_grammar.specs.{Tables.Tables, Tables.IsPredictive, Tables.pick, Machine.goes, Machine.take, Machine.make, Machine.accept}
 use Rattle.kp_grammar.specs.Ranks.{Ranks}
 use Rattle.kp_grammar.proofs.{TableTests.picks_rule, TableTests.decides, Prefix.after, Derivations.is_accepted, Derivations.no_limit}
 use Rattle.kp_expected.specs.{Plain.Plain, Plain.PlainRules, Plain.plain, Starts.starts, GoesOn.GoesOn}
-use Rattle.kp_expected.specs.inner.{Readable.IsReadable, Readable.IsReadableName, Readable.work, Steps.Derived, Steps.HasSentence, Steps.IsReady, Steps.Runs, Steps.Goes, Steps.Fails, Steps.Decides}
+use Rattle.kp_expected.specs.inner.{Readable.IsReadable, Readable.IsReadableName, Readable.work, Steps.Derived, Steps.Runs, Steps.Goes, Steps.Fails, Steps.Decides}
 use Rattle.kp_expected.proofs.{Starts.sentence_starts, Fits.lighter, Sentences.sentence, Sentences.ready-append, Sentences.body_ready, Sentences.starts_sentence}
 
 -- the items from an index on

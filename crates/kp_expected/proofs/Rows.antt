@@ -1,9 +1,9 @@
 -- The alternative of a name for a class, and answers for a list of classes.
-use Rattle.std.proofs.Common.{ℕ, zero, suc, ◌≡◌, ◌==◌, ◌≢◌, ◌<◌, ◌≤◌, ◌+◌, List, [], ◌∷◌, ◌++◌, map, reverse, Bool, true, false, cond, ◌||◌, ◌&&◌, Option, Some, None, refl, sym, ap, ◌∙◌, subst, length, drop, take, get_or, arith, Bor, set, inl, inr}
+use Rattle.std.proofs.Common.{ℕ, ◌≡◌, ◌≢◌, ◌<◌, ◌≤◌, ◌+◌, List, [], ◌∷◌, ◌++◌, map, reverse, Bool, true, false, cond, Option, Some, None, refl, sym, ap, ◌∙◌, subst, length, drop, get_or, arith, Bor, set, inl, inr}
 use Rattle.std.specs.Prelude.{◌↔◌, slice_get, option_map, MatchOption}
-use Rattle.std.proofs.lemmas.{Bool.cases_lt, List.drop_more, List.drop_all, List.length-set, List.length-map, List.get_or-set_same, List.get_or-set_other, List.map-append, List.reverse-append, List.reverse-reverse}
-use Rattle.std.proofs.lemmas.Option.{get_or_from_slice_get, slice_get-get_or, slice_get-map, slice_get_within}
-use Rattle.kp_grammar.specs.{Grammar.alternatives, Tables.Tables, Tables.among, Tables.firsts, Tables.choose, Tables.pick}
+use Rattle.std.proofs.lemmas.{Bool.cases_lt, List.drop_more, List.drop_all, List.length-set, List.get_or-set_same, List.get_or-set_other, List.map-append, List.reverse-append, List.reverse-reverse}
+use Rattle.std.proofs.lemmas.Option.{get_or_from_slice_get, slice_get-get_or, slice_get_within}
+use Rattle.kp_grammar.specs.{Grammar.alternatives, Tables.Tables, Tables.choose, Tables.pick}
 use Rattle.kp_expected.specs.{Plain.Plain, Plain.PlainRules, Plain.plain_symbol, Plain.stack, Starts.starts, declared.class.Symbol.Symbol as CodeSymbol}
 use Rattle.kp_expected.proofs.Starts.{firsts_start}
 

@@ -1,11 +1,11 @@
 -- Lists of symbols have sentences, and one for each class that they begin with.
-use Rattle.std.proofs.Common.{ℕ, zero, suc, ◌≡◌, ◌==◌, ◌<◌, ◌≤◌, ◌+◌, List, [], ◌∷◌, ◌++◌, Bool, true, false, cond, ◌||◌, ◌&&◌, ◌⊎◌, inl, inr, Option, Some, None, refl, sym, ◌∙◌, subst, arith}
-use Rattle.std.{specs.Prelude.⊤, proofs.lemmas.Bool.and_parts, proofs.lemmas.Bool.or_cases, proofs.lemmas.Bool.eqb-true, proofs.lemmas.List.append_assoc}
+use Rattle.std.proofs.Common.{ℕ, zero, suc, ◌≡◌, ◌==◌, ◌<◌, List, [], ◌∷◌, ◌++◌, Bool, true, ◌&&◌, inl, inr, Option, Some, None, refl, sym, ◌∙◌, subst, arith}
+use Rattle.std.{proofs.lemmas.Bool.and_parts, proofs.lemmas.Bool.or_cases, proofs.lemmas.Bool.eqb-true, proofs.lemmas.List.append_assoc}
 use Rattle.kp_grammar.specs.Grammar.{Terminal, Nonterminal, Action, Has, alternatives, stay, expand, read, build}
-use Rattle.kp_grammar.specs.Tables.{Tables, among, first_of, empty_of, firsts, pick}
+use Rattle.kp_grammar.specs.Tables.{Tables, among, first_of, empty_of, pick}
 use Rattle.kp_grammar.specs.Ranks.{Ranks}
 use Rattle.kp_grammar.proofs.TableTests.{picks_rule}
-use Rattle.kp_expected.specs.{Plain.Plain, Plain.PlainRules, Plain.plain, Starts.starts}
+use Rattle.kp_expected.specs.{Plain.Plain, Plain.PlainRules, Starts.starts}
 use Rattle.kp_expected.specs.inner.{Readable.ends, Readable.and_then, Readable.all_end, Readable.work, Readable.known_among, Readable.IsReadable, Steps.Derived, Steps.HasSentence, Steps.IsReady}
 use Rattle.kp_expected.proofs.{Starts.firsts_start, Starts.front_starts, Fits.begun, Fits.has_empty, Fits.lighter, Fits.ready, Fits.some_first}
 

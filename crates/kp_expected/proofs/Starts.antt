@@ -1,9 +1,8 @@
 -- The first classes of symbols.
-use Rattle.std.proofs.Common.{ℕ, zero, suc, ◌≡◌, ◌==◌, ◌<◌, List, [], ◌∷◌, ◌++◌, Bool, true, false, not, cond, ◌||◌, ◌&&◌, ◌⊎◌, inl, inr, Some, refl, sym, ◌∙◌, ap, eq-eqb}
+use Rattle.std.proofs.Common.{ℕ, ◌≡◌, ◌==◌, List, [], ◌∷◌, ◌++◌, Bool, true, false, cond, ◌||◌, ◌&&◌, ◌⊎◌, inl, inr, refl, sym, ◌∙◌, ap, eq-eqb}
 use Rattle.std.proofs.Math.{Bool.or_assoc}
 use Rattle.std.proofs.lemmas.Bool.{or_cases, and_parts, and_from, or_left, or_right}
-use Rattle.std.specs.Prelude.{⊤}
-use Rattle.kp_grammar.specs.Grammar.{Terminal, Nonterminal, Action, Has, alternatives, stay, expand, read, build}
+use Rattle.kp_grammar.specs.Grammar.{Terminal, Nonterminal, Action, Has, alternatives, expand, read, build}
 use Rattle.kp_grammar.specs.Tables.{Tables, among, first_of, empty_of, firsts, vanishes}
 use Rattle.kp_grammar.proofs.{Conditions.Decides}
 use Rattle.kp_expected.specs.{Plain.Plain, Plain.PlainRules, Starts.starts, inner.Steps.Derived}

@@ -3,7 +3,7 @@ use Rattle.std.proofs.Common.{ℕ, ◌≡◌, ◌==◌, List, [], ◌∷◌, ◌
 use Rattle.std.specs.Prelude.{⊤, ◌↔◌}
 use Rattle.std.proofs.lemmas.List.{map-append}
 use Rattle.kp_grammar.specs.Grammar.{Symbol, Terminal, Nonterminal, Action, Rules, Grammar, alternatives, Has, here, there, Derives, stay, expand, read, build}
-use Rattle.kp_expected.specs.{Plain.Plain, Plain.PlainRules, Plain.plain, Plain.stripped, Plain.stripped_rules, GoesOn.GoesOn, inner.Steps.Derived}
+use Rattle.kp_expected.specs.{Plain.Plain, Plain.plain, Plain.stripped, Plain.stripped_rules, GoesOn.GoesOn, inner.Steps.Derived}
 
 stripped-append : {W B : Type 0} (a b : List (Symbol W B)) → stripped (a ++ b) ≡ stripped a ++ stripped b
 stripped-append [] b = refl

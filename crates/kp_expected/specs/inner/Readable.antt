@@ -1,5 +1,5 @@
 -- Tests of a grammar that compute: for a grammar that passes them, what can follow is what its stack begins with.
-use Rattle.std.specs.Prelude.{ℕ, zero, suc, ◌+◌, ◌≡◌, ◌==◌, nat_lt, List, [], ◌∷◌, ◌++◌, Bool, true, false, not, cond, ◌||◌, ◌&&◌, Option, Some, None, find, IsSome}
+use Rattle.std.specs.Prelude.{ℕ, zero, suc, ◌+◌, ◌≡◌, ◌==◌, nat_lt, List, [], ◌∷◌, ◌++◌, Bool, true, false, not, cond, ◌||◌, ◌&&◌, Option, Some, None}
 use Rattle.kp_grammar.specs.Grammar.{Terminal, Nonterminal, Action, alternatives}
 use Rattle.kp_grammar.specs.Tables.{Tables, END_OF_TEXT, among, empty_of, after_of, firsts, vanishes, pick, rules_fit}
 use Rattle.kp_grammar.specs.Ranks.{Ranks}

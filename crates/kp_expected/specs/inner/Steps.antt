@@ -1,6 +1,6 @@
 -- What a step of the machine does to the symbols that are still to come.
-use Rattle.std.specs.Prelude.{ℕ, ◌≡◌, List, [], ◌∷◌, ◌++◌, Bool, true, false, ⊤}
-use Rattle.kp_grammar.specs.Grammar.{Nonterminal, Derives}
+use Rattle.std.specs.Prelude.{ℕ, List, [], ◌∷◌, ◌++◌, Bool, true, false, ⊤}
+use Rattle.kp_grammar.specs.Grammar.{Derives}
 use Rattle.kp_grammar.specs.{Tables.Tables, Machine.Accepts, Machine.Leads}
 use Rattle.kp_expected.specs.Plain.{Plain, PlainRules, plain}
 
