@@ -1,5 +1,5 @@
 -- What is listed is exactly what goes on.
-use Rattle.std.proofs.Common.{ℕ, ◌≡◌, ◌==◌, ◌<◌, List, [], ◌∷◌, ◌++◌, map, Bool, true, false, Option, Some, length, get_or, ◌≤◌, ◌+◌, inl, inr, refl, sym, ap, ◌∙◌, subst, eq-eqb, arith}
+use Rattle.std.proofs.Common.{ℕ, ◌≡◌, ◌==◌, ◌<◌, List, [], ◌∷◌, map, Bool, true, false, Option, Some, length, get_or, ◌≤◌, ◌+◌, inl, inr, refl, sym, ap, ◌∙◌, subst, eq-eqb, arith}
 use Rattle.std.proofs.{lemmas.List.Folds.find_at, lemmas.Bool.eqb-true, lemmas.Bool.cases_lt}
 use Rattle.std.proofs.lemmas.Option.{get_or_from_slice_get, slice_get-get_or, slice_get_within}
 use Rattle.std.proofs.lemmas.List.{get_or_past}
