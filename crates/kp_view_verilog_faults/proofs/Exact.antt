@@ -1,5 +1,5 @@
 -- What is listed is exactly what goes on.
-use Rattle.std.proofs.Common.{ℕ, ◌≡◌, ◌==◌, List, [], ◌∷◌, map, Bool, true, Option, Some, refl, sym, ap, ◌∙◌, subst}
+use Rattle.std.proofs.Common.{ℕ, ◌≡◌, ◌==◌, List, [], map, Bool, Option, Some, refl, sym, ◌∙◌, subst}
 use Rattle.std.proofs.{lemmas.List.Folds.find_at}
 use Rattle.std.specs.{Prelude.find, Prelude.slice_get, Prelude.◌↔◌, List.position_or_len}
 use Rattle.kp_expected.specs.{Plain.plain, GoesOn.GoesOn, GoesOn.AreAnswers, inner.Readable.IsReadableName}
