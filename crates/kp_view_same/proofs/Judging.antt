@@ -1,11 +1,10 @@
 -- An input is judged as its text is.
-use Rattle.std.proofs.Common.{◌≡◌, ◌∙◌, ◌≤◌, ℕ, Bool, false, List, length, Option, Some, Ok, Err, sym, ap, subst, arith}
+use Rattle.std.proofs.Common.{◌≡◌, ◌∙◌, ◌≤◌, ℕ, Bool, false, List, length, Option, Some, Ok, Err, ap, subst, arith}
 use Rattle.kp_base.specs.declared.refusal.Refusal.{Refusal}
 use Rattle.kp_frontend.{specs.Judging.Judges.over, specs.Judging.Judges.within, specs.Judging.JudgesText, specs.Judging.most_bytes, specs.Judging.too_long, specs.declared.accepted.Accepted.Accepted, proofs.Verdicts.one_verdict}
 use Rattle.kp_view_explain.specs.{Explaining.ExplainsText, Explaining.Says, Explaining.rule_of, declared.explanation.Explanation.Explanation, declared.words.Subject.Subject}
 use Rattle.kp_view_explain.specs.declared.words.Subject.TheVariants as subjects
 use Rattle.kp_view_same.specs.inner.Inputs.{Holds, IsJudged}
-use Rattle.kp_view_same.specs.declared.{input.Input.Input, judged.Judged.Judged}
 use Rattle.kp_view_same.specs.declared.input.Input.TheVariants as inputs
 use Rattle.kp_view_same.specs.declared.judged.Judged.TheVariants as judged
 

@@ -1,8 +1,7 @@
 -- What is said of two inputs, by what they are.
-use Rattle.std.proofs.Common.{◌≡◌, ◌∙◌, ◌≤◌, ◌++◌, ℕ, List, ap, append_assoc, length, subst, Option, Result, Ok, Err, arith}
-use Rattle.kp_base.specs.declared.refusal.Refusal.{Refusal}
+use Rattle.std.proofs.Common.{◌≡◌, ◌∙◌, ◌≤◌, ◌++◌, ℕ, List, ap, append_assoc, length, subst, Option, Ok, Err, arith}
 use Rattle.kp_ast.specs.declared.tree.Job.{Job}
-use Rattle.kp_frontend.specs.{Judging.Judges, declared.accepted.Accepted.Accepted}
+use Rattle.kp_frontend.specs.{declared.accepted.Accepted.Accepted}
 use Rattle.kp_same.specs.{Same.RunAlike, Same.SameJob, Verdicts.Says, declared.comparison.Verdict.Verdict}
 use Rattle.kp_same.specs.declared.comparison.Verdict.TheVariants.{Alike, Targets, Samples, Start, NotShown}
 use Rattle.kp_view_explain.specs.declared.explanation.Explanation.{Explanation}

@@ -1,8 +1,7 @@
-use Rattle.std.proofs.Common.{◌≡◌, ◌∙◌, List, Option, None, sym, subst}
+use Rattle.std.proofs.Common.{◌≡◌, ◌∙◌, List, Option, sym, subst}
 use Rattle.std.specs.Prelude.{IfSome}
 use Rattle.kp_same.specs.inner.Differences.{IsFirst}
 use Rattle.kp_same.specs.declared.sinks.Sink.{Sink}
-use Rattle.kp_same.specs.declared.difference.Difference.{Difference}
 use Rattle.kp_same.proofs.Agreeing.{said}
 use Rattle.kp_same.proofs.comparison.difference.Goals as goal
 

@@ -1,4 +1,4 @@
-use Rattle.std.proofs.Common.{◌≡◌, ◌∙◌, ◌++◌, ◌<◌, List, length, get_or, sym, ap, subst, arith, codes}
+use Rattle.std.proofs.Common.{◌≡◌, ◌∙◌, ◌<◌, List, length, get_or, sym, ap, subst, codes}
 use Rattle.kp_machine.specs.{Slots.Slot, Slots.targets_of, Words.no_slot, Words.target}
 use Rattle.kp_same.proofs.Sinking.{same_default}
 use Rattle.kp_view_same.proofs.Saying.{four_pieces}
