@@ -187,8 +187,8 @@ usage: kpview same FILE FILE
 It prints `same` where both jobs have the same registers, files and samples, and
 for each register and file the same enable, address and value, built of the same
 operations. Then both sequential machines have the same state after every number
-of instructions, and the pipelined machine of each job shows the sequential
-machine of the other.
+of instructions, and the pipelined machine of the second job shows the sequential
+machine of the first.
 
 Otherwise it prints where this isn't shown:
   not shown: targets    the registers and files differ in name, width or order
