@@ -1,6 +1,6 @@
 -- A name of a stage is a text.
-use Rattle.std.proofs.Common.{◌≡◌, ℕ, ◌<◌, true, List, [], ◌∷◌, length, get_or, All, arith}
-use Rattle.std.specs.{Prelude.IsUtf8, Prelude.◌&&◌, List.list_all}
+use Rattle.std.proofs.Common.{◌≡◌, ℕ, ◌<◌, true, List, get_or, All, arith}
+use Rattle.std.specs.{Prelude.IsUtf8, List.list_all}
 use Rattle.std.proofs.lemmas.{Str.IsUtf8-from_ascii, Str.Ascii.IsAscii-from_all, Bool.and_parts, Bool.Decides.nat_tests, List.Sums.AllPass-from_list_all}
 use Rattle.kp_base.specs.Characters.{is_word}
 use Rattle.kp_directive.specs.Faults.{has_length, is_name}

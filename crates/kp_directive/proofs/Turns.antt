@@ -1,5 +1,5 @@
 -- From one line to all lines.
-use Rattle.std.proofs.Common.{◌≡◌, ◌∙◌, List, [], ◌∷◌, ◌++◌, Option, Some, None, append_assoc, append-nil, refl, sym, ap}
+use Rattle.std.proofs.Common.{◌≡◌, ◌∙◌, List, [], ◌∷◌, ◌++◌, Option, Some, None, append_assoc, refl, sym, ap}
 use Rattle.kp_base.specs.Lines.{Piece}
 use Rattle.kp_directive.specs.{Directives.directive_in, Directives.directives_from, Directives.with_directive, declared.directive.Directive.Directive}
 

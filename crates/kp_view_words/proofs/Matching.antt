@@ -2,7 +2,7 @@
 use Rattle.std.proofs.Common.{◌≡◌, ◌∙◌, ◌⊎◌, Bool, ℕ, cond, true, false, refl, sym, ap, List, [], ◌∷◌, length, Option, Some, None, inl, inr, codes}
 use Rattle.std.specs.Prelude.{nat_lt, option_and_then}
 use Rattle.kp_command_line.{specs.Words.Matched, specs.Words.Text, specs.Words.matched_first, specs.Words.matched_in, specs.Words.most_after, proofs.Parses.named_or}
-use Rattle.kp_view_words.specs.Words.{Task, task_named, task_with, word_named}
+use Rattle.kp_view_words.specs.Words.{task_named, task_with, word_named}
 use Rattle.kp_view_words.specs.declared.words.Word.TheVariants as words
 use Rattle.kp_view_words.specs.inner.Matching.{names, task_matched}
 
