@@ -2,8 +2,8 @@
 # Whether the labs of docs/labs are sound: bash checks/labs.sh
 #
 # Each answer passes the tests of its lab, and each file to begin with is accepted by the program and doesn't pass. Answers into which a fault is planted don't pass. KP
-# names another program than crates/kp/out/kp; where there is none, the check is skipped. Lab 6 needs `kpview same` and `kpview depth`, and lab 9 kpcore: KPVIEW and KPCORE name other
-# programs than those that are built here, and without one its lab is left out. The last line is `N checked, M wrong`, and the status is 0 where M is 0.
+# names another program than crates/kp/out/kp; where there is none, the check is skipped. Lab 9 needs kpcore: KPCORE names
+# another program than the one that is built here, and without it the lab is left out. The last line is `N checked, M wrong`, and the status is 0 where M is 0.
 [ -n "${KP:-}" ] || [ -x "$(dirname "$0")/../crates/kp/out/kp" ] || { echo "kp isn't built"; exit 77; }
 . "$(dirname "$0")/common.sh"
 need python3
@@ -24,9 +24,8 @@ wrong() {
     fi
 }
 
-export KPVIEW="${KPVIEW:-$top/crates/kpview/out/kpview}" KPCORE="${KPCORE:-$top/crates/kpcore/out/kpcore}"
+export KPCORE="${KPCORE:-$top/crates/kpcore/out/kpcore}"
 labs="1 2 3 4 5 7 8 10"
-"$KPVIEW" same answers/1.kp answers/1.kp > /dev/null 2>&1 && labs="$labs 6" || missing="$missing kpview-same"
 [ -x "$KPCORE" ] && labs="$labs 9" || missing="$missing kpcore"
 for it in $labs; do
     answer=$(echo answers/$it.*)
