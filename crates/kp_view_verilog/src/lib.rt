@@ -5,6 +5,7 @@
 //! netlist.
 #![tactic(auto)]
 
+mod continuation;
 mod lines;
 mod other;
 mod syntax;
