@@ -9,7 +9,7 @@ use Rattle.kp_implements.specs.{Shows.Shows, Anew.trace_from, Anew.BeginsAnew, T
 use Rattle.kp_frontend.specs.Judging.{JudgesHead, broken_in}
 use Rattle.kp_described.specs.Sections.{IsWith}
 use Rattle.kp_isa.{specs.Runs.Fits, specs.Runs.Retires, specs.Runs.IsProcessor, proofs.Memory.starts_fit, proofs.Memory.reset_fits}
-use Rattle.kp_tool.proofs.{Headline.accepted_machine, Headline.head_unbroken, Headline.legal_alike, Headline.moves_alike, Executing.head_sentence}
+use Rattle.kp_tool.proofs.{Headline.accepted_machine, Headline.head_unbroken, Headline.correct_alike, Executing.head_sentence}
 use Rattle.kp_core_ports.specs.{declared.port.Port.Port, declared.port.PortRefusal.PortRefusal, Ports.ports_of}
 use Rattle.kp_core.specs.{Beginning.Begins, Cores.IsCoreWith, Due.DueFor, Due.DueOfLines, Messages.file_name, Words.write}
 use Rattle.kp_core.specs.declared.request.Form.TheVariants.{Module}
@@ -37,7 +37,8 @@ module _ (head : List ℕ) (base : Job) (Ready : (ℕ → ℕ → ℕ) → Type 
         let accepted = accepted_machine job none in
         let given : List Inputs = inputs_seen job ins in
         let trace : Trace = trace_from job net s ins in
-        (p.runs job v given trace has fits (legal_alike job v given trace accepted alike), p.retires job given trace has (moves_alike job v given trace accepted alike).0)
+        let correct = correct_alike job v given trace accepted alike in
+        (p.runs job v given trace has fits correct.legal, p.retires job given trace has correct.moves.0)
 
     by_lines : (file : List ℕ) (lines : Result (List Port) PortRefusal) → ports_of job input rest ≡ lines → DueOfLines Module file job lines 0 text → IsCoreWith RunsFrom input text
     by_lines file (Ok ports) e due = record {
