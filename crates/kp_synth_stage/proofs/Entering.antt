@@ -18,7 +18,7 @@ use Rattle.kp_net.proofs.{Values.word_is, Growing.wire_kept}
 use Rattle.kp_build.{specs.Names.Nodes, specs.Names.node_of, specs.Names.Scope, specs.Names.word_of, proofs.Names.node_with}
 use Rattle.kp_synth_tables.{proofs.Fitting.width_there, specs.Keys.no_slot, specs.Keys.pipe_at, specs.Keys.hint_at, specs.Keys.target_at}
 use Rattle.kp_synth_registers.specs.Meaning.{node_at, PutFits, SetFits, MadeFit, put_value, set_value, made_values}
-use Rattle.kp_synth_stage.specs.inner.Scopes.{declared, scope_at, is_bound, is_value, Binds, Bound}
+use Rattle.kp_synth_stage.specs.Scopes.{declared, scope_at, is_bound, is_value, Binds, Bound}
 use Rattle.kp_synth_stage.specs.inner.Standing.{names_with, env_of, WorkOk, Stands, Enters, slots_at}
 use Rattle.kp_synth_stage.{specs.Work.NodesHave, specs.Work.SlotsHave, specs.declared.work.Work.Work, proofs.Scoping.scope_text, proofs.Scoping.scope_start}
 use Rattle.kp_synth_stage.proofs.Expressions.{placed_in, text_kind}

@@ -17,7 +17,7 @@ use Rattle.kp_net.specs.{declared.node.NodeId.NodeId, Nodes.Cells, Nodes.word_at
 use Rattle.kp_net.proofs.Values.{word_is, word_wide, at_fits}
 use Rattle.kp_build.proofs.Fitting.{no_cells}
 use Rattle.kp_build.specs.Names.{Scope, node_of, word_of, known_at, IsSound, Gives}
-use Rattle.kp_synth_stage.specs.inner.Scopes.{declared, scope_at, is_bound, is_value, Binds, Bound}
+use Rattle.kp_synth_stage.specs.Scopes.{declared, scope_at, is_bound, is_value, Binds, Bound}
 use Rattle.kp_synth_stage.proofs.Scoping.{scope_text, scope_here, scope_locals}
 use Rattle.kp_synth_stage.specs.inner.Standing as work
 

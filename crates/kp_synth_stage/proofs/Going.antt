@@ -5,10 +5,10 @@ use Rattle.kp_machine.specs.{Machine.stage_tree, Trees.entered}
 use Rattle.kp_synth_registers.specs.Meaning.{guesses_at}
 use Rattle.kp_synth_tables.specs.Keys.{guesses_in}
 use Rattle.kp_net.specs.{declared.node.NodeId.NodeId, Growth.Held, Growth.Kept}
-use Rattle.kp_ast.specs.declared.tree.{Decl.Decl, Stmt.Stmt, Job.Job}
+use Rattle.kp_ast.specs.{Expressions.look_up, declared.tree.Decl.Decl, declared.tree.Stmt.Stmt, declared.tree.Job.Job}
 use Rattle.kp_synth_stage.specs.{declared.row.Source.Source, declared.work.Work.Work, Rows.SourcesOk}
-use Rattle.kp_synth_stage.specs.inner.Doing.{Doing, Truths, after_stmt, after_stmts, begun, outcome_of}
-use Rattle.kp_synth_stage.specs.Work.{stmts_at, Means, Does, cost_of, costs_of}
+use Rattle.kp_synth_stage.specs.Doing.{Doing, Truths, after_stmt, after_stmts, begun, outcome_of}
+use Rattle.kp_synth_stage.specs.{Known.Knows, Work.stmts_at, Work.Means, Work.Does, Work.cost_of, Work.costs_of}
 use Rattle.kp_synth_stage.specs.inner.Standing.{slots_at, Stands, GoesBy, AllGo, Enters}
 use Rattle.kp_synth_stage.proofs.{Nearest.sees_kept, Running.stage_runs}
 
@@ -54,3 +54,12 @@ does job k p q z m pipes samples hints w w' ss g ok enters all = λ c v values t
     subst (λ o. Means job c z (guesses_at job k) w' o) (sym runs)
     (subst (λ xs. Means job c z (guesses_at job k) w' (outcome_of aims (after_stmts job.decls v aims (begun (entered job.decls taken values)) xs))) same
     (subst (λ gs. Means job c z gs w' (outcome_of aims (after_stmts job.decls v aims (begun (entered job.decls taken values)) (take (length (stmts_at job k)) (stmts_at job k))))) (slots_end job k) st.outcome))
+
+-- WHAT ITS NAMES MEAN
+pub knows : (job : Job) (k : ℕ) (p q z : Held) (m : ℕ) (pipes samples hints : List NodeId) (w w' : Work) (ss : List Source) → Kept p q m → SourcesOk job p ss → Enters job k p pipes samples hints q w
+    → AllGo job k q w ss z w' (length (stmts_at job k)) → Knows job k p pipes samples hints ss z w'.env
+unfolding Knows Enters AllGo
+knows job k p q z m pipes samples hints w w' ss g ok enters all = λ c v values taken aims sees ps ts hs x sense found bound.
+    let st = all c v aims (begun (entered job.decls taken values)) (sees_kept job c p q m ss v g ok sees) (enters c values taken aims ps ts hs) in
+    let same : take (length (stmts_at job k)) (stmts_at job k) ≡ stmts_at job k = take_all (length (stmts_at job k)) (stmts_at job k) (omega arith) in
+    st.names.names x sense found bound ∙ ap (λ xs. look_up (after_stmts job.decls v aims (begun (entered job.decls taken values)) xs).done.names x) same

@@ -6,7 +6,7 @@ use Rattle.kp_net.specs.{declared.node.NodeId.NodeId, Nodes.Cells, Nodes.at, Nod
 use Rattle.kp_net.proofs.{Values.at_fits, Growing.wire_kept}
 use Rattle.kp_synth_registers.specs.{Meaning.PutFits, Holding.optional}
 use Rattle.kp_synth_stage.specs.Rows.{AskOk, row_hits, rows_view, own_value, source_view, view_of, OwnOk, SourceOk, SourcesOk, Sees, RowOk, RowsOk, AddressOk, asked, address_is}
-use Rattle.kp_synth_stage.specs.inner.Reading.{lacks, value_or_zero, Matched, given, AskInside, ask_width}
+use Rattle.kp_synth_stage.specs.Reading.{lacks, value_or_zero, Matched, given, AskInside, ask_width}
 use Rattle.kp_synth_stage.specs.declared.row.{Row.Row, Own.Own, Own.TheVariants.Register, Own.TheVariants.File, Source.Source}
 use Rattle.kp_fwd.specs.{declared.entries.Candidate.Candidate, Forward.CandidateOk, Forward.first_ok, Forward.first_value, Forward.BitOk, Forward.enable_on}
 use Rattle.kp_machine.specs.{Slots.targets_of, Slots.is_register, Machine.files_before}

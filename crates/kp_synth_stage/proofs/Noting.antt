@@ -15,9 +15,9 @@ use Rattle.kp_synth_registers.specs.{declared.outcome.Made.Made, Holding.pending
 use Rattle.kp_synth_tables.{proofs.Fitting.width_there, specs.declared.key.GuessSlot.GuessSlot}
 use Rattle.kp_synth_tables.specs.Keys.{target_at, guess_slot, with_read}
 use Rattle.kp_synth_stage.specs.{declared.row.Source.Source, declared.row.Answer.Answer, declared.work.Work.Work, Rows.SourcesOk}
-use Rattle.kp_synth_stage.specs.inner.Doing.{after_stmt, target_of, miss_of, hazard_of, guess_of, read_value, read_lacks}
-use Rattle.kp_synth_stage.specs.inner.{Scopes.scope_at, Scopes.Bound, Standing.slots_at, Standing.own_slots, Standing.WorkOk, Standing.Stands, Standing.GoesBy}
-use Rattle.kp_synth_stage.specs.inner.{Statements.GuessOk, Statements.ReadGives, Statements.made_of, Reading.value_or_zero}
+use Rattle.kp_synth_stage.specs.Doing.{after_stmt, target_of, miss_of, hazard_of, guess_of, read_value, read_lacks}
+use Rattle.kp_synth_stage.specs.{Scopes.scope_at, Scopes.Bound, inner.Standing.slots_at, inner.Standing.own_slots, inner.Standing.WorkOk, inner.Standing.Stands, inner.Standing.GoesBy}
+use Rattle.kp_synth_stage.specs.{inner.Statements.GuessOk, inner.Statements.ReadGives, inner.Statements.made_of, Reading.value_or_zero}
 use Rattle.kp_synth_stage.proofs.Binding.{bound_kept, bound_more, names_kept, names_more, fits_kept, means_kept, env_with, made_more, made_values_more}
 use Rattle.kp_synth_stage.proofs.{Taking.ReadRight, Taking.guess_fits, Taking.guess_kept, Nearest.orzero_kept}
 use Rattle.kp_synth_stage.specs.inner.Standing as work

@@ -6,8 +6,8 @@ use Rattle.kp_ast.specs.declared.tree.StmtKind.TheVariants as stmts
 use Rattle.kp_pipeline.specs.{Machine.Tree, Sequential.StageOutcome, Sequential.PendingGuess, Sequential.after_read, Sequential.after_guess, Sequential.run}
 use Rattle.kp_machine.specs.Slots.{result_named}
 use Rattle.kp_machine.specs.Trees.{Progress, holds, value_of, with_name, with_set, word_read, read_of, statement_of, tree_of}
-use Rattle.kp_synth_stage.specs.inner.Reading.{given, lacks}
-use Rattle.kp_synth_stage.specs.inner.Doing.{Doing, Truths, target_of, truth_of, miss_of, hazard_of, guess_of, after_stmt, after_stmts, begun, outcome_of}
+use Rattle.kp_synth_stage.specs.Reading.{given, lacks}
+use Rattle.kp_synth_stage.specs.Doing.{Doing, Truths, target_of, truth_of, miss_of, hazard_of, guess_of, after_stmt, after_stmts, begun, outcome_of}
 
 -- an outcome after a hazard and guesses that came before
 abbrev led : Bool → List PendingGuess → StageOutcome → StageOutcome

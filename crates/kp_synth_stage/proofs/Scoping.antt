@@ -11,7 +11,7 @@ use Rattle.kp_width.proofs.{Unbroken.Unbroken, Unbroken.bind_unbroken, Calls.pus
 use Rattle.kp_stage.specs.{Facts.Facts, Facts.facts_of, Facts.stmts_in, declared.rules.Rule.Rule, Rules.ask_stmt, Rules.may_guess, Rules.broken_by}
 use Rattle.kp_stage.{specs.Stages.broken_of, proofs.Unbroken.answer_none, proofs.Kept.rules_kept, proofs.Kept.stmt_kept}
 use Rattle.kp_machine.proofs.Text.{is_local}
-use Rattle.kp_synth_stage.specs.{Work.stmts_at, inner.Scopes.declared, inner.Scopes.opened_at, inner.Scopes.scope_at}
+use Rattle.kp_synth_stage.specs.{Work.stmts_at, Scopes.declared, Scopes.opened_at, Scopes.scope_at}
 use Rattle.kp_synth_stage.{specs.inner.Standing.GuessRight, specs.inner.Standing.StmtRight, proofs.Binding.slots_next}
 
 -- the statement at an index violates no rule of names and widths, and leads to the scope of the next

@@ -24,7 +24,7 @@ use Rattle.kp_build.specs.Names.{Scope, Gives}
 use Rattle.kp_synth_registers.specs.{declared.outcome.Set.Set, Holding.optional, Meaning.SetFits, Meaning.set_value}
 use Rattle.kp_synth_registers.proofs.Growth.{set_kept, set_fits}
 use Rattle.kp_synth_tables.{proofs.Fitting.width_there, specs.Keys.target_at}
-use Rattle.kp_synth_stage.specs.{declared.work.Work.Work, inner.Scopes.scope_at, inner.Scopes.Bound}
+use Rattle.kp_synth_stage.specs.{declared.work.Work.Work, Scopes.scope_at, Scopes.Bound}
 use Rattle.kp_synth_stage.specs.inner.Standing.{StmtRight, WorkOk, Stands, GoesBy}
 use Rattle.kp_synth_stage.specs.inner.Statements.{width_in, OptionRight, OptionGives, target_named}
 use Rattle.kp_synth_stage.proofs.{Scoping.scope_locals, Expressions.plain_found, Expressions.gives_is, Expressions.placed_in}

@@ -22,8 +22,8 @@ use Rattle.kp_net.specs.{declared.node.NodeId.NodeId, Nodes.Cells, Nodes.word_at
 use Rattle.kp_build.specs.Names.{Scope, Gives}
 use Rattle.kp_synth_tables.{proofs.Fitting.width_there, specs.Keys.no_slot, specs.Keys.pipe_at, specs.Keys.hint_at}
 use Rattle.kp_synth_registers.specs.Meaning.{put_value, PutFits}
-use Rattle.kp_synth_stage.specs.{declared.row.Source.Source, declared.work.Work.Work, inner.Doing.Doing, inner.Doing.after_stmt, inner.Doing.outcome_of}
-use Rattle.kp_synth_stage.specs.{Work.Fits, Work.Means, inner.Scopes.scope_at, inner.Scopes.Bound}
+use Rattle.kp_synth_stage.specs.{declared.row.Source.Source, declared.work.Work.Work, Doing.Doing, Doing.after_stmt, Doing.outcome_of}
+use Rattle.kp_synth_stage.specs.{Work.Fits, Work.Means, Scopes.scope_at, Scopes.Bound}
 use Rattle.kp_synth_stage.specs.inner.Standing.{slots_at, StmtRight, own_slots, WorkOk, Stands, GoesBy}
 use Rattle.kp_synth_stage.{specs.inner.Statements.width_in, proofs.Scoping.scope_text, proofs.Scoping.scope_locals}
 use Rattle.kp_synth_stage.proofs.Expressions.{plain_found, hinted_found, gives_is, placed_in}

@@ -26,8 +26,8 @@ use Rattle.kp_synth_tables.{proofs.Fitting.width_there, proofs.Fitting.address_t
 use Rattle.kp_synth_registers.specs.Meaning.{PutFits}
 use Rattle.kp_synth_stage.specs.declared.row.{Source.Source, Answer.Answer}
 use Rattle.kp_synth_stage.specs.Rows.{asked, source_view, view_of, SourceOk, SourcesOk, Sees, AskOk}
-use Rattle.kp_synth_stage.specs.inner.{Reading.given, Reading.lacks, Reading.value_or_zero, Doing.target_of, Doing.address_read, Doing.truth_of, Doing.miss_of}
-use Rattle.kp_synth_stage.specs.inner.Scopes.{scope_at, Bound}
+use Rattle.kp_synth_stage.specs.{Reading.given, Reading.lacks, Reading.value_or_zero, Doing.target_of, Doing.address_read, Doing.truth_of, Doing.miss_of}
+use Rattle.kp_synth_stage.specs.Scopes.{scope_at, Bound}
 use Rattle.kp_synth_stage.specs.inner.Statements.{width_in, OptionRight, OptionWire, OptionGives, GuessOk, ReadGives}
 use Rattle.kp_synth_stage.{specs.inner.Standing.StmtRight, specs.inner.Standing.own_slots, specs.inner.Standing.slots_at, proofs.Scoping.scope_locals}
 use Rattle.kp_synth_stage.proofs.{Expressions.plain_found, Expressions.hinted_found, Expressions.gives_is, Binding.bound_kept, Binding.names_kept}

@@ -4,6 +4,8 @@ ghost use Rattle.kp_net.specs.Growth.{Held, Grown};
 ghost use Rattle.kp_synth_registers.specs.Meaning.{Added, guesses_at};
 ghost use Rattle.kp_machine.specs.Slots.{pipes_of, hints_of, samples_of};
 ghost use Rattle.kp_synth_stage.specs.Rows.{SourcesOk};
+ghost use Rattle.kp_build.specs.Names.{AreInside};
+ghost use Rattle.kp_synth_stage.specs.Known.{Knows};
 ghost use Rattle.kp_synth_stage.specs.Work.{stmts_at, Does, Fits, SlotsHave, cost_of, costs_of, AreSlots};
 ghost use Rattle.kp_synth_stage.specs.inner.Standing.{WorkOk, GoesBy, AllGo, Enters, names_with, env_of};
 
@@ -199,6 +201,8 @@ pub fn run_block<'a>(
     requires hints { SlotsHave pool.old (hints_of d.now.job.decls) hints.now }
     ensures fits { IfOk result (λ w. Fits d.now.job pool.new (guesses_at d.now.job k) w) }
     ensures does { IfOk result (λ w. Does d.now.job k pool.old pipes.now samples.now hints.now sources.now pool.new w) }
+    ensures inside { IfOk result (λ w. AreInside pool.new w.env) }
+    ensures knows { IfOk result (λ w. Knows d.now.job k pool.old pipes.now samples.now hints.now sources.now pool.new w.env) }
     ensures added { IfOk result (λ w. Added d.now.job pool.old pool.new (costs_of d.now.job (stmts_at d.now.job k) + 1)) }
 {
     let mut work = enter(alloc, pool, d, k, slots, pipes, samples, hints)?;

@@ -9,7 +9,7 @@ ghost use Rattle.kp_synth_tables.specs.Keys.{target_at};
 ghost use Rattle.kp_synth_registers.specs.Holding.{optional};
 ghost use Rattle.kp_synth_registers.specs.Meaning.{Added, PutFits};
 ghost use Rattle.kp_synth_stage.specs.Rows.{asked, address_is, row_hits, rows_view, own_value, source_view, AddressOk, RowOk, RowsOk, SourceOk, AskOk};
-ghost use Rattle.kp_synth_stage.specs.inner.Reading.{Matched, given, lacks, value_or_zero, ask_width, AskInside};
+ghost use Rattle.kp_synth_stage.specs.Reading.{Matched, given, lacks, value_or_zero, ask_width, AskInside};
 
 use crate::row::{Got, Own, Row, Source, Truth};
 use kp_base::NoMemory;

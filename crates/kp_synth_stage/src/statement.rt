@@ -13,8 +13,8 @@ ghost use Rattle.kp_synth_stage.specs.Work.{cost_of, AreSlots};
 ghost use Rattle.kp_stage.specs.Sizes.{size_of_kind};
 ghost use Rattle.kp_synth_tables.specs.Keys.{target_at};
 ghost use Rattle.kp_synth_stage.specs.Rows.{SourcesOk};
-ghost use Rattle.kp_synth_stage.specs.inner.Doing.{target_of};
-ghost use Rattle.kp_synth_stage.specs.inner.Scopes.{scope_at, Bound};
+ghost use Rattle.kp_synth_stage.specs.Doing.{target_of};
+ghost use Rattle.kp_synth_stage.specs.Scopes.{scope_at, Bound};
 ghost use Rattle.kp_synth_stage.specs.inner.Statements.{GuessOk, ReadGives, made_of};
 
 use crate::bypass::{condition, read_source};

@@ -5,7 +5,7 @@ ghost use Rattle.kp_stage.specs.Sizes.{size_of_option};
 ghost use Rattle.kp_net.specs.Widths.{AllRight};
 ghost use Rattle.kp_net.specs.Growth.{Held, Wire, Grown};
 ghost use Rattle.kp_build.specs.Names.{Gives};
-ghost use Rattle.kp_synth_stage.specs.inner.Scopes.{scope_at, Bound};
+ghost use Rattle.kp_synth_stage.specs.Scopes.{scope_at, Bound};
 ghost use Rattle.kp_synth_stage.specs.inner.Statements.{width_in, IsRight, OptionRight, OptionWire, OptionGives};
 
 use kp_ast::Expr;

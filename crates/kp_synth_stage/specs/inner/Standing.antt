@@ -10,8 +10,8 @@ use Rattle.kp_net.specs.{Growth.Held, Nodes.Cells, declared.node.NodeId.NodeId}
 use Rattle.kp_build.specs.Names.{Nodes, Scope, with_node, word_of}
 use Rattle.kp_synth_tables.specs.{Keys.guesses_in, Keys.with_guess, declared.key.GuessSlot.GuessSlot}
 use Rattle.kp_synth_stage.specs.{Rows.Sees, Work.Fits, Work.Means, Work.NodesHave, Work.stmts_at, declared.row.Source.Source, declared.work.Work.Work}
-use Rattle.kp_synth_stage.specs.inner.Doing.{Doing, after_stmt, after_stmts, begun, outcome_of}
-use Rattle.kp_synth_stage.specs.inner.Scopes.{Bound, is_bound, scope_at}
+use Rattle.kp_synth_stage.specs.Doing.{Doing, after_stmt, after_stmts, begun, outcome_of}
+use Rattle.kp_synth_stage.specs.Scopes.{Bound, is_bound, scope_at}
 use Rattle.kp_ast.specs.Expressions as values
 
 -- the guessed reads of stage k before statement j

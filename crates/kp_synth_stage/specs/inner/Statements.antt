@@ -9,7 +9,7 @@ use Rattle.kp_net.specs.{Growth.Held, Growth.Wire, Nodes.Cells, Nodes.at, Nodes.
 use Rattle.kp_build.specs.Names.{Gives, Scope}
 use Rattle.kp_synth_registers.specs.declared.outcome.Made.{Made}
 use Rattle.kp_synth_stage.specs.{Rows.Sees, declared.row.Answer.Answer, declared.row.Source.Source}
-use Rattle.kp_synth_stage.specs.inner.{Doing.Truths, Doing.miss_of, Doing.read_lacks, Doing.read_value, Reading.value_or_zero, Scopes.scope_at, Standing.Names}
+use Rattle.kp_synth_stage.specs.{Doing.Truths, Doing.miss_of, Doing.read_lacks, Doing.read_value, Reading.value_or_zero, Scopes.scope_at, inner.Standing.Names}
 
 -- the target of a result
 abbrev pub target_named : List Decl → List Slot → List ℕ → Option ℕ

@@ -1,7 +1,7 @@
 use Rattle.std.proofs.Common.{◌+◌, ℕ, List, subst, arith}
 use Rattle.kp_synth_tables.specs.declared.key.GuessSlot.{GuessSlot}
 use Rattle.kp_synth_registers.proofs.Growth.{grown_added, added_then, added_more}
-use Rattle.kp_synth_stage.{specs.Work.stmts_at, specs.Work.Fits, specs.Work.costs_of, proofs.Nearest.sources_kept, proofs.Going.slots_end, proofs.Going.does}
+use Rattle.kp_synth_stage.{specs.Work.stmts_at, specs.Work.Fits, specs.Work.costs_of, proofs.Nearest.sources_kept, proofs.Going.slots_end, proofs.Going.does, proofs.Going.knows}
 use Rattle.kp_synth_stage.proofs.block.run_block.Goals as goal
 
 pub run_stmts-requires-clause-sources : goal.run_stmts-requires-clause-sources
@@ -14,6 +14,14 @@ returns-clause-fits c =
 pub returns-clause-does : goal.returns-clause-does
 returns-clause-does c =
     does c.args.d.now.job c.args.k c.args.pool.now c.enter.new.pool c.run_stmts.new.pool 1 c.args.pipes.now c.args.samples.now c.args.hints.now c.in_ok-work.work c.run_stmts.new.work c.args.sources.now
+    c.in_ok-work.ensures.grown.kept c.requires.sources c.in_ok-work.ensures.enters c.in_ok-run_stmts.ensures.goes
+
+pub returns-clause-inside : goal.returns-clause-inside
+returns-clause-inside c = c.in_ok-run_stmts.ensures.work.env.inside
+
+pub returns-clause-knows : goal.returns-clause-knows
+returns-clause-knows c =
+    knows c.args.d.now.job c.args.k c.args.pool.now c.enter.new.pool c.run_stmts.new.pool 1 c.args.pipes.now c.args.samples.now c.args.hints.now c.in_ok-work.work c.run_stmts.new.work c.args.sources.now
     c.in_ok-work.ensures.grown.kept c.requires.sources c.in_ok-work.ensures.enters c.in_ok-run_stmts.ensures.goes
 
 pub returns-clause-added : goal.returns-clause-added

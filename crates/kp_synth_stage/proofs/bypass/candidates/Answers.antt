@@ -3,7 +3,7 @@ use Rattle.std.proofs.lemmas.List.{take_more, length_push, Elements.All-nil, Ele
 use Rattle.kp_net.{specs.Nodes.on, proofs.Growing.grown_then, proofs.Growing.grown_more}
 use Rattle.kp_fwd.specs.{declared.entries.Candidate.Candidate, Forward.CandidateOk}
 use Rattle.kp_fwd.proofs.Standing.{grown_nothing, candidates_grown}
-use Rattle.kp_synth_stage.specs.{declared.row.Row.Row, Rows.asked, Rows.row_hits, Rows.RowOk, inner.Reading.Matched, inner.Reading.ask_width}
+use Rattle.kp_synth_stage.specs.{declared.row.Row.Row, Rows.asked, Rows.row_hits, Rows.RowOk, Reading.Matched, Reading.ask_width}
 use Rattle.kp_synth_stage.proofs.Nearest.{row_at, row_kept, no_row, ask_width_kept, asked_kept, hits_kept, matched_kept, matched_more}
 use Rattle.kp_synth_stage.proofs.bypass.candidates.Goals as goal
 

@@ -1,7 +1,7 @@
 use Rattle.std.proofs.Common.{◌≡◌, ◌*◌, length, take, All}
 use Rattle.kp_net.specs.{Nodes.Cells, Growth.Grown}
 use Rattle.kp_fwd.specs.Forward.{CandidateOk}
-use Rattle.kp_synth_stage.specs.{Rows.asked, inner.Reading.Matched}
+use Rattle.kp_synth_stage.specs.{Rows.asked, Reading.Matched}
 use Rattle.kp_synth_stage.proofs.bypass.candidates.Given as goal
 
 abbrev pub invariant-loop-row : goal.invariant-loop-row

@@ -1,6 +1,6 @@
 use Rattle.std.proofs.Common.{◌∙◌, ℕ, ◌+◌, ◌*◌, List, All, length, ap, sym, subst, arith}
 use Rattle.kp_net.{specs.Nodes.at, specs.Widths.wide, proofs.Growing.grown_then, proofs.Growing.grown_more}
-use Rattle.kp_synth_stage.{specs.Rows.asked, specs.inner.Reading.ask_width, proofs.Nearest.first_view}
+use Rattle.kp_synth_stage.{specs.Rows.asked, specs.Reading.ask_width, proofs.Nearest.first_view}
 use Rattle.kp_fwd.specs.{declared.entries.Candidate.Candidate, Forward.CandidateOk}
 use Rattle.kp_synth_stage.proofs.bypass.truth.Goals as goal
 

@@ -3,7 +3,7 @@ use Rattle.kp_ast.specs.declared.tree.StmtKind.TheVariants as stmts
 use Rattle.kp_stage.specs.Sizes.{size_of_kind}
 use Rattle.kp_build.specs.Names.{Scope}
 use Rattle.kp_synth_registers.proofs.Growth.{grown_added, added_then, added_more}
-use Rattle.kp_synth_stage.specs.{inner.Doing.target_of, inner.Standing.WorkOk, inner.Standing.GoesBy, Work.cost_of}
+use Rattle.kp_synth_stage.specs.{Doing.target_of, inner.Standing.WorkOk, inner.Standing.GoesBy, Work.cost_of}
 use Rattle.kp_synth_stage.proofs.{Taking.ReadRight, Taking.read_right, Noting.some_stage, Noting.read_step, statement.read.Goals.In_ok-answer}
 use Rattle.kp_synth_stage.proofs.statement.read.Goals as goal
 

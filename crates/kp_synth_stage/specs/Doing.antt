@@ -4,7 +4,7 @@ use Rattle.kp_ast.specs.declared.tree.{Decl.Decl, Expr.Expr, ReadStmt.ReadStmt, 
 use Rattle.kp_pipeline.specs.Sequential.{PendingGuess, StageOutcome}
 use Rattle.kp_machine.specs.Slots.{hints_of, number_of, pipes_of, result_named, targets_of}
 use Rattle.kp_machine.specs.Trees.{Progress, address_of, holds, value_of, value_with_hints, with_aim, with_name, with_put, with_set, word_of, word_read}
-use Rattle.kp_synth_stage.specs.inner.Reading.{given, lacks}
+use Rattle.kp_synth_stage.specs.Reading.{given, lacks}
 use Rattle.kp_ast.specs.declared.tree.StmtKind.TheVariants as stmts
 
 -- what was done so far, whether a read had a data hazard, and the guesses that were made
