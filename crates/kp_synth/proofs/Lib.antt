@@ -18,3 +18,4 @@ pub mod Spoken
 pub mod Following
 pub mod Rules
 pub mod Rooms
+pub mod Naming

@@ -1,3 +1,4 @@
 pub mod Carrying
+pub mod Known
 pub mod inner
 pub mod Stages

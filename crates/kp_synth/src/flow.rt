@@ -1,5 +1,5 @@
 //! The steps of synthesis, in order.
-ghost use Rattle.std.specs.Prelude.{◌≡◌, ◌+◌, ◌≤◌, [], length, IfOk, OnOk};
+ghost use Rattle.std.specs.Prelude.{◌≡◌, ◌+◌, ◌<◌, ◌≤◌, ℕ, [], length, get_or, IfOk, OnOk};
 ghost use Rattle.kp_stage.specs.Counts.{summary_of};
 ghost use Rattle.kp_stage.specs.Start.{start_of, IsStartOf};
 ghost use Rattle.kp_net.specs.Growth.{Held};
@@ -9,12 +9,14 @@ ghost use Rattle.kp_synth_registers.specs.Meaning.{Added, CellsFit, Ready};
 ghost use Rattle.kp_synth_next.specs.Bound as bounds;
 ghost use Rattle.kp_synth_next.specs.Control.{AllSay};
 ghost use Rattle.kp_synth_next.specs.Shows as place;
+ghost use Rattle.kp_synth.specs.Known.{HasStages, Named, no_names};
 ghost use Rattle.kp_synth.specs.inner.Rooms.{reading_room, inside_room, closing_room};
 
 use crate::bound::enough_nodes;
 use crate::netlist::close;
-use crate::stages::run_stages;
+use crate::stages::{Stages, run_stages};
 use kp_base::NoMemory;
+use kp_build::Env;
 use kp_net::Netlist;
 use kp_pool::Pool;
 use kp_stage::{Design, Start};
@@ -23,14 +25,30 @@ use kp_synth_stage::Slots;
 use kp_synth_tables::Layout;
 use std::alloc::Global;
 
-/// The netlist of a design; its registers and files are identified by their indices.
-pub(crate) fn make(alloc: Global, design: &Design, start: &Start) -> Result<Netlist, NoMemory>
+/// The netlist of a design, and the nodes of its stages.
+#[derive(Drop)]
+pub struct Synthesis<'a> {
+    /// The netlist.
+    pub net: Netlist,
+    /// For each stage the nodes of what it does.
+    pub outcomes: Vec<Outcome>,
+    /// For each stage the nodes of its names: pipes, samples and hints, and its lets and reads.
+    pub names: Vec<Env<'a>>,
+}
+
+/// The netlist of a design, with the nodes of its stages; its registers and files are identified by their indices.
+pub(crate) fn make<'a>(
+    alloc: Global,
+    design: &'a Design,
+    start: &Start,
+) -> Result<Synthesis<'a>, NoMemory>
     requires begins { start.now ≡ start_of design.now.job }
     requires suits { IsStartOf design.now.job start.now }
-    ensures shows { IfOk result (λ net. place.Shows net design.now.job) }
-    ensures named { IfOk result (λ net. IsNamed net) }
-    ensures distinct { IfOk result (λ net. Distinct net.nodes) }
-    ensures few { IfOk result (λ net. length net.nodes ≤ bounds.node_bound (summary_of design.now.job)) }
+    ensures shows { IfOk result (λ s. place.Shows s.net design.now.job) }
+    ensures named { IfOk result (λ s. IsNamed s.net) }
+    ensures distinct { IfOk result (λ s. Distinct s.net.nodes) }
+    ensures few { IfOk result (λ s. length s.net.nodes ≤ bounds.node_bound (summary_of design.now.job)) }
+    ensures stages { IfOk result (λ s. HasStages s.net design.now.job s.outcomes.items s.names.items) }
 {
     let layout = Layout::of(alloc, design)?;
     let pool = Pool::reserve(alloc, enough_nodes(design))?;
@@ -38,36 +56,57 @@ pub(crate) fn make(alloc: Global, design: &Design, start: &Start) -> Result<Netl
 }
 
 // The nodes and parts of a layout, in an empty pool.
-fn fill(alloc: Global, pool: Pool, layout: &Layout<'_>, start: &Start) -> Result<Netlist, NoMemory>
+fn fill<'a>(
+    alloc: Global,
+    pool: Pool,
+    layout: &Layout<'a>,
+    start: &Start,
+) -> Result<Synthesis<'a>, NoMemory>
     requires empty { pool.nodes ≡ [] }
     requires room { reading_room layout.now + inside_room layout.now + closing_room layout.now ≤ pool.spare }
     requires begins { start.now ≡ start_of layout.now }
     requires suits { IsStartOf layout.now start.now }
-    ensures shows { IfOk result (λ net. place.Shows net layout.now) }
-    ensures named { IfOk result (λ net. IsNamed net) }
-    ensures distinct { IfOk result (λ net. Distinct net.nodes) }
-    ensures few { IfOk result (λ net. length net.nodes ≤ pool.spare) }
+    ensures shows { IfOk result (λ s. place.Shows s.net layout.now) }
+    ensures named { IfOk result (λ s. IsNamed s.net) }
+    ensures distinct { IfOk result (λ s. Distinct s.net.nodes) }
+    ensures few { IfOk result (λ s. length s.net.nodes ≤ pool.spare) }
+    ensures stages { IfOk result (λ s. HasStages s.net layout.now s.outcomes.items s.names.items) }
 {
     let mut pool = pool;
     let reads = read_cells(alloc, &mut pool, layout)?;
-    let outcomes = stages(alloc, &mut pool, layout, &reads)?;
-    close(alloc, pool, layout, &reads, outcomes.as_slice(), start)
+    let staged = stages(alloc, &mut pool, layout, &reads)?;
+    let net = close(
+        alloc,
+        pool,
+        layout,
+        &reads,
+        staged.outcomes.as_slice(),
+        start,
+    )?;
+    let Stages { outcomes, names } = staged;
+    Ok(Synthesis {
+        net,
+        outcomes,
+        names,
+    })
 }
 
 // The nodes of the stages.
 #[tactic(auto, unfolding(crate::specs::inner::Rooms::inside_room))]
-fn stages(
+fn stages<'a>(
     alloc: Global,
     pool: &mut Pool,
-    layout: &Layout<'_>,
+    layout: &Layout<'a>,
     reads: &Reads,
-) -> Result<Vec<Outcome>, NoMemory>
+) -> Result<Stages<'a>, NoMemory>
     requires room { inside_room layout.now ≤ pool.old.spare }
     requires ready { Ready layout.now pool.old reads.now }
-    ensures says { IfOk result (λ outs. AllSay layout.now pool.new outs.items) }
+    ensures says { IfOk result (λ s. AllSay layout.now pool.new s.outcomes.items) }
+    ensures name_count { IfOk result (λ s. length s.names.items ≡ layout.now.stages.value) }
+    ensures names { IfOk result (λ s. (k : ℕ) → k < layout.now.stages.value → Named layout.now pool.new k (get_or s.names.items k no_names)) }
     ensures added { OnOk result (Added layout.now pool.old pool.new (inside_room layout.now)) }
 {
     let slots = Slots::of(alloc, layout.design())?;
-    let outs = run_stages(alloc, pool, layout, reads, &slots)?;
-    Ok(outs)
+    let stages = run_stages(alloc, pool, layout, reads, &slots)?;
+    Ok(stages)
 }

@@ -32,10 +32,11 @@ ghost use Rattle.kp_net.specs.Names.{IsNamed};
 ghost use Rattle.kp_net.specs.Widths.{Distinct};
 ghost use Rattle.kp_synth_next.specs.Bound as bounds;
 ghost use Rattle.kp_implements.specs.{Shows.Shows, Shows.IsInOrder, Anew.BeginsAnew};
-ghost use Rattle.kp_synth.specs.Carrying.{Carries};
+ghost use Rattle.kp_synth.specs.{Carrying.Carries, Known.HasStages};
 
 use crate::bound::enough_nodes;
 use crate::flow::make;
+pub use flow::Synthesis;
 use kp_base::NoMemory;
 use kp_net::Netlist;
 use kp_stage::{Design, Start};
@@ -49,7 +50,6 @@ use std::alloc::Global;
 /// It has a reset, a stall bit for each stage and a port for each sample. No two of its nodes are equal, and there
 /// are at most `node_bound` of them, so its size grows with that of the expressions, and with the entries of the
 /// tables times the stages.
-#[tactic(auto, using(crate::proofs::Showing::shows, crate::proofs::Showing::begins_anew, crate::proofs::Showing::carries, crate::proofs::Showing::in_order))]
 pub fn synth(alloc: Global, design: &Design, start: &Start) -> Result<Netlist, NoMemory>
     requires begins { start.now ≡ start_of design.now.job }
     requires suits { IsStartOf design.now.job start.now }
@@ -60,6 +60,34 @@ pub fn synth(alloc: Global, design: &Design, start: &Start) -> Result<Netlist, N
     ensures order { IfOk result (λ net. IsInOrder net design.now.job) }
     ensures distinct { IfOk result (λ net. Distinct net.nodes) }
     ensures few { IfOk result (λ net. length net.nodes ≤ bounds.node_bound (summary_of design.now.job)) }
+{
+    let Synthesis {
+        net,
+        outcomes,
+        names,
+    } = synth_stages(alloc, design, start)?;
+    drop(outcomes);
+    drop(names);
+    Ok(net)
+}
+
+/// The same netlist, with the nodes of its stages: what each does, and what its names are (`stages`). The only error is out of memory.
+#[tactic(auto, using(crate::proofs::Showing::shows, crate::proofs::Showing::begins_anew, crate::proofs::Showing::carries, crate::proofs::Showing::in_order))]
+pub fn synth_stages<'a>(
+    alloc: Global,
+    design: &'a Design,
+    start: &Start,
+) -> Result<Synthesis<'a>, NoMemory>
+    requires begins { start.now ≡ start_of design.now.job }
+    requires suits { IsStartOf design.now.job start.now }
+    ensures shows { IfOk result (λ s. Shows s.net design.now.job) }
+    ensures anew { IfOk result (λ s. BeginsAnew s.net design.now.job) }
+    ensures carries { IfOk result (λ s. Carries s.net design.now.job) }
+    ensures named { IfOk result (λ s. IsNamed s.net) }
+    ensures order { IfOk result (λ s. IsInOrder s.net design.now.job) }
+    ensures distinct { IfOk result (λ s. Distinct s.net.nodes) }
+    ensures few { IfOk result (λ s. length s.net.nodes ≤ bounds.node_bound (summary_of design.now.job)) }
+    ensures stages { IfOk result (λ s. HasStages s.net design.now.job s.outcomes.items s.names.items) }
 {
     make(alloc, design, start)
 }

@@ -12,7 +12,7 @@ ghost use Rattle.kp_synth_tables.specs.Keys.{key_at, key_width, keys_of};
 ghost use Rattle.kp_synth_registers.specs.Meaning.{CellsFit, Ready, node_at};
 ghost use Rattle.kp_synth_next.specs.Control.{AllSay};
 ghost use Rattle.kp_synth_next.specs.Shows.{Shows};
-ghost use Rattle.kp_synth.specs.inner.Built.{net_parts, Spelled};
+ghost use Rattle.kp_synth.specs.inner.{Built.net_parts, Built.Spelled, Descending.Contains};
 
 use crate::files::{files, sample_ports};
 use crate::labels::label;
@@ -91,6 +91,7 @@ pub(crate) fn close(
     ensures named { IfOk result (λ net. IsNamed net) }
     ensures distinct { IfOk result (λ net. Distinct net.nodes) }
     ensures few { IfOk result (λ net. length net.nodes ≤ length pool.nodes + (113 + 9 * length (keys_of layout.now) + 9 * length (targets_of layout.now.decls))) }
+    ensures contains { IfOk result (λ net. Contains pool (113 + 9 * length (keys_of layout.now) + 9 * length (targets_of layout.now.decls)) net) }
 {
     let mut pool = pool;
     let ends = close_nodes(alloc, &mut pool, layout, reads, outs)?;

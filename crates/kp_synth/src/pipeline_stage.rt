@@ -6,6 +6,7 @@ ghost use Rattle.kp_machine.specs.Slots.{targets_of, pipes_of, hints_of, samples
 ghost use Rattle.kp_net.specs.Growth.{Held, Wire, Grown};
 ghost use Rattle.kp_synth_registers.specs.Meaning.{Ready, IsTest, Added, Says, guesses_at};
 ghost use Rattle.kp_synth_stage.specs.Work.{stmts_at, AreSlots, Fits, SlotsHave, costs_of};
+ghost use Rattle.kp_synth.specs.Known.{Named};
 ghost use Rattle.kp_synth.specs.inner.Seeing.{SamplesIn, Computes};
 ghost use Rattle.kp_synth.specs.inner.Whole.{RulesGive};
 ghost use Rattle.kp_synth.specs.inner.Descending.{EnteredOk, Faces};
@@ -16,6 +17,7 @@ use crate::misprediction::miss_in;
 use crate::stage::{Ran, run_stage};
 use crate::stage_inputs::{ext_in, hints_in, pipes_in};
 use kp_base::{List, NoMemory};
+use kp_build::Env;
 use kp_net::NodeId;
 use kp_pool::Pool;
 use kp_synth_registers::{Outcome, Reads, full_in};
@@ -82,6 +84,7 @@ fn ran<'a>(
     requires faces { Faces layout.now pool.old sources.now higher k }
     ensures fits { IfOk result (λ r. Fits layout.now pool.new (guesses_at layout.now k) r.work) }
     ensures computes { IfOk result (λ r. Computes layout.now pool.new r.work k) }
+    ensures names { IfOk result (λ r. Named layout.now pool.new k r.work.env) }
     ensures wire { IfOk result (λ r. Wire pool.new r.stall 1) }
     ensures stall { IfOk result (λ r. IsTest layout.now pool.new r.stall (λ st i. stall (machine_of layout.now) st i k)) }
     ensures added { IfOk result (λ r. Added layout.now pool.old pool.new (costs_of layout.now (stmts_at layout.now k) + 65)) }
@@ -104,44 +107,56 @@ fn ran<'a>(
     Ok(ran)
 }
 
+/// The nodes of a stage: what it does, and its names.
+#[derive(Drop)]
+pub(crate) struct Built<'a> {
+    pub outcome: Outcome,
+    pub names: Env<'a>,
+}
+
 // The nodes of a stage.
-fn outcome_of(ran: Ran<'_>, miss: NodeId) -> Outcome
-    ensures stall { result.stall ≡ ran.entry.stall }
-    ensures miss { result.miss ≡ miss }
-    ensures puts { result.puts ≡ ran.entry.work.puts.items }
-    ensures sets { result.sets ≡ ran.entry.work.sets.items }
-    ensures made { result.made ≡ ran.entry.work.made.items }
-    ensures aims { result.aims ≡ ran.entry.work.aims.items }
+fn built_of<'a>(ran: Ran<'a>, miss: NodeId) -> Built<'a>
+    ensures stall { result.outcome.stall ≡ ran.entry.stall }
+    ensures miss { result.outcome.miss ≡ miss }
+    ensures puts { result.outcome.puts ≡ ran.entry.work.puts.items }
+    ensures sets { result.outcome.sets ≡ ran.entry.work.sets.items }
+    ensures made { result.outcome.made ≡ ran.entry.work.made.items }
+    ensures aims { result.outcome.aims ≡ ran.entry.work.aims.items }
+    ensures names { result.names ≡ ran.entry.work.env }
 {
     let Ran { stall, work } = ran;
-    Outcome {
-        stall,
-        miss,
-        puts: List::new(work.puts),
-        sets: List::new(work.sets),
-        made: List::new(work.made),
-        aims: List::new(work.aims),
+    Built {
+        outcome: Outcome {
+            stall,
+            miss,
+            puts: List::new(work.puts),
+            sets: List::new(work.sets),
+            made: List::new(work.made),
+            aims: List::new(work.aims),
+        },
+        names: work.env,
     }
 }
 
 /// Stage k, given what it sees of the stages above it by the sources; `higher` says whether the next stage stalls.
-pub(crate) fn stage_in(
+pub(crate) fn stage_in<'a>(
     alloc: Global,
     pool: &mut Pool,
-    layout: &Layout<'_>,
+    layout: &Layout<'a>,
     reads: &Reads,
     slots: &Slots,
     sources: &[Source],
     k: u32,
     higher: NodeId,
-) -> Result<Outcome, NoMemory>
+) -> Result<Built<'a>, NoMemory>
     requires rules { RulesGive layout.now }
     requires room { own_room layout.now k ≤ pool.old.spare }
     requires stage { k < layout.now.stages.value }
     requires slots { AreSlots layout.now slots.now }
     requires ready { Ready layout.now pool.old reads.now }
     requires faces { Faces layout.now pool.old sources.now higher k }
-    ensures says { IfOk result (λ o. Says layout.now pool.new k o) }
+    ensures says { IfOk result (λ b. Says layout.now pool.new k b.outcome) }
+    ensures names { IfOk result (λ b. Named layout.now pool.new k b.names) }
     ensures added { IfOk result (λ o. Added layout.now pool.old pool.new (own_room layout.now k)) }
 {
     let entered = enter(alloc, pool, layout, reads, slots, k)?;
@@ -157,20 +172,20 @@ pub(crate) fn stage_in(
         reads.samples.as_slice(),
         higher,
     )?;
-    Ok(outcome_of(ran, miss))
+    Ok(built_of(ran, miss))
 }
 
 /// Stage k, which isn't the first: afterwards the sources describe what the stage below it sees.
-pub(crate) fn stage_above(
+pub(crate) fn stage_above<'a>(
     alloc: Global,
     pool: &mut Pool,
-    layout: &Layout<'_>,
+    layout: &Layout<'a>,
     reads: &Reads,
     slots: &Slots,
     sources: &mut [Source],
     k: u32,
     higher: NodeId,
-) -> Result<Outcome, NoMemory>
+) -> Result<Built<'a>, NoMemory>
     requires rules { RulesGive layout.now }
     requires room { stage_room layout.now k ≤ pool.old.spare }
     requires later { 1 ≤ k }
@@ -178,21 +193,22 @@ pub(crate) fn stage_above(
     requires slots { AreSlots layout.now slots.now }
     requires ready { Ready layout.now pool.old reads.now }
     requires faces { Faces layout.now pool.old sources.old higher k }
-    ensures says { IfOk result (λ o. Says layout.now pool.new k o) }
-    ensures faces { IfOk result (λ o. (j : ℕ) → k ≡ suc j → Faces layout.now pool.new sources.new o.stall j) }
+    ensures says { IfOk result (λ b. Says layout.now pool.new k b.outcome) }
+    ensures names { IfOk result (λ b. Named layout.now pool.new k b.names) }
+    ensures faces { IfOk result (λ o. (j : ℕ) → k ≡ suc j → Faces layout.now pool.new sources.new o.outcome.stall j) }
     ensures added { IfOk result (λ o. Added layout.now pool.old pool.new (stage_room layout.now k)) }
 {
-    let out = stage_in(alloc, pool, layout, reads, slots, sources, k, higher)?;
+    let built = stage_in(alloc, pool, layout, reads, slots, sources, k, higher)?;
     let full = full_in(pool, layout, reads, k);
     add_rows(
         pool,
         layout,
         reads,
         k,
-        out.sets.as_slice(),
+        built.outcome.sets.as_slice(),
         sources,
         full,
-        out.stall,
+        built.outcome.stall,
     )?;
-    Ok(out)
+    Ok(built)
 }

@@ -7,6 +7,7 @@ ghost use Rattle.kp_net.specs.Growth.{Held, Wire};
 ghost use Rattle.kp_synth_registers.specs.Meaning.{IsTest, Added, guesses_at};
 ghost use Rattle.kp_synth_stage.specs.Rows.{SourcesOk};
 ghost use Rattle.kp_synth_stage.specs.Work.{stmts_at, AreSlots, Fits, SlotsHave, costs_of};
+ghost use Rattle.kp_synth.specs.Known.{Named};
 ghost use Rattle.kp_synth.specs.inner.Seeing.{SeesAbove, PipesIn, SamplesIn, HintsIn, Computes};
 
 use kp_base::NoMemory;
@@ -58,6 +59,7 @@ pub(crate) fn run_stage<'a>(
     requires higher { IsTest d.now.job pool.old higher (λ st i. (above (machine_of d.now.job) st i k).stall) }
     ensures fits { IfOk result (λ r. Fits d.now.job pool.new (guesses_at d.now.job k) r.work) }
     ensures computes { IfOk result (λ r. Computes d.now.job pool.new r.work k) }
+    ensures names { IfOk result (λ r. Named d.now.job pool.new k r.work.env) }
     ensures wire { IfOk result (λ r. Wire pool.new r.stall 1) }
     ensures stall { IfOk result (λ r. IsTest d.now.job pool.new r.stall (λ st i. stall (machine_of d.now.job) st i k)) }
     ensures added { IfOk result (λ r. Added d.now.job pool.old pool.new (costs_of d.now.job (stmts_at d.now.job k) + 65)) }

@@ -35,3 +35,7 @@ returns-clause-named c =
     let net : Parts → Net = λ p. record { nodes = c.close_nodes.new.pool.nodes; parts = p } in
     subst IsNamed (sym (c.close.ensures.net ∙ ap net c.in_ok-parts.ensures.parts))
     (is_named c.args.layout.now _ _ c.args.start.now _ _ _ (made (goal.at.returns-clause-named c).In_ok-parts) (subst Spelled c.in_ok-parts.ensures.parts c.in_ok-parts.ensures.spelled))
+
+pub returns-clause-contains : goal.returns-clause-contains
+returns-clause-contains c =
+    record { pool = c.close_nodes.new.pool; nodes = ap (λ (n : Net). n.nodes) c.close.ensures.net; kept = c.in_ok-ends.ensures.grown.kept }

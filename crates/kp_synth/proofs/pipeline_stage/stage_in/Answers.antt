@@ -3,7 +3,8 @@ use Rattle.kp_machine.specs.Slots.{samples_of}
 use Rattle.kp_net.{proofs.Growing.kept_then, proofs.Growing.wire_kept, specs.declared.node.NodeId.NodeId}
 use Rattle.kp_synth_registers.proofs.Growth.{test_kept, grown_added, added_then, added_more, ready_kept}
 use Rattle.kp_synth_stage.specs.Work.{SlotsHave}
-use Rattle.kp_synth.specs.inner.Seeing.{SamplesIn}
+use Rattle.kp_build.specs.Names.{Scope}
+use Rattle.kp_synth.specs.{Known.Named, inner.Seeing.SamplesIn}
 use Rattle.kp_synth.proofs.Spoken.{samples_have, samples_in, entered_kept, faces_kept, says_of}
 use Rattle.kp_synth.proofs.pipeline_stage.stage_in.Goals as goal
 
@@ -22,10 +23,10 @@ ran-requires-clause-faces c =
 
 pub returns-clause-says : goal.returns-clause-says
 returns-clause-says c =
-    let o = c.outcome_of.ensures in
+    let o = c.built_of.ensures in
     let r = c.in_ok-ran.ensures in
     let miss = c.in_ok-miss.ensures in
-    says_of _ _ _ c.in_ok-ran.ran.work c.in_ok-ran.ran.stall c.in_ok-miss.miss c.outcome_of.result o.stall o.miss o.puts o.sets o.made o.aims r.fits r.computes r.wire r.stall
+    says_of _ _ _ c.in_ok-ran.ran.work c.in_ok-ran.ran.stall c.in_ok-miss.miss c.built_of.result.outcome o.stall o.miss o.puts o.sets o.made o.aims r.fits r.computes r.wire r.stall
     (wire_kept _ _ _ _ _ r.added.kept miss.wire) (test_kept _ _ _ _ 1 _ _ r.added.kept miss.wire miss.is_test)
 
 pub returns-clause-added : goal.returns-clause-added
@@ -45,3 +46,6 @@ ran-requires-clause-samples_in c =
 
 pub miss_in-requires-clause-ready : goal.miss_in-requires-clause-ready
 miss_in-requires-clause-ready c = ready_kept _ _ _ _ _ c.in_ok-entered.ensures.grown.kept c.requires.ready
+
+pub returns-clause-names : goal.returns-clause-names
+returns-clause-names c = subst (λ (env : Scope). Named c.args.layout.now c.ran.new.pool c.args.k env) (sym c.built_of.ensures.names) c.in_ok-ran.ensures.names
