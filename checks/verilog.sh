@@ -14,6 +14,8 @@
 #     ports      the module that kpcore writes for the same job, with ports of each kind, shows through these ports what `sim` and `seq` print, over
 #                the words that are loaded under resets (checks/ports.py), in Icarus, and in Verilator for the first two jobs. Needs Python 3, Icarus
 #                and the program kpcore. Icarus and Verilator print nothing of it, as above: ports-i and ports-v.
+#     named      the module of `kpcore --named` without its names is that of `pipe`. Icarus and Verilator print nothing of it (named-i, named-v), and Yosys makes
+#                the same cells of both (named-c).
 #
 # Where acc3 is among the jobs, Yosys has to make as many flip-flops of its module, with ports and without, as the widths of its values say (cells).
 #
@@ -56,6 +58,22 @@ ports() {
     if [ -s "$4" ]; then lint "$1" "$4" ports-i ports-v; fi
 }
 
+# cells MODULE: the cells that Yosys makes of a module, by kind
+cells() { timeout "$seconds" yosys -q -p "read_verilog $1; hierarchy -check -auto-top; proc; opt_clean; tee -q -o $work/stat stat" && sed -n '/umber of cells\| cells$/,$p' "$work/stat"; }
+
+# named NAME JOB MODULE
+named() {
+    "$kpcore" --named "$2" >"$work/named.v"
+    sed '/^  \/\/ Names for viewers/,/^  \/\* verilator lint_on UNUSEDSIGNAL/d' "$work/named.v" | cmp - "$3" >"$work/said" 2>&1
+    quiet "$1" named "$work/said"
+    lint "$1" "$work/named.v" named-i named-v
+    if has yosys; then
+        cells "$3" >"$work/cells"
+        cells "$work/named.v" | cmp - "$work/cells" >"$work/said" 2>&1
+        quiet "$1" named-c "$work/said"
+    fi
+}
+
 # verilog NAME JOB SEED
 verilog() {
     local name=$1 job=$2 module="$work/m_$1.v"
@@ -78,6 +96,7 @@ verilog() {
     if has yosys && has iverilog && has python3; then
         says "$name" gates "$(python3 "$top/checks/gates.py" "$kp" "$job" "$3" "$cycles" "$seconds" 2>&1 | tail -n 1)"
     fi
+    if has "$kpcore"; then named "$name" "$job" "$module"; fi
     if has "$kpcore" && has iverilog && has python3; then ports "$name" "$job" "$3" "$module"; fi
     if [ "$name" = acc3 ] && has "$kpcore" && has yosys && has python3; then
         says "$name" cells "$(python3 "$top/checks/ports.py" cells "$kp" "$kpcore" 2>&1 | tail -n 1)"

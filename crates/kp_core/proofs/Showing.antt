@@ -1,5 +1,5 @@
 -- What the ports show, by the statements on the netlist.
-use Rattle.std.proofs.Common.{◌≡◌, ◌∙◌, ℕ, zero, suc, ◌^◌, ◌+◌, ◌-◌, ◌<◌, ◌≤◌, zero-add, Bool, true, false, cond, ◌&&◌, List, [], ◌∷◌, length, get_or, refl, sym, ap, subst, arith}
+use Rattle.std.proofs.Common.{◌≡◌, ◌∙◌, ℕ, zero, suc, ◌^◌, ◌+◌, ◌-◌, ◌<◌, ◌≤◌, zero-add, Bool, true, false, cond, ◌&&◌, List, [], ◌∷◌, All, length, get_or, refl, sym, ap, subst, arith}
 use Rattle.std.proofs.{lemmas.Bool.and_parts, lemmas.Bool.cond-false, lemmas.Nat.pow_pos, Math.Bool.and-false, lemmas.List.get_or-map, lemmas.List.length-map}
 use Rattle.std.specs.Prelude.{nat_le}
 use Rattle.kp_ast.specs.declared.tree.Job.{Job}
@@ -22,7 +22,8 @@ use Rattle.kp_synth.specs.Carrying.{Carries}
 use Rattle.kp_core_ports.specs.Ports.{Exists}
 use Rattle.kp_core_ports.specs.declared.port.Ask.TheVariants.{Show, Peek, Probe, Next, Commit}
 use Rattle.kp_core_ports.proofs.Registers.{there}
-use Rattle.kp_core.specs.{Beginning.Begins, Values.port_value, Values.state_in, Values.moment_in}
+use Rattle.kp_core.specs.{Beginning.Begins, Values.port_value, Values.state_in, Values.moment_in, Waves.AllHave}
+use Rattle.kp_wires.specs.{Truth.IsTrue, declared.wire.Wire.Wire}
 use Rattle.kp_core.proofs.{Beginning.along, Beginning.shown_along, Occupants.held_instruction, Occupants.held_late}
 
 -- ---- registers and files
@@ -59,6 +60,10 @@ module _ (net : Net) (job : Job) (shows : Shows net job) (names : Unbroken (widt
       let st : PipelineState = (moment_in job v (inputs_seen job ins) T).state in
       let alive : is_alive job x k ≡ true = (and_parts (nat_le (put_after (pipe_at job x).name 0 job.blocks) k) (is_alive job x k) piped).1 in
       (held_along.holds T i h).pipes x k few piped after before ∙ ap (λ (c : Bool). cond c ((st.stage k).instruction.pipes x) 0) alive
+
+  -- each wire that has its signal wherever the registers hold a state
+  pub wires_shown : (i : Input) (T : ℕ) → T ≤ length ins → (wires : List Wire) → All (IsTrue job net) wires → AllHave job net s v ins i T wires
+  wires_shown i T h wires all = λ k d l. all k d l (cells_of i (state_in net s ins T)) _ (input_seen job i) (held_along.holds T i h)
 
   module _ (anew : BeginsAnew net job) (acc : Accepted (machine_of job)) where
     abbrev rows_of_run : List Row

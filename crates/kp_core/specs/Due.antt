@@ -6,13 +6,16 @@ use Rattle.kp_base.specs.{Bytes.AppendsPart, declared.refusal.Refusal.Refusal}
 use Rattle.kp_ast.specs.declared.tree.Job.{Job}
 use Rattle.kp_frontend.specs.Judging.{JudgesHead, JudgesHeadText}
 use Rattle.kp_stage.specs.Counts.{summary_of}
-use Rattle.kp_net.specs.{Netlist.Net, Names.IsNamed, Widths.Distinct}
+use Rattle.kp_net.specs.{Netlist.Net, Names.IsNamed, Parts.NetOk, Widths.Distinct}
+use Rattle.kp_build.specs.Names.{Scope}
+use Rattle.kp_synth_registers.specs.declared.outcome.Outcome.{Outcome}
 use Rattle.kp_vlog.specs.{Canon.canon, Denote.Denotes}
 use Rattle.kp_implements.specs.{Shows.Shows, Shows.IsInOrder, Anew.BeginsAnew}
 use Rattle.kp_synth_next.specs.Bound.{node_bound}
-use Rattle.kp_synth.specs.Carrying.{Carries}
+use Rattle.kp_synth.specs.{Carrying.Carries, Known.HasStages}
 use Rattle.kp_view_texts.specs.Heads.{rule_head}
 use Rattle.kp_core_ports.specs.{declared.port.Port.Port, declared.port.PortRefusal.PortRefusal, Ports.ports_of, Core.core_text, Names.names_text}
+use Rattle.kp_wires.specs.{Comments.commented_text, Table.wires_of, Texts.named_lines, Texts.wires_text}
 use Rattle.kp_core.specs.{declared.request.Form.Form, Messages.BeginsWith, Messages.file_name, Messages.port_head}
 use Rattle.kp_core.specs.Words.{Asked, bad_words, help, version, write, reads_input}
 use Rattle.kp_core.specs.declared.texts.TheConstants.{HELP, USAGE, VERSION}
@@ -22,16 +25,21 @@ use Rattle.kp_core.specs.declared.request.Form.TheVariants as forms
 abbrev pub Says : ℕ → List ℕ → ℕ → List ℕ → Type 0
 Says s t status text = (status ≡ s) × (text ≡ t)
 
--- the text of a netlist with ports added, or the table of its registers
-abbrev pub text_for : Form → Net → Job → List Port → List ℕ
-text_for forms.Module net job ports = core_text net job ports
-text_for forms.Names net job ports = names_text net job
+-- the text of a netlist with ports added, and with names for the registers and wires of its stages, or with comments on them, or the table of its registers, or
+-- that of its wires. The nodes of what the stages do, and of their names, are `outs` and `names`.
+abbrev pub text_for : Form → Net → Job → List Port → List Outcome → List Scope → List ℕ
+text_for forms.Module net job ports outs names = core_text net job ports []
+text_for forms.Names net job ports outs names = names_text net job
+text_for forms.Wires net job ports outs names = wires_text job (wires_of net job outs names)
+text_for forms.Named net job ports outs names = core_text net job ports (named_lines net job (wires_of net job outs names))
+text_for forms.Comments net job ports outs names = commented_text net job ports (wires_of net job outs names)
 
--- THE MODULE of a job with ports, or its table: that of a netlist that shows the pipelined machine of the job, begins anew after each reset, and whose
--- registers hold the state of the pipeline. Its canonical text denotes it, so it violates no rule. No two of its nodes are equal, and there are at most
--- `node_bound` of them.
+-- THE MODULE of a job with ports, or a table of it: that of a netlist that shows the pipelined machine of the job, begins anew after each reset, and whose
+-- registers hold the state of the pipeline. Its wires mean what the stages do, and the names in them. Its canonical text denotes it, so it violates no rule. No
+-- two of its nodes are equal, and there are at most `node_bound` of them.
 pub record IsCoreOf (form : Form) (job : Job) (ports : List Port) (text : List ℕ) : Type 0 where
   pub net : Net
+  pub ok : NetOk net
   pub shows : Shows net job
   pub anew : BeginsAnew net job
   pub carries : Carries net job
@@ -40,7 +48,10 @@ pub record IsCoreOf (form : Form) (job : Job) (ports : List Port) (text : List �
   pub denotes : Denotes 0 (canon net) net
   pub distinct : Distinct net.nodes
   pub few : length net.nodes ≤ node_bound (summary_of job)
-  pub whole : text ≡ text_for form net job ports
+  pub outcomes : List Outcome
+  pub names : List Scope
+  pub stages : HasStages net job outcomes names
+  pub whole : text ≡ text_for form net job ports outcomes names
 
 -- the outcome for a job and the lines after it
 abbrev pub DueOfLines : Form → List ℕ → Job → Result (List Port) PortRefusal → ℕ → List ℕ → Type 0

@@ -2,6 +2,7 @@ pub mod Words
 pub mod Messages
 pub mod Answers
 pub mod Due
+pub mod Waves
 pub mod Values
 pub mod Beginning
 pub mod Loading

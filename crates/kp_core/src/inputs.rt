@@ -1,7 +1,10 @@
 // The text for a job.
 ghost use Rattle.std.specs.Prelude.{◌≡◌, ◌≤◌, length, Err, IfOk};
 ghost use Rattle.kp_frontend.specs.Judging.{most_bytes, JudgesHeadText};
-ghost use Rattle.kp_core_ports.specs.Ports.{ports_of, AllExist};
+ghost use Rattle.kp_synth_tables.specs.Keys.{keys_of};
+ghost use Rattle.kp_synth.specs.Known.{HasStages};
+ghost use Rattle.kp_core_ports.specs.{Ports.ports_of, Ports.AllExist, Core.core_text};
+ghost use Rattle.kp_wires.specs.{Comments.commented_text, Table.wires_of, Texts.named_lines, Texts.wires_text};
 ghost use Rattle.kp_core.specs.Due.{DueOfHead, DueOfLines, IsCoreOf};
 ghost use Rattle.kp_core.specs.{Answers.text_said, declared.request.Form.Form};
 
@@ -10,10 +13,11 @@ use crate::{Form, message_of};
 use kp_base::{NoMemory, Refusal, Refused};
 use kp_core_ports::{Port, PortsRefused, core_text, names_text, read_ports};
 use kp_frontend::{Accepted, Head, judge_head};
-use kp_synth::synth;
+use kp_synth::{Synthesis, synth_stages};
 use kp_synth_tables::Layout;
 use kp_view_explain::{Explanation, explain_head};
 use kp_vlog::round_trip::a_canonical_text_denotes_its_netlist;
+use kp_wires::{Wire, commented_text, named_lines, wires_of, wires_text};
 use std::alloc::Global;
 
 /// What is to be written for an input that is not too long, under the name of its file. The only error is out of memory.
@@ -74,7 +78,7 @@ fn of_head(
     }
 }
 
-// The module with these ports, or the table of its registers.
+// The module with these ports, or a table of it.
 fn job_text(
     alloc: Global,
     form: Form,
@@ -89,11 +93,67 @@ fn job_text(
     // The invariant of the type, for the proof only.
     let _kept = job.design.job();
     a_canonical_text_denotes_its_netlist();
-    let net = synth(alloc, &job.design, &job.sections.start)?;
+    let built = synth_stages(alloc, &job.design, &job.sections.start)?;
     // The invariant of the netlist.
-    let _parts = net.parts();
+    let _parts = built.net.parts();
     match form {
-        Form::Module => core_text(alloc, &net, layout, ports),
-        Form::Names => names_text(alloc, &net, layout),
+        Form::Module => core_text(alloc, &built.net, layout, ports, b""),
+        Form::Names => names_text(alloc, &built.net, layout),
+        Form::Wires => listed(alloc, layout, &built),
+        Form::Named => named(alloc, layout, ports, &built),
+        Form::Comments => commented(alloc, layout, ports, &built),
     }
+}
+
+// The table of the wires of a netlist.
+fn wires(alloc: Global, layout: &Layout<'_>, built: &Synthesis<'_>) -> Result<Vec<Wire>, NoMemory>
+    requires stages { HasStages built.now.net layout.now built.now.outcomes.items built.now.names.items }
+    ensures { IfOk result (λ wires. wires.items ≡ wires_of built.now.net layout.now built.now.outcomes.items built.now.names.items) }
+{
+    let (outcomes, names) = (built.outcomes.as_slice(), built.names.as_slice());
+    wires_of(alloc, &built.net, layout, outcomes, names)
+}
+
+// The same as text.
+fn listed(alloc: Global, layout: &Layout<'_>, built: &Synthesis<'_>) -> Result<Vec<u8>, NoMemory>
+    requires stages { HasStages built.now.net layout.now built.now.outcomes.items built.now.names.items }
+    ensures { IfOk result (λ text. text.items ≡ wires_text layout.now (wires_of built.now.net layout.now built.now.outcomes.items built.now.names.items)) }
+{
+    let wires = wires(alloc, layout, built)?;
+    wires_text(alloc, layout.job(), wires.as_slice())
+}
+
+// The module with these ports, and with names for the registers and wires of its stages.
+fn named(
+    alloc: Global,
+    layout: &Layout<'_>,
+    ports: &[Port],
+    built: &Synthesis<'_>,
+) -> Result<Vec<u8>, NoMemory>
+    requires stages { HasStages built.now.net layout.now built.now.outcomes.items built.now.names.items }
+    requires regs { length built.now.net.parts.regs ≡ length (keys_of layout.now) }
+    requires exist { AllExist layout.now ports.now }
+    ensures { IfOk result (λ text. text.items
+        ≡ core_text built.now.net layout.now ports.now (named_lines built.now.net layout.now (wires_of built.now.net layout.now built.now.outcomes.items built.now.names.items))) }
+{
+    let wires = wires(alloc, layout, built)?;
+    let lines = named_lines(alloc, &built.net, layout, wires.as_slice())?;
+    core_text(alloc, &built.net, layout, ports, lines.as_slice())
+}
+
+// The module with these ports, and with comments on its registers and on the wires of its stages.
+fn commented(
+    alloc: Global,
+    layout: &Layout<'_>,
+    ports: &[Port],
+    built: &Synthesis<'_>,
+) -> Result<Vec<u8>, NoMemory>
+    requires stages { HasStages built.now.net layout.now built.now.outcomes.items built.now.names.items }
+    requires regs { length built.now.net.parts.regs ≡ length (keys_of layout.now) }
+    requires exist { AllExist layout.now ports.now }
+    ensures { IfOk result (λ text. text.items
+        ≡ commented_text built.now.net layout.now ports.now (wires_of built.now.net layout.now built.now.outcomes.items built.now.names.items)) }
+{
+    let wires = wires(alloc, layout, built)?;
+    commented_text(alloc, &built.net, layout, ports, wires.as_slice())
 }

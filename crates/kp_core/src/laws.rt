@@ -9,25 +9,45 @@ ghost use Rattle.kp_net.specs.Netlist.{Net, Input, State, state_after};
 ghost use Rattle.kp_implements.specs.{Shows.Shows, Legal.value_from, Traces.inputs_seen, Traces.AreQuiet, Anew.trace_from, Anew.BeginsAnew};
 ghost use Rattle.kp_synth_tables.specs.Keys.{place_of, target_at};
 ghost use Rattle.kp_synth_tables.specs.declared.key.Key.TheVariants.{Pipe};
-ghost use Rattle.kp_synth.specs.Carrying.{Carries};
-ghost use Rattle.kp_core_ports.specs.Ports.{Exists};
+ghost use Rattle.kp_build.specs.Names.{Scope};
+ghost use Rattle.kp_synth_registers.specs.declared.outcome.Outcome.{Outcome};
+ghost use Rattle.kp_synth.specs.{Carrying.Carries, Known.HasStages};
+ghost use Rattle.kp_core_ports.specs.{Ports.Exists, declared.port.Port.Port};
 ghost use Rattle.kp_core_ports.specs.declared.port.Ask.TheVariants.{Commit, Next, Peek, Probe, Show};
 ghost use Rattle.kp_core.specs.Beginning.{Begins};
 ghost use Rattle.kp_core.specs.Values.{port_value, state_in, moment_in, IsFull, NoneWrong, pipe_of_instruction};
-ghost use Rattle.kp_core.specs.Due.{IsCoreOf};
-ghost use Rattle.kp_core.specs.declared.request.Form.TheVariants.{Module};
+ghost use Rattle.kp_core.specs.{Due.IsCoreOf, Waves.AllHave, Waves.IsPipeWithLines};
+ghost use Rattle.kp_wires.specs.Table.{wires_of};
+ghost use Rattle.kp_core.specs.declared.request.Form.TheVariants.{Module, Named};
 ghost use Rattle.kp_ast.specs.declared.tree.Job.{Job};
 ghost use Rattle.kp_tool.specs.Written.{IsVerilogOf};
 
 use crate::runs::runs_are_legal_and_move;
 use kp_machine::laws::a_design_is_accepted;
 use kp_stage::Design;
+use kp_wires::laws::wires_have_their_signals;
 
 /// Without lines after the job, the module is a text that `pipe` may write for the job: the canonical text of a netlist that it denotes, which shows the job's
 /// machine and begins anew after each reset.
 pub fn without_lines_the_text_is_that_of_pipe()
     ensures { (job : Job) (text : List ℕ) → IsCoreOf Module job [] text → IsVerilogOf job text }
 {}
+
+/// A module with names for its registers and wires is such a text, with ports in its header and lines before its end.
+pub fn names_are_added_to_the_text_of_pipe()
+    ensures { (job : Job) (ports : List Port) (text : List ℕ) → IsCoreOf Named job ports text → IsPipeWithLines job text }
+{}
+
+/// In each cycle of a run each wire that is named has the value of its signal in its stage of the pipelined machine.
+pub fn wires_have_their_signals_in_runs(design: &Design)
+    ensures { (net : Net) (s : State) (v : ℕ → ℕ → ℕ) (ins : List Input) (i : Input) (T : ℕ) (outs : List Outcome) (names : List Scope) → Shows net design.now.job
+        → Carries net design.now.job → HasStages net design.now.job outs names → Begins net design.now.job s v → AreQuiet ins → T ≤ length ins
+        → AllHave design.now.job net s v ins i T (wires_of net design.now.job outs names) }
+{
+    // The invariant of the type, for the proof only.
+    let _job = design.job();
+    wires_have_their_signals();
+}
 
 /// The output of `show R` is the value of R in that sequential machine, and the output of `peek F` the word of F at the address at its port, after as many
 /// instructions as their write stage has let pass.

@@ -1,7 +1,7 @@
 // The words of a command line, and what they ask for.
 ghost use Rattle.std.specs.Prelude.{◌≡◌, map, string_bytes, IfOk};
 ghost use Rattle.std.specs.List.{list_any};
-ghost use Rattle.kp_core.specs.Words.{asked, asked_for, file_of, is_help, is_names, is_version, table_or_module};
+ghost use Rattle.kp_core.specs.Words.{asked, asked_for, file_of, form_of, is_help, is_version, table_or_module};
 
 use kp_base::NoMemory;
 use kp_command_line::match_file;
@@ -14,6 +14,12 @@ pub enum Form {
     Module,
     /// The table of its registers.
     Names,
+    /// The table of the wires of its stages.
+    Wires,
+    /// The module with ports, and with names for the registers and wires of its stages.
+    Named,
+    /// The module with ports, and with comments on its registers and on the wires of its stages.
+    Comments,
 }
 
 /// What the words of a command line ask for.
@@ -23,7 +29,7 @@ pub enum Request<'w> {
     BadWords,
     Help,
     Version,
-    /// The module, or the table of its registers, of the job of a file, or of standard input.
+    /// The module, or a table of its registers or wires, of the job of a file, or of standard input.
     Core(Form, Option<&'w String>),
 }
 
@@ -47,8 +53,8 @@ impl<'w> Request<'w> {
         ensures { IfOk result (λ request. asked request ≡ table_or_module (map string_bytes words.now)) }
     {
         if let [first, rest @ ..] = words {
-            if is_names(first.as_str()) {
-                return Request::of_file(alloc, Form::Names, rest);
+            if let Some(form) = form_of(first.as_str()) {
+                return Request::of_file(alloc, form, rest);
             }
         }
         Request::of_file(alloc, Form::Module, words)
@@ -92,8 +98,19 @@ fn is_version(word: &str) -> bool
     word == "--version" || word == "-V"
 }
 
-fn is_names(word: &str) -> bool
-    ensures { result ≡ is_names word.now }
+// What a word asks for in place of the module.
+fn form_of(word: &str) -> Option<Form>
+    ensures { result ≡ form_of word.now }
 {
-    word == "--names"
+    if word == "--names" {
+        Some(Form::Names)
+    } else if word == "--wires" {
+        Some(Form::Wires)
+    } else if word == "--named" {
+        Some(Form::Named)
+    } else if word == "--comments" {
+        Some(Form::Comments)
+    } else {
+        None
+    }
 }

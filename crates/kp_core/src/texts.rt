@@ -4,14 +4,14 @@
 pub const VERSION: &str = "kpcore 0.10.0\n";
 
 /// How the program is called.
-pub const USAGE: &str = "usage: kpcore [--names] [FILE]
+pub const USAGE: &str = "usage: kpcore [--names | --wires | --named | --comments] [FILE]
        kpcore --help
 ";
 
 /// The help of the program.
 pub const HELP: &str = "Writes the pipelined machine of a kp job as a Verilog module with ports.
 
-usage: kpcore [--names] [FILE]
+usage: kpcore [--names | --wires | --named | --comments] [FILE]
 
   FILE    a job and, after its `end`, lines that ask for ports; without it,
           standard input is read. Write ./-job for a file named -job
@@ -30,6 +30,11 @@ options:
   --names         print a line for each register of the module in its place:
                   its name, and which pipe, result or guess of which stage
                   it stores
+  --wires         print a line for each wire of the module that is a signal of
+                  a stage: its name, the signal, and the stage
+  --named         add names for the registers and wires of each stage, in a
+                  scope for each: dut.stage_1.read_a in a viewer of waveforms
+  --comments      add a comment on each of these registers and wires
   -h, --help      print this help
   -V, --version   print the version
 

@@ -38,6 +38,10 @@ abbrev pub added_lines : Net → Job → List Port → List ℕ
 added_lines net job [] = []
 added_lines net job (p ∷ ps) = lines_under net job (p ∷ ps)
 
--- The text of a netlist of a job, with these ports.
-unfoldable pub core_text : Net → Job → List Port → List ℕ
-core_text net job ports = with_added (canon net) (header_ports job ports) (added_lines net job ports)
+-- A text of a netlist of a job, with these ports, and more lines after those for them.
+abbrev pub with_ports : Net → Job → List Port → List ℕ → List ℕ → List ℕ
+with_ports net job ports text more = with_added text (header_ports job ports) (added_lines net job ports ++ more)
+
+-- The canonical one.
+unfoldable pub core_text : Net → Job → List Port → List ℕ → List ℕ
+core_text net job ports more = with_ports net job ports (canon net) more

@@ -17,7 +17,10 @@ mod table;
 mod text;
 mod words;
 
+pub use kept::canonical_text;
+pub use names::{Names, name_at};
+pub use pieces::add;
 pub use port::{Ask, Port, PortRefusal, PortRule, PortsRefused};
 pub use reader::read_ports;
-pub use table::names_text;
-pub use text::core_text;
+pub use table::{add_stored, names_text};
+pub use text::{core_text, with_ports};

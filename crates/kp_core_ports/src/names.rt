@@ -10,7 +10,7 @@ use std::alloc::Global;
 
 /// The names of the targets, the pipes and the hints.
 #[derive(Drop)]
-pub(crate) struct Names {
+pub struct Names {
     pub targets: Vec<Name>,
     pub pipes: Vec<Name>,
     pub hints: Vec<Name>,
@@ -54,7 +54,7 @@ impl Names {
 }
 
 /// The bytes of the name with this number.
-pub(crate) fn name_at(names: &[Name], number: u32) -> &[u8]
+pub fn name_at(names: &[Name], number: u32) -> &[u8]
     ensures { result.now ≡ name_at names.now number }
 {
     match names.get(number as usize) {

@@ -50,8 +50,8 @@ fn add_line(
     Ok(())
 }
 
-// Appends what a register stores.
-fn add_stored(
+/// Appends what a register stores.
+pub fn add_stored(
     out: &mut Vec<u8>,
     layout: &Layout<'_>,
     names: &Names,

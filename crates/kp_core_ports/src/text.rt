@@ -2,7 +2,7 @@
 ghost use Rattle.std.specs.Prelude.{◌≡◌, ◌≤◌, length, IfOk};
 ghost use Rattle.kp_synth_tables.specs.Keys.{keys_of};
 ghost use Rattle.kp_core_ports.specs.Ports.{AllExist};
-ghost use Rattle.kp_core_ports.specs.Core.{is_in_line, last_line, header_end, with_added, header_ports, comment, lines_under, added_lines, core_text};
+ghost use Rattle.kp_core_ports.specs.Core.{is_in_line, last_line, header_end, with_added, with_ports, header_ports, comment, lines_under, added_lines, core_text};
 
 use crate::Port;
 use crate::kept::canonical_text;
@@ -13,22 +13,40 @@ use kp_net::Netlist;
 use kp_synth_tables::Layout;
 use std::alloc::Global;
 
-/// The canonical text of a netlist of a job, with these ports. The only error is out of memory.
+/// The canonical text of a netlist of a job, with these ports, and more lines after those for them. The only error is out of memory.
 #[tactic(auto, unfolding(crate::specs::Core::core_text))]
 pub fn core_text(
     alloc: Global,
     net: &Netlist,
     layout: &Layout<'_>,
     ports: &[Port],
+    more: &[u8],
 ) -> Result<Vec<u8>, NoMemory>
     requires regs { length net.now.parts.regs ≡ length (keys_of layout.now) }
     requires exist { AllExist layout.now ports.now }
-    ensures { IfOk result (λ text. text.items ≡ core_text net.now layout.now ports.now) }
+    ensures { IfOk result (λ text. text.items ≡ core_text net.now layout.now ports.now more.now) }
 {
     let text = canonical_text(alloc, net)?;
+    with_ports(alloc, net, layout, ports, text.as_slice(), more)
+}
+
+/// A text of a netlist of a job, with these ports, and more lines after those for them. The only error is out of memory.
+pub fn with_ports(
+    alloc: Global,
+    net: &Netlist,
+    layout: &Layout<'_>,
+    ports: &[Port],
+    text: &[u8],
+    more: &[u8],
+) -> Result<Vec<u8>, NoMemory>
+    requires regs { length net.now.parts.regs ≡ length (keys_of layout.now) }
+    requires exist { AllExist layout.now ports.now }
+    ensures { IfOk result (λ whole. whole.items ≡ with_ports net.now layout.now ports.now text.now more.now) }
+{
     let header = header_ports(alloc, layout, ports)?;
-    let lines = added_lines(alloc, net, layout, ports)?;
-    with_added(alloc, text.as_slice(), header.as_slice(), lines.as_slice())
+    let mut lines = added_lines(alloc, net, layout, ports)?;
+    lines.extend_from_slice(more)?;
+    with_added(alloc, text, header.as_slice(), lines.as_slice())
 }
 
 // The ports in the header.
