@@ -115,7 +115,7 @@ module _ {C : Type 0} (number : C → ℕ) (rules : PlainRules) (t : Tables) whe
     pub next : (s : List Plain) → Goes number rules t (Nonterminal n ∷ []) front s [] → (c : C) → (starts t s (number c) ≡ true) ↔ GoesOn (plain number rules) n tt front c
     next s f c = (
       (λ e.
-          let first = sentence number rules t k.readable.classes k.readable.short 60 (Nonterminal n ∷ []) k.has_sentence in
+          let first = sentence number rules t k.readable.classes k.readable.short 200 (Nonterminal n ∷ []) k.has_sentence in
           let r = starts_sentence number rules t rank k.readable s c (f.ready (first, tt)) e in
           (r.0, tt, after (plain number rules) (f.derives (c ∷ r.0)) r.1)),
       (λ g. let r = runs c g in sentence_starts number rules t (decides rules t k.readable.fits) (accepted (f.runs (c ∷ r.0) r.1))),

@@ -40,7 +40,7 @@ module _ {C : Type 0} (number : C → ℕ) (rules : PlainRules) (t : Tables) whe
     pub each_ready : (s : List Plain) → all_end rules t known short s ≡ true → IsReady number rules s
     each_ready [] h = tt
     each_ready (x ∷ s) h =
-        let p = and_parts (ends rules t known short 60 (x ∷ [])) (all_end rules t known short s) h in (sentence 60 (x ∷ []) p.0, each_ready s p.1)
+        let p = and_parts (ends rules t known short 200 (x ∷ [])) (all_end rules t known short s) h in (sentence 200 (x ∷ []) p.0, each_ready s p.1)
 
   -- Two derivations beside each other are one.
   pub beside : {a b s : List Plain} {cs ds left : List C} → Derived number rules a cs [] [] → Derived number rules b ds s left → Derived number rules (a ++ b) (cs ++ ds) s left

@@ -5,7 +5,6 @@
 //! netlist.
 #![tactic(auto)]
 
-mod continuation;
 mod lines;
 mod other;
 mod syntax;

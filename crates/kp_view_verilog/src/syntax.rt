@@ -1,13 +1,9 @@
 // Why no token begins at a place, or no module continues with one: V1 and V2.
-use crate::continuation::{following, front_of};
 use kp_base::{NoMemory, is_digit, is_letter};
 use kp_view_help::{FoundToken, Word};
-use kp_view_verilog_faults::{Class, ReadingFault, name_length};
+use kp_view_verilog_faults::{Expected, ReadingFault, following, name_length};
 use kp_vlog::{VKind, VToken};
 use std::alloc::Global;
-
-// The most bytes for which the tokens that may follow are listed.
-const MOST_FRONT: usize = 65_536;
 
 /// Why no token begins at the head of a text.
 pub(crate) fn no_token(rest: &[u8]) -> ReadingFault<'_> {
@@ -46,16 +42,16 @@ pub(crate) fn bytes_of<'t>(text: &'t [u8], token: VToken) -> &'t [u8] {
     rest.get(..token.len as usize).unwrap_or(&[])
 }
 
-/// The classes of tokens with which some module continues after the tokens before an offset, if these are few.
+/// The classes of tokens with which some module continues after the tokens before an offset.
 pub(crate) fn expected_at(
     alloc: Global,
-    text: &[u8],
     tokens: &[VToken],
     at: usize,
-) -> Result<Option<Vec<Class>>, NoMemory> {
-    let front = front_of(alloc, text, tokens, at)?;
-    if front.len() > MOST_FRONT {
-        return Ok(None);
+) -> Result<Expected, NoMemory> {
+    for (i, token) in tokens.iter().enumerate() {
+        if token.start as usize >= at {
+            return following(alloc, &tokens[..i]);
+        }
     }
-    Ok(Some(following(alloc, front.as_slice())?))
+    following(alloc, tokens)
 }

@@ -7,9 +7,7 @@ use crate::lines::{from_place, offset_at, token_length, unread_length};
 use crate::syntax::{expected_at, found_at, no_token};
 use kp_base::{Finding, NoMemory, Place, Refusal, Refused};
 use kp_view_excerpt::{Excerpt, excerpt_at, write_fault};
-use kp_view_verilog_faults::{
-    DriverMessage, Expected, NameMessage, ReadingFault, Source, WidthMessage,
-};
+use kp_view_verilog_faults::{DriverMessage, NameMessage, ReadingFault, Source, WidthMessage};
 use kp_vlog::{VModule, VToken, vlex};
 use kp_vread_parse::vparse;
 use kp_vread_rules::{ModuleFault, module_findings};
@@ -73,17 +71,9 @@ fn write_wrong_token(
     let at = offset_at(text, refusal.place);
     let found = found_at(text, tokens, at);
     let excerpt = excerpt_of(text, refusal.place);
-    match expected_at(alloc, text, tokens, at)? {
-        Some(classes) => {
-            let expected = Expected(classes.as_slice());
-            let fault = ReadingFault::Unexpected { found, expected };
-            write_fault(alloc, out, &excerpt, &fault, &fault.help())
-        }
-        None => {
-            let fault = ReadingFault::NoModule(found);
-            write_fault(alloc, out, &excerpt, &fault, &fault.help())
-        }
-    }
+    let expected = expected_at(alloc, tokens, at)?;
+    let fault = ReadingFault::Unexpected { found, expected };
+    write_fault(alloc, out, &excerpt, &fault, &fault.help())
 }
 
 // V3 to V5: the first finding in the module.

@@ -1,3 +1,5 @@
+pub mod Classes
 pub mod Helps
 pub mod Marks
 pub mod Sources
+pub mod inner

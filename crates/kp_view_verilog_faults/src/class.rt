@@ -1,9 +1,11 @@
 // Classes of tokens, and how they are written.
-ghost use Rattle.kp_view_verilog_faults.specs.Marks.{IsRead};
+ghost use Rattle.std.specs.Prelude.{◌≡◌, ◌==◌};
+ghost use Rattle.kp_vlog.specs.Language.{keyword_class, mark_class};
+ghost use Rattle.kp_view_verilog_faults.specs.{Classes.class_of, Marks.IsRead, inner.Plain.number};
 
 use crate::sentence::write_named;
 use kp_view_help::Word;
-use kp_vlog::{Keyword, Mark};
+use kp_vlog::{Keyword, Mark, VKind};
 use std::fmt;
 
 /// A class of tokens: where the grammar allows one of them, it allows each.
@@ -14,8 +16,53 @@ pub enum Class {
     Name,
     Number,
     Literal,
-    /// All operators between two names.
-    Operator,
+}
+
+impl Class {
+    /// The class of a token.
+    pub(crate) fn of(kind: VKind) -> Class
+        ensures { result ≡ class_of kind }
+    {
+        match kind {
+            VKind::Ident => Class::Name,
+            VKind::Keyword(keyword) => Class::Keyword(keyword),
+            VKind::Number(_) => Class::Number,
+            VKind::Literal(_) => Class::Literal,
+            VKind::Mark(mark) => Class::Mark(mark),
+        }
+    }
+}
+
+impl kp_expected::Class for Class {
+    ghost number = { number };
+
+    fn is(self, other: Class) -> bool {
+        match self {
+            Class::Keyword(keyword) => is_keyword(other, keyword),
+            Class::Mark(mark) => is_mark(other, mark),
+            Class::Name => matches!(other, Class::Name),
+            Class::Number => matches!(other, Class::Number),
+            Class::Literal => matches!(other, Class::Literal),
+        }
+    }
+}
+
+fn is_keyword(class: Class, keyword: Keyword) -> bool
+    ensures { result ≡ (number class == keyword_class keyword) }
+{
+    match class {
+        Class::Keyword(k) => k == keyword,
+        _ => false,
+    }
+}
+
+fn is_mark(class: Class, mark: Mark) -> bool
+    ensures { result ≡ (number class == mark_class mark) }
+{
+    match class {
+        Class::Mark(m) => m == mark,
+        _ => false,
+    }
 }
 
 impl fmt::Display for Class {
@@ -26,7 +73,6 @@ impl fmt::Display for Class {
             Class::Name => f.write_str("a name"),
             Class::Number => f.write_str("a number"),
             Class::Literal => f.write_str("a literal such as 8'h1f"),
-            Class::Operator => f.write_str("an operator"),
         }
     }
 }

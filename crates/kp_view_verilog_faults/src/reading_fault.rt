@@ -2,8 +2,8 @@
 ghost use Rattle.std.specs.Prelude.{◌≡◌, option_map};
 ghost use Rattle.kp_view_verilog_faults.specs.Helps.{reading_help, printed};
 
-use crate::class::Class;
 use crate::help::Help;
+use crate::set::Expected;
 use kp_view_help::{FoundToken, Term, Word};
 use std::fmt::{self, Display};
 
@@ -19,41 +19,10 @@ pub enum ReadingFault<'t> {
     // V2
     Unexpected {
         found: FoundToken<'t>,
-        expected: Expected<'t>,
+        expected: Expected,
     },
-    /// The text before the token is too long for a list.
-    NoModule(FoundToken<'t>),
     /// More isn't known.
     Unknown,
-}
-
-/// The classes of tokens with which some module continues at a place; none after the end of a module.
-#[derive(Clone, Copy)]
-pub struct Expected<'t>(pub &'t [Class]);
-
-impl<'t> Display for Expected<'t> {
-    fn fmt<W: fmt::Write>(&self, f: &mut fmt::Formatter<W>) -> fmt::Result {
-        let count = self.0.len();
-        if count == 0 {
-            return f.write_str("the end of the text");
-        }
-        for i in 0..count {
-            f.write_str(separator(i, count))?;
-            self.0[i].fmt(f)?;
-        }
-        Ok(())
-    }
-}
-
-// What is written before the word with this index among so many.
-fn separator(index: usize, count: usize) -> &'static str {
-    if index == 0 {
-        ""
-    } else if index.saturating_add(1) == count {
-        " or "
-    } else {
-        ", "
-    }
 }
 
 impl<'t> ReadingFault<'t> {
@@ -65,7 +34,6 @@ impl<'t> ReadingFault<'t> {
             ReadingFault::OpenComment => "no `*/` closes this comment",
             ReadingFault::NoNumber => "neither a number below 2^64 nor a literal such as 8'h1f",
             ReadingFault::Unexpected { .. } => "expected ",
-            ReadingFault::NoModule(_) => "no module continues with ",
             ReadingFault::Unknown => "this violates a rule (docs/VERILOG.md)",
         }
     }
@@ -77,7 +45,6 @@ impl<'t> Display for ReadingFault<'t> {
         match self {
             ReadingFault::NoToken(byte) => Term::Byte(*byte).fmt(f),
             ReadingFault::LongName(length) => length.fmt(f),
-            ReadingFault::NoModule(found) => found.fmt(f),
             ReadingFault::Unexpected { found, expected } => {
                 expected.fmt(f)?;
                 f.write_str(", found ")?;

@@ -27,7 +27,7 @@ ends rules t known short (suc k) (Nonterminal n ∷ s) = and_then (pick rules t 
 -- each of the symbols has a sentence
 abbrev pub all_end : PlainRules → Tables → (ℕ → Bool) → ℕ → List Plain → Bool
 all_end rules t known short [] = true
-all_end rules t known short (x ∷ s) = ends rules t known short 60 (x ∷ []) && all_end rules t known short s
+all_end rules t known short (x ∷ s) = ends rules t known short 200 (x ∷ []) && all_end rules t known short s
 
 -- An alternative has less work than its name, is empty only if the name may be, and each of its symbols has a sentence.
 abbrev pub body_fits : PlainRules → Tables → Ranks → (ℕ → Bool) → ℕ → ℕ → List Plain → Bool
@@ -82,4 +82,4 @@ pub record IsReadable {C : Type 0} (number : C → ℕ) (rules : PlainRules) (t 
 pub record IsReadableName {C : Type 0} (number : C → ℕ) (rules : PlainRules) (t : Tables) (rank : Ranks) (n : ℕ) : Type 0 where
   pub readable : IsReadable number rules t rank
   pub at_end : among END_OF_TEXT (after_of t n) ≡ true
-  pub has_sentence : ends rules t (known_among number readable.classes) readable.short 60 (Nonterminal n ∷ []) ≡ true
+  pub has_sentence : ends rules t (known_among number readable.classes) readable.short 200 (Nonterminal n ∷ []) ≡ true

@@ -1,0 +1,2 @@
+-- Definitions for private contracts and proofs.
+pub mod Plain
