@@ -50,7 +50,7 @@ fn add_line(
     Ok(())
 }
 
-/// Appends what a register stores.
+/// Appends what the register of a key stores, by the names of the job. The only error is out of memory.
 pub fn add_stored(
     out: &mut Vec<u8>,
     layout: &Layout<'_>,

@@ -1,0 +1,7 @@
+pub mod Delay
+pub mod Times
+pub mod Paths
+pub mod Ends
+pub mod Depths
+pub mod Text
+pub mod inner

@@ -1,0 +1,552 @@
+// The depths as text.
+ghost use Rattle.std.specs.Prelude.{◌≡◌, ◌<◌, ◌≤◌, ◌++◌, length, get_or, decimal, Some, IfOk, OnOk};
+ghost use Rattle.kp_net.specs.Parts.{no_file, no_port, no_reg};
+ghost use Rattle.kp_synth_tables.specs.Keys.{key_at};
+ghost use Rattle.kp_vlog.specs.Canon.{sign, wire};
+ghost use Rattle.kp_depth.specs.Depths.{no_row};
+ghost use Rattle.kp_depth.specs.Paths.{kind_at};
+ghost use Rattle.kp_depth.specs.inner.Named.{AreNames};
+ghost use Rattle.kp_depth.specs.Text as text;
+
+use crate::ends::Holder;
+use crate::stages::{Depths, Path, Row};
+use crate::time::{Input, Time, Times};
+use itoa::Buffer;
+use kp_base::NoMemory;
+use kp_bits::BinOp;
+use kp_core_ports::{Names, add_stored};
+use kp_net::{Kind, Netlist, NodeId};
+use kp_synth_tables::{Key, Layout};
+use std::alloc::Global;
+
+// What the lines of a netlist are written from.
+#[derive(Drop)]
+struct Source<'a> {
+    net: &'a Netlist,
+    layout: &'a Layout<'a>,
+    names: &'a Names,
+    times: &'a Times,
+}
+
+fn add_number(out: &mut Vec<u8>, number: u64) -> Result<(), NoMemory>
+    ensures { OnOk result (out.new.items ≡ out.old.items ++ decimal number) }
+{
+    let mut digits = Buffer::new();
+    out.extend_from_slice(digits.format(number).as_bytes())?;
+    Ok(())
+}
+
+#[tactic(auto, using(std::proofs::Common::append_assoc))]
+fn add_wire(out: &mut Vec<u8>, node: NodeId) -> Result<(), NoMemory>
+    ensures { OnOk result (out.new.items ≡ out.old.items ++ wire node) }
+{
+    out.extend_from_slice(b"n")?;
+    add_number(out, node.0 as u64)
+}
+
+#[tactic(auto, unfolding(crate::specs::Text::hundredths), using(std::proofs::Common::append_assoc))]
+fn add_hundredths(out: &mut Vec<u8>, n: u64) -> Result<(), NoMemory>
+    ensures { OnOk result (out.new.items ≡ out.old.items ++ text.hundredths n) }
+{
+    add_number(out, n / 100)?;
+    out.extend_from_slice(b".")?;
+    add_number(out, n % 100 / 10)?;
+    add_number(out, n % 10)
+}
+
+// Appends a text at the right end of a column.
+#[tactic(auto, using(crate::proofs::Texts::blank_more, std::proofs::Common::append_assoc))]
+fn add_right(out: &mut Vec<u8>, width: usize, piece: &[u8]) -> Result<(), NoMemory>
+    ensures { OnOk result (out.new.items ≡ out.old.items ++ text.at_right width piece.now) }
+{
+    for blanks in 0..width.saturating_sub(piece.len()) {
+        out.push(b' ')?;
+    }
+    out.extend_from_slice(piece)?;
+    Ok(())
+}
+
+#[tactic(auto, using(crate::proofs::Texts::nothing_first))]
+fn add_length(alloc: Global, out: &mut Vec<u8>, n: u64) -> Result<(), NoMemory>
+    ensures { OnOk result (out.new.items ≡ out.old.items ++ text.at_right 9 (text.hundredths n)) }
+{
+    let mut piece = Vec::new(alloc);
+    add_hundredths(&mut piece, n)?;
+    add_right(out, 9, piece.as_slice())
+}
+
+impl Source<'_> {
+    fn key(&self, r: u32) -> Key
+        ensures { result ≡ key_at self.now.layout.now r }
+    {
+        if r < self.layout.key_count() {
+            self.layout.key(r)
+        } else {
+            Key::Full(0)
+        }
+    }
+
+    fn register_name(&self, r: u32) -> &[u8]
+        ensures { result.now ≡ (get_or self.now.net.now.parts.regs r no_reg).name }
+    {
+        match self.net.parts().regs.as_slice().get(r as usize) {
+            Some(reg) => reg.name.bytes(),
+            None => b"",
+        }
+    }
+
+    fn file_name(&self, f: u32) -> &[u8]
+        ensures { result.now ≡ (get_or self.now.net.now.parts.files f no_file).name }
+    {
+        match self.net.parts().files.as_slice().get(f as usize) {
+            Some(file) => file.name.bytes(),
+            None => b"",
+        }
+    }
+
+    fn sample_name(&self, s: u32) -> &[u8]
+        ensures { result.now ≡ (get_or self.now.net.now.parts.samples s no_port).name }
+    {
+        match self.net.parts().samples.as_slice().get(s as usize) {
+            Some(port) => port.name.bytes(),
+            None => b"",
+        }
+    }
+}
+
+// Appends the name of a register and what it holds.
+#[tactic(auto, using(std::proofs::Common::append_assoc))]
+fn add_register(out: &mut Vec<u8>, source: &Source<'_>, r: u32) -> Result<(), NoMemory>
+    requires { AreNames source.now.layout.now source.now.names.now }
+    ensures { OnOk result (out.new.items ≡ out.old.items ++ text.register_text source.now.layout.now source.now.net.now r) }
+{
+    out.extend_from_slice(source.register_name(r))?;
+    out.extend_from_slice(b" (")?;
+    add_stored(out, source.layout, source.names, source.key(r))?;
+    out.extend_from_slice(b")")?;
+    Ok(())
+}
+
+#[tactic(auto, using(std::proofs::Common::append_assoc))]
+fn add_holder(out: &mut Vec<u8>, source: &Source<'_>, holder: Holder) -> Result<(), NoMemory>
+    requires { AreNames source.now.layout.now source.now.names.now }
+    ensures { OnOk result (out.new.items ≡ out.old.items ++ text.holder_text source.now.layout.now source.now.net.now holder) }
+{
+    match holder {
+        Holder::Register(r) => add_register(out, source, r),
+        Holder::File(f) => add_piece(out, source.file_name(f)),
+        Holder::Address(f) => {
+            out.extend_from_slice(b"the address of ")?;
+            add_piece(out, source.file_name(f))
+        }
+    }
+}
+
+fn add_piece(out: &mut Vec<u8>, piece: &[u8]) -> Result<(), NoMemory>
+    ensures { OnOk result (out.new.items ≡ out.old.items ++ piece.now) }
+{
+    out.extend_from_slice(piece)?;
+    Ok(())
+}
+
+fn sign_of(op: BinOp) -> &'static [u8]
+    ensures { result.now ≡ sign op }
+{
+    match op {
+        BinOp::And => b" & ",
+        BinOp::Or => b" | ",
+        BinOp::Xor => b" ^ ",
+        BinOp::Add => b" + ",
+        BinOp::Sub => b" - ",
+        BinOp::Mul => b" * ",
+        BinOp::Eq => b" == ",
+        BinOp::Lt => b" < ",
+        BinOp::Shl => b" << ",
+        BinOp::Shr => b" >> ",
+    }
+}
+
+// Appends what the wire of a node is assigned.
+#[tactic(auto, using(std::proofs::Common::append_assoc))]
+fn add_assigned(out: &mut Vec<u8>, source: &Source<'_>, kind: &Kind) -> Result<(), NoMemory>
+    requires { AreNames source.now.layout.now source.now.names.now }
+    ensures { OnOk result (out.new.items ≡ out.old.items ++ text.assigned source.now.layout.now source.now.net.now kind.now) }
+{
+    match kind {
+        Kind::Const(_) => add_piece(out, b"constant"),
+        Kind::Ext => add_piece(out, b"ext"),
+        Kind::Sample(s) => add_piece(out, source.sample_name(*s)),
+        Kind::Reg(r) => add_register(out, source, *r),
+        Kind::Word(f, a) => {
+            out.extend_from_slice(source.file_name(*f))?;
+            out.extend_from_slice(b"[")?;
+            add_wire(out, *a)?;
+            add_piece(out, b"]")
+        }
+        Kind::Binary(op, a, b) => {
+            add_wire(out, *a)?;
+            out.extend_from_slice(sign_of(*op))?;
+            add_wire(out, *b)
+        }
+        Kind::Mux(test, a, b) => {
+            add_wire(out, *test)?;
+            out.extend_from_slice(b" ? ")?;
+            add_wire(out, *a)?;
+            out.extend_from_slice(b" : ")?;
+            add_wire(out, *b)
+        }
+        Kind::Not(_) | Kind::Concat(_) | Kind::Slice(_, _, _) => add_piece(out, b"wires"),
+    }
+}
+
+#[tactic(auto, using(std::proofs::Common::append_assoc))]
+fn add_wire_line(
+    alloc: Global,
+    out: &mut Vec<u8>,
+    source: &Source<'_>,
+    node: NodeId,
+    arrival: u64,
+) -> Result<(), NoMemory>
+    requires { AreNames source.now.layout.now source.now.names.now }
+    ensures { OnOk result (out.new.items ≡ out.old.items
+        ++ text.wire_line source.now.layout.now source.now.net.now node.0 arrival (kind_at source.now.net.now.nodes node.0)) }
+{
+    add_length(alloc, out, arrival)?;
+    out.extend_from_slice(b"  n")?;
+    add_number(out, node.0 as u64)?;
+    out.extend_from_slice(b" = ")?;
+    match source.net.nodes().get(node.0 as usize) {
+        Some(known) => add_assigned(out, source, &known.kind)?,
+        None => add_piece(out, b"constant")?,
+    }
+    add_piece(out, b"\n")
+}
+
+fn is_listed(within: bool, time: &Time) -> bool
+    ensures { result ≡ text.is_listed within time.now }
+{
+    !within && (time.chain.latest < time.arrival || time.chain.last.is_none())
+}
+
+// Appends the line of a node of a path, if it is listed.
+fn add_step(
+    alloc: Global,
+    out: &mut Vec<u8>,
+    source: &Source<'_>,
+    within: bool,
+    node: NodeId,
+) -> Result<(), NoMemory>
+    requires { AreNames source.now.layout.now source.now.names.now }
+    ensures { OnOk result (out.new.items ≡ out.old.items
+        ++ text.step_text source.now.layout.now source.now.net.now source.now.times.now.all.items within node.0) }
+{
+    let time = source.times.at(node);
+    if is_listed(within, &time) {
+        add_wire_line(alloc, out, source, node, time.arrival)
+    } else {
+        Ok(())
+    }
+}
+
+// Appends the lines of a path, from its first node on.
+#[tactic(auto, using(crate::proofs::Texts::steps_more))]
+fn add_steps(
+    alloc: Global,
+    out: &mut Vec<u8>,
+    source: &Source<'_>,
+    steps: &[Input],
+) -> Result<(), NoMemory>
+    requires { AreNames source.now.layout.now source.now.names.now }
+    ensures { OnOk result (out.new.items ≡ out.old.items
+        ++ text.steps_text source.now.layout.now source.now.net.now source.now.times.now.all.items steps.now) }
+{
+    let count = steps.len();
+    for done in 0..count {
+        let operand = steps[count - 1 - done];
+        add_step(alloc, out, source, operand.within, operand.node)?;
+    }
+    Ok(())
+}
+
+#[tactic(auto, using(std::proofs::Common::append_assoc))]
+fn add_stage(out: &mut Vec<u8>, source: &Source<'_>, k: u32) -> Result<(), NoMemory>
+    ensures { OnOk result (out.new.items ≡ out.old.items ++ text.stage_name source.now.layout.now k) }
+{
+    if k == source.layout.stages() {
+        add_piece(out, b"words")
+    } else {
+        out.extend_from_slice(b"stage ")?;
+        add_number(out, k as u64)
+    }
+}
+
+#[tactic(auto, using(std::proofs::Common::append_assoc))]
+fn add_path_name(
+    out: &mut Vec<u8>,
+    source: &Source<'_>,
+    k: u32,
+    sort: &[u8],
+) -> Result<(), NoMemory>
+    ensures { OnOk result (out.new.items ≡ out.old.items ++ text.path_name source.now.layout.now k sort.now) }
+{
+    out.extend_from_slice(b"\n")?;
+    add_stage(out, source, k)?;
+    add_piece(out, sort)
+}
+
+#[tactic(auto, using(std::proofs::Common::append_assoc))]
+fn add_path_end(out: &mut Vec<u8>, source: &Source<'_>, path: &Path) -> Result<(), NoMemory>
+    requires { AreNames source.now.layout.now source.now.names.now }
+    ensures { OnOk result (out.new.items ≡ out.old.items ++ text.path_end source.now.layout.now source.now.net.now path.now) }
+{
+    add_hundredths(out, path.length)?;
+    out.extend_from_slice(b" to ")?;
+    add_holder(out, source, path.end.holder)?;
+    add_piece(out, b"\n")
+}
+
+#[tactic(auto, using(std::proofs::Common::append_assoc))]
+fn add_path_lines(
+    alloc: Global,
+    out: &mut Vec<u8>,
+    source: &Source<'_>,
+    path: &Path,
+) -> Result<(), NoMemory>
+    requires { AreNames source.now.layout.now source.now.names.now }
+    ensures { OnOk result (out.new.items ≡ out.old.items
+        ++ text.path_lines source.now.layout.now source.now.net.now source.now.times.now.all.items path.now) }
+{
+    add_steps(alloc, out, source, path.steps.as_slice())?;
+    add_step(alloc, out, source, false, path.end.node)
+}
+
+// Appends a path of stage k.
+#[tactic(auto, using(std::proofs::Common::append_assoc))]
+fn add_path(
+    alloc: Global,
+    out: &mut Vec<u8>,
+    source: &Source<'_>,
+    k: u32,
+    sort: &[u8],
+    path: &Path,
+) -> Result<(), NoMemory>
+    requires { AreNames source.now.layout.now source.now.names.now }
+    ensures { OnOk result (out.new.items ≡ out.old.items
+        ++ text.path_text source.now.layout.now source.now.net.now source.now.times.now.all.items k sort.now (Some path.now)) }
+{
+    add_path_name(out, source, k, sort)?;
+    add_path_end(out, source, path)?;
+    add_path_lines(alloc, out, source, path)
+}
+
+fn add_path_of(
+    alloc: Global,
+    out: &mut Vec<u8>,
+    source: &Source<'_>,
+    k: u32,
+    sort: &[u8],
+    path: &Option<Path>,
+) -> Result<(), NoMemory>
+    requires { AreNames source.now.layout.now source.now.names.now }
+    ensures { OnOk result (out.new.items ≡ out.old.items
+        ++ text.path_text source.now.layout.now source.now.net.now source.now.times.now.all.items k sort.now path.now) }
+{
+    match path {
+        Some(path) => add_path(alloc, out, source, k, sort, path),
+        None => Ok(()),
+    }
+}
+
+#[tactic(auto, using(std::proofs::Common::append_assoc))]
+fn add_paths(
+    alloc: Global,
+    out: &mut Vec<u8>,
+    source: &Source<'_>,
+    k: u32,
+    row: &Row,
+) -> Result<(), NoMemory>
+    requires { AreNames source.now.layout.now source.now.names.now }
+    ensures { OnOk result (out.new.items ≡ out.old.items
+        ++ text.paths_text source.now.layout.now source.now.net.now source.now.times.now.all.items k row.now) }
+{
+    add_path_of(alloc, out, source, k, b", data: ", &row.to_data)?;
+    add_path_of(alloc, out, source, k, b", control: ", &row.to_control)
+}
+
+fn add_length_of(alloc: Global, out: &mut Vec<u8>, path: &Option<Path>) -> Result<(), NoMemory>
+    ensures { OnOk result (out.new.items ≡ out.old.items ++ text.at_right 9 (text.length_text path.now)) }
+{
+    match path {
+        Some(path) => add_length(alloc, out, path.length),
+        None => add_right(out, 9, b"-"),
+    }
+}
+
+fn add_row_name(out: &mut Vec<u8>, stages: u32, k: u32) -> Result<(), NoMemory>
+    ensures { OnOk result (out.new.items ≡ out.old.items ++ text.at_right 5 (text.row_name stages k)) }
+{
+    if k == stages {
+        add_right(out, 5, b"words")
+    } else {
+        let mut digits = Buffer::new();
+        add_right(out, 5, digits.format(k).as_bytes())
+    }
+}
+
+// Appends the row of stage k.
+#[tactic(auto, using(std::proofs::Common::append_assoc))]
+fn add_row(alloc: Global, out: &mut Vec<u8>, stages: u32, k: u32, row: &Row) -> Result<(), NoMemory>
+    ensures { OnOk result (out.new.items ≡ out.old.items ++ text.row_text stages k row.now) }
+{
+    let mut digits = Buffer::new();
+    add_row_name(out, stages, k)?;
+    add_length_of(alloc, out, &row.to_data)?;
+    add_length_of(alloc, out, &row.to_control)?;
+    add_right(out, 12, digits.format(row.bits).as_bytes())?;
+    add_piece(out, b"\n")
+}
+
+fn length_of(path: &Option<Path>) -> u64
+    ensures { result ≡ text.length_of path.now }
+{
+    match path {
+        Some(path) => path.length,
+        None => 0,
+    }
+}
+
+fn longest_of(rows: &[Row]) -> u64
+    ensures { result ≡ text.longest_of rows.now }
+{
+    let mut longest: u64 = 0;
+    for row in rows {
+        longest = longest.max(length_of(&row.to_data).max(length_of(&row.to_control)));
+    }
+    longest
+}
+
+fn name_of<'a>(layout: &'a Layout<'_>) -> &'a [u8]
+    ensures { result.now ≡ layout.now.name.name }
+{
+    layout.job().name.name.bytes()
+}
+
+#[tactic(auto, using(std::proofs::Common::append_assoc))]
+fn add_title(out: &mut Vec<u8>, name: &[u8], stages: u32) -> Result<(), NoMemory>
+    ensures { OnOk result (out.new.items ≡ out.old.items ++ text.title_text name.now stages) }
+{
+    out.extend_from_slice(name)?;
+    out.extend_from_slice(b": ")?;
+    add_number(out, stages as u64)?;
+    add_piece(out, b" stages")
+}
+
+#[tactic(auto, using(std::proofs::Common::append_assoc))]
+fn add_head(out: &mut Vec<u8>, name: &[u8], stages: u32, longest: u64) -> Result<(), NoMemory>
+    ensures { OnOk result (out.new.items ≡ out.old.items ++ text.head_text name.now stages longest) }
+{
+    add_title(out, name, stages)?;
+    add_columns(out, longest)
+}
+
+#[tactic(auto, using(std::proofs::Common::append_assoc))]
+fn add_columns(out: &mut Vec<u8>, longest: u64) -> Result<(), NoMemory>
+    ensures { OnOk result (out.new.items ≡ out.old.items ++ text.columns_text longest) }
+{
+    add_longest_head(out)?;
+    add_longest(out, longest)
+}
+
+#[tactic(auto, unfolding(crate::specs::Text::longest_head))]
+fn add_longest_head(out: &mut Vec<u8>) -> Result<(), NoMemory>
+    ensures { OnOk result (out.new.items ≡ out.old.items ++ text.longest_head) }
+{
+    out.extend_from_slice(b", longest path ")?;
+    Ok(())
+}
+
+#[tactic(auto, using(std::proofs::Common::append_assoc))]
+fn add_longest(out: &mut Vec<u8>, longest: u64) -> Result<(), NoMemory>
+    ensures { OnOk result (out.new.items ≡ out.old.items ++ (text.hundredths longest ++ text.table_head)) }
+{
+    add_hundredths(out, longest)?;
+    add_table_head(out)
+}
+
+#[tactic(auto, unfolding(crate::specs::Text::table_head))]
+fn add_table_head(out: &mut Vec<u8>) -> Result<(), NoMemory>
+    ensures { OnOk result (out.new.items ≡ out.old.items ++ text.table_head) }
+{
+    out.extend_from_slice(b"\n\nstage     data  control  bits after\n")?;
+    Ok(())
+}
+
+fn add_rows(alloc: Global, out: &mut Vec<u8>, stages: u32, rows: &[Row]) -> Result<(), NoMemory>
+    requires { length rows.now ≤ 4096 }
+    ensures { OnOk result (out.new.items ≡ out.old.items ++ text.texts_below (text.row_text stages) rows.now (length rows.now)) }
+{
+    for k in 0..rows.len() {
+        add_row(alloc, out, stages, k as u32, &rows[k])?;
+    }
+    Ok(())
+}
+
+fn add_paths_at(
+    alloc: Global,
+    out: &mut Vec<u8>,
+    source: &Source<'_>,
+    rows: &[Row],
+    k: usize,
+) -> Result<(), NoMemory>
+    requires few { k ≤ 4096 }
+    requires inside { k < length rows.now }
+    requires names { AreNames source.now.layout.now source.now.names.now }
+    ensures { OnOk result (out.new.items ≡ out.old.items
+        ++ text.paths_text source.now.layout.now source.now.net.now source.now.times.now.all.items k (get_or rows.now k no_row)) }
+{
+    add_paths(alloc, out, source, k as u32, &rows[k])
+}
+
+#[tactic(auto, using(std::proofs::Common::append_assoc))]
+fn add_all_paths(
+    alloc: Global,
+    out: &mut Vec<u8>,
+    source: &Source<'_>,
+    rows: &[Row],
+) -> Result<(), NoMemory>
+    requires few { length rows.now ≤ 4096 }
+    requires names { AreNames source.now.layout.now source.now.names.now }
+    ensures { OnOk result (out.new.items ≡ out.old.items
+        ++ text.texts_below (text.paths_text source.now.layout.now source.now.net.now source.now.times.now.all.items) rows.now (length rows.now)) }
+{
+    for k in 0..rows.len() {
+        add_paths_at(alloc, out, source, rows, k)?;
+    }
+    Ok(())
+}
+
+/// The text of the depths of a netlist of a design. The only error is out of memory.
+#[tactic(auto, unfolding(crate::specs::Text::depth_text), using(std::proofs::Common::append_assoc))]
+pub fn depth_text(
+    alloc: Global,
+    net: &Netlist,
+    layout: &Layout<'_>,
+    depths: &Depths,
+) -> Result<Vec<u8>, NoMemory>
+    requires { length depths.now.rows.items ≤ 4096 }
+    ensures { IfOk result (λ all. all.items ≡ text.depth_text layout.now net.now depths.now) }
+{
+    let names = Names::of(alloc, layout.job().decls.as_slice())?;
+    let source = Source {
+        net,
+        layout,
+        names: &names,
+        times: &depths.times,
+    };
+    let rows = depths.rows.as_slice();
+    let mut out = Vec::new(alloc);
+    add_head(&mut out, name_of(layout), layout.stages(), longest_of(rows))?;
+    add_rows(alloc, &mut out, layout.stages(), rows)?;
+    add_all_paths(alloc, &mut out, &source, rows)?;
+    Ok(out)
+}
