@@ -1,0 +1,7 @@
+use Rattle.std.proofs.Common.{◌≡◌, ◌+◌, ◌≤◌, drop}
+use Rattle.kp_machine.specs.Slots.{targets_of, number_of}
+use Rattle.kp_until.proofs.part.number_of.Given as goal
+
+abbrev pub invariant-loop-decl : goal.invariant-loop-decl
+invariant-loop-decl l =
+    (l.t + number_of (targets_of (drop l.decl-index l.decls)) l.name ≡ number_of (targets_of l.decls) l.name) × (l.t ≤ l.decl-index)

@@ -1,0 +1,4 @@
+pub mod Parts
+pub mod Untils
+pub mod Expected
+pub mod inner
