@@ -1,0 +1,4 @@
+pub mod Trails
+pub mod Reaching
+pub mod Hunting
+pub mod Endings

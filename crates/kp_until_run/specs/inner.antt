@@ -1,0 +1,3 @@
+-- For private contracts and proofs only: a reader need not trust it.
+pub mod Hunting
+pub mod Ends
