@@ -7,6 +7,7 @@ use Rattle.kp_diagram.specs.Claims.{Counts, HasReasons, Holds, IsSpentFor, Shows
 use Rattle.kp_diagram.specs.Diagram.{Loss, retired_numbers}
 use Rattle.kp_machine.specs.Machine.{inputs_from, machine_of, start_hints, state_of}
 use Rattle.kp_diagram_text.specs.Figures.{Figure}
+use Rattle.kp_pipeline.specs.Machine.{State}
 
 -- The figure shows a run of a machine, from a start state by target and address and start values of the hints, under these inputs.
 --
@@ -17,7 +18,7 @@ use Rattle.kp_diagram_text.specs.Figures.{Figure}
 -- The account adds up: the instructions that retired and all losses are the cycles of the run (`total`). Each cycle is counted under its
 -- cause: there is a list of what the cycles were spent for (`spent`, `many`) in which each cycle has its cause in the machine (`causes`), and the
 -- account counts its entries (`counted`).
-pub record ShowsPipe (m : Machine) (s : ℕ → ℕ → ℕ) (hints : ℕ → ℕ) (ins : List Inputs) (f : Figure) : Type 0 where
+pub record ShowsPipe (m : Machine) (s : State) (hints : ℕ → ℕ) (ins : List Inputs) (f : Figure) : Type 0 where
   pub stages : f.stages ≡ m.stages
   pub cycles : f.cycles ≡ length ins
   pub cells : (i T k : ℕ) → Shows f.fetches i T k → Holds m.stages (pipe m s hints ins).rows i T k

@@ -8,13 +8,14 @@ use Rattle.kp_machine.specs.{Machine.machine_of, Machine.state_of, Slots.targets
 use Rattle.kp_implements.specs.Legal.{IsLegalFrom}
 use Rattle.kp_frontend.specs.Judging.{IsSentenceOf}
 use Rattle.kp_described.specs.Sections.{IsWith, HasSections}
+use Rattle.kp_pipeline.specs.Machine.{State}
 
 -- the values of registers and files at the start of a job, with what its image section puts there
 abbrev pub start_state : Job → ℕ → ℕ → ℕ
 start_state job = state_of job (start_of job)
 
 -- each value is one of its register's or file's width
-abbrev pub Fits : Job → (ℕ → ℕ → ℕ) → Type 0
+abbrev pub Fits : Job → State → Type 0
 Fits job s = (t a : ℕ) → t < length (targets_of job.decls) → s t a < 2 ^ (target job t).width
 
 -- no entry of an image section has this name
@@ -30,7 +31,7 @@ Retires n ins trace =
 
 -- A PROCESSOR: each text that begins with the head describes the job, with some sections; each legal run of it, from values that are ready, follows the
 -- instruction set; and a run that moves retires instructions.
-pub record IsProcessor (head : List ℕ) (base : Job) (Ready : (ℕ → ℕ → ℕ) → Type 0) (Follows : (ℕ → ℕ → ℕ) → Trace → Type 0) : Type 0 where
+pub record IsProcessor (head : List ℕ) (base : Job) (Ready : State → Type 0) (Follows : State → Trace → Type 0) : Type 0 where
   pub text : (input : List ℕ) (lexed : Lexed) (job : Job) → IsWith head input → IsSentenceOf input lexed job → HasSections base job
-  pub runs : (job : Job) (s : ℕ → ℕ → ℕ) (ins : List Inputs) (trace : Trace) → HasSections base job → Fits job s → IsLegalFrom job s ins trace → Ready s → Follows s trace
+  pub runs : (job : Job) (s : State) (ins : List Inputs) (trace : Trace) → HasSections base job → Fits job s → IsLegalFrom job s ins trace → Ready s → Follows s trace
   pub retires : (job : Job) (ins : List Inputs) (trace : Trace) → HasSections base job → Moves (machine_of job) ins trace → Retires base.stages.value ins trace

@@ -1,6 +1,7 @@
 -- THE INSTRUCTION SET of the accumulator machine, as a table: what each of its six instructions does to the program counter, the accumulator and the
 -- memory.
 use Rattle.std.specs.Prelude.{◌≡◌, ℕ, suc, ◌+◌, ◌-◌, ◌/◌, ◌%◌, ◌^◌, not, ◌==◌, if◌then◌else◌}
+use Rattle.kp_pipeline.specs.Machine.{State}
 
 -- the address of the next instruction, the accumulator, and the words of the program and of the memory by number
 pub record Cpu : Type 0 where
@@ -47,7 +48,7 @@ pub data Executes (c : Cpu) (f : Fields) : Cpu → Type 0 where
   jump_if : f.op ≡ 5 → Executes c f (to c (if not (c.acc == 0) then f.ad else next c))
 
 -- the program counter, the accumulator, the program and the memory in a state of the machine: the targets PC, ACC, IM and DM have the numbers 0 to 3
-abbrev pub cpu_of : (ℕ → ℕ → ℕ) → Cpu
+abbrev pub cpu_of : State → Cpu
 cpu_of s = record { pc = s 0 0; acc = s 1 0; code = λ n. s 2 n; mem = λ n. s 3 n }
 
 -- A RUN of n instructions by the table, each of which is the word of the program at the program counter.

@@ -9,6 +9,7 @@ use Rattle.kp_stage.specs.declared.start.Start.{Start}
 use Rattle.kp_pipeline.specs.{Machine.Machine, Machine.Tree, Pipeline.Inputs, Rows.Trace, Rows.pipe, Rows.taken, Sequential.seq}
 use Rattle.kp_machine.specs.Slots.{Slot, targets_of, pipes_of, hints_of, sample_stages, number_of, is_register, result_to}
 use Rattle.kp_machine.specs.Trees.{entered, tree_of}
+use Rattle.kp_pipeline.specs.Machine.{Samples}
 
 -- What stage k does, given the values of the samples and of the pipes.
 unfoldable pub stage_tree : Job → ℕ → (ℕ → ℕ) → (ℕ → ℕ) → Tree
@@ -136,7 +137,7 @@ inputs_from job cycle zero = []
 inputs_from job cycle (suc n) = inputs_at job cycle ∷ inputs_from job (suc cycle) n
 
 -- The state of the sequential machine of a job after i instructions, where instruction j has the sample values `given j`.
-abbrev pub sequential : Job → (ℕ → ℕ → ℕ) → ℕ → ℕ → ℕ → ℕ
+abbrev pub sequential : Job → Samples → ℕ → ℕ → ℕ → ℕ
 sequential job given i = seq (machine_of job) (state_of job (start_of job)) given i
 
 -- The run of the pipelined machine of a job with these inputs.

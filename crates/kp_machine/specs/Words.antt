@@ -4,6 +4,7 @@ use Rattle.kp_bits.specs.Word.{Word}
 use Rattle.kp_ast.specs.declared.tree.Job.{Job}
 use Rattle.kp_pipeline.specs.Sequential.{exec}
 use Rattle.kp_machine.specs.{Machine.machine_of, Machine.values_in, Slots.Slot, Slots.targets_of}
+use Rattle.kp_pipeline.specs.Machine.{State}
 
 -- the default for a target that doesn't exist
 abbrev pub no_slot : Slot
@@ -22,11 +23,11 @@ abbrev pub state_in : List (List ℕ) → ℕ → ℕ → ℕ
 state_in words t a = slice_index (get_or words t []) a
 
 -- the state after one instruction with an input vector
-abbrev pub after_one : Job → (ℕ → ℕ → ℕ) → List Word → (ℕ → ℕ → ℕ)
+abbrev pub after_one : Job → State → List Word → State
 after_one job s row = exec (machine_of job) s (values_in row)
 
 -- the state of the machine of a job after a step for each of these input vectors
-abbrev pub after_rows : Job → (ℕ → ℕ → ℕ) → List (List Word) → (ℕ → ℕ → ℕ)
+abbrev pub after_rows : Job → State → List (List Word) → State
 after_rows job s [] = s
 after_rows job s (row ∷ rows) = after_rows job (after_one job s row) rows
 

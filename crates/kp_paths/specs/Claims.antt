@@ -7,6 +7,7 @@ use Rattle.kp_pipeline.specs.Rows.{state_after}
 use Rattle.kp_machine.specs.Machine.{machine_of}
 use Rattle.kp_paths.specs.declared.cell.Cell.TheVariants.{Reads, Empty, Wait, Guess, Bypass}
 use Rattle.kp_paths.specs.Table.{cell_at, target_read}
+use Rattle.kp_pipeline.specs.Machine.{State}
 
 -- Whatever stage i reads and takes of samples, it sets the result of target t; and it never sets it.
 abbrev pub SetsAlways : Machine → ℕ → ℕ → Type 0
@@ -26,19 +27,19 @@ abbrev pub HasNoValue : Machine → ℕ → ℕ → Type 0
 HasNoValue m t j = (intent_known m j t ≡ false) ⊎ ((j ≢ m.write_stage t) × ((i : ℕ) → i ≤ j → SetsNever m i t))
 
 -- The state after T cycles from a start state and hints, with these inputs.
-abbrev pub state_at : Machine → (ℕ → ℕ → ℕ) → (ℕ → ℕ) → List Inputs → ℕ → PipelineState
+abbrev pub state_at : Machine → State → (ℕ → ℕ) → List Inputs → ℕ → PipelineState
 state_at m s hints ins T = state_after m (pipeline_start s hints) ins T
 
 -- In each state of each run, for a read of target t at address a in stage k whose nearest hit is stage j:
 pub record ArePaths (job : Job) : Type 0 where
   -- if the cell is `bypass`, the read has its value once stage j isn't stalled, so it meets no data hazard
-  pub bypass : (s : ℕ → ℕ → ℕ) (hints : ℕ → ℕ) (ins : List Inputs) (T : ℕ) (inputs : Inputs) (r : ReadStmt) (k j a : ℕ)
+  pub bypass : (s : State) (hints : ℕ → ℕ) (ins : List Inputs) (T : ℕ) (inputs : Inputs) (r : ReadStmt) (k j a : ℕ)
       → cell_at job r k j ≡ Bypass
       → IsNearestHit (machine_of job) (state_at (machine_of job) s hints ins T) k (target_read job r) a j
       → stall (machine_of job) (state_at (machine_of job) s hints ins T) inputs j ≡ false
       → (v : ℕ) × ((above (machine_of job) (state_at (machine_of job) s hints ins T) inputs k).truth (target_read job r) a ≡ Some v)
   -- if it is `wait` or `guess`, the read has no value
-  pub unmet : (s : ℕ → ℕ → ℕ) (hints : ℕ → ℕ) (ins : List Inputs) (T : ℕ) (inputs : Inputs) (r : ReadStmt) (k j a : ℕ)
+  pub unmet : (s : State) (hints : ℕ → ℕ) (ins : List Inputs) (T : ℕ) (inputs : Inputs) (r : ReadStmt) (k j a : ℕ)
       → (cell_at job r k j ≡ Wait) ⊎ (cell_at job r k j ≡ Guess)
       → IsNearestHit (machine_of job) (state_at (machine_of job) s hints ins T) k (target_read job r) a j
       → (above (machine_of job) (state_at (machine_of job) s hints ins T) inputs k).truth (target_read job r) a ≡ None

@@ -1,13 +1,14 @@
 use Rattle.std.specs.Prelude.{◌≡◌, ℕ, zero, suc, ◌+◌, ◌-◌, ◌*◌, ◌<◌, ◌≤◌, Bool, true, false, not, ◌&&◌, List, [], ◌∷◌, length}
 use Rattle.kp_pipeline.specs.{Machine.Machine, Sequential.PendingGuess, Sequential.seq, Pipeline.Inputs}
 use Rattle.kp_pipeline.specs.Rows.{Row, Trace, bit, passed, one_if, taken}
+use Rattle.kp_pipeline.specs.Machine.{State}
 
 -- CLAIMS ON TRACES.
 
 -- LEGAL: after any number of cycles, each target that has a result has its value in the sequential machine after n
 -- instructions, where n is the number of update enables of its write stage so far; and each other target has its
 -- start value.
-abbrev pub Legal : Machine → (ℕ → ℕ → ℕ) → List Inputs → Trace → Type 0
+abbrev pub Legal : Machine → State → List Inputs → Trace → Type 0
 Legal m s ins trace =
     (T : ℕ) → T ≤ length trace.rows → (t a : ℕ)
     → (m.has_result t ≡ true → trace.visible T t a ≡ seq m s (taken m ins trace.rows) (passed trace.rows (m.write_stage t) T) t a)

@@ -1,6 +1,7 @@
 use Rattle.std.specs.Prelude.{◌≡◌, ℕ, zero, suc, ◌+◌, Bool, true, false, cond, eqb, leb, List, [], ◌∷◌, length, Option, Some, None}
 use Rattle.kp_pipeline.specs.{Machine.Tree, Machine.Done, Machine.Ask, Machine.Guess, Machine.Machine, Pipeline.Inputs, Rows.Row, Rows.pipe, Rows.counts}
 use Rattle.kp_pipeline.specs.Accepted.{Accepted}
+use Rattle.kp_pipeline.specs.Machine.{State}
 
 -- SMALL MACHINES with their runs worked out by hand. Values have no width here.
 
@@ -59,7 +60,7 @@ counted n rows T zero k = []
 counted n rows T (suc d) k = counts n rows T k ∷ counted n rows T d (suc k)
 
 -- An accepted machine whose run has these rows, and these counts after them.
-pub record RunsAs (m : Machine) (s : ℕ → ℕ → ℕ) (hints : ℕ → ℕ) (ins : List Inputs) (rows : List Row) (numbers : List ℕ)
+pub record RunsAs (m : Machine) (s : State) (hints : ℕ → ℕ) (ins : List Inputs) (rows : List Row) (numbers : List ℕ)
     : Type 0 where
   pub accepted : Accepted m
   pub shown : (pipe m s hints ins).rows ≡ rows

@@ -4,6 +4,18 @@ use Rattle.std.specs.Prelude.{ℕ, Bool, Option}
 -- (visible registers and files), pipes, samples and hints are numbered, and values are natural numbers. A register is
 -- read and written at address 0. A target has at most one result, so a result has the number of its target.
 
+-- The state that is visible: the value of each target at each address.
+abbrev pub State : Type 0
+State = ℕ → ℕ → ℕ
+
+-- The values of the samples: by instruction, and by sample.
+abbrev pub Samples : Type 0
+Samples = ℕ → ℕ → ℕ
+
+-- The contents of the stages: which instruction each one holds, if any.
+abbrev pub Holds : Type 0
+Holds = ℕ → Option ℕ
+
 -- What one stage does: it reads, one read after another, and ends with its effects. What follows a read depends on
 -- the value that was read. A read whose condition is false is omitted.
 pub data Tree : Type 0 where

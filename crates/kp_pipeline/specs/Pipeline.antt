@@ -1,6 +1,6 @@
 use Rattle.std.specs.Prelude.{ℕ, zero, suc, ◌-◌, Bool, true, false, cond, not, ◌&&◌, ◌||◌, eqb, leb, List, [], ◌∷◌, ◌++◌, Option, Some, None, unwrap_or}
 use Rattle.std.specs.List.{filter}
-use Rattle.kp_pipeline.specs.Machine.{Machine}
+use Rattle.kp_pipeline.specs.Machine.{Machine, State}
 use Rattle.kp_pipeline.specs.Sequential.{Instruction, PendingGuess, StageOutcome, run, after_stage, fresh_instruction, is_written, intends}
 
 -- THE PIPELINED MACHINE: its state, and one cycle.
@@ -14,7 +14,7 @@ pub record StageState : Type 0 where
 
 pub record PipelineState : Type 0 where
   -- the visible registers and files: by target and address
-  pub visible : ℕ → ℕ → ℕ
+  pub visible : State
   pub hints : ℕ → ℕ
   pub stage : ℕ → StageState
 
@@ -166,5 +166,5 @@ start_stage zero = stage_zero
 start_stage (suc k) = empty_stage
 
 -- The pipeline at cycle 0: the visible state and the hints have their start values, and only stage 0 is full.
-abbrev pub pipeline_start : (ℕ → ℕ → ℕ) → (ℕ → ℕ) → PipelineState
+abbrev pub pipeline_start : State → (ℕ → ℕ) → PipelineState
 pipeline_start s hints = record { visible = s; hints = hints; stage = start_stage }

@@ -1,6 +1,6 @@
 use Rattle.std.specs.Prelude.{◌≡◌, ℕ, suc, ◌<◌, ◌≤◌, Bool, true, false, cond, not, ◌&&◌, ◌||◌, eqb, List, [], ◌∷◌, Option, Some, None}
 use Rattle.std.specs.List.{AllByRecursion}
-use Rattle.kp_pipeline.specs.Machine.{Tree, Done, Ask, Guess, Machine}
+use Rattle.kp_pipeline.specs.Machine.{Tree, Done, Ask, Guess, Machine, Holds, Samples, State}
 use Rattle.kp_pipeline.specs.Sequential.{PendingGuess, instruction_before, seq}
 use Rattle.kp_pipeline.specs.Pipeline.{Inputs, PipelineState, cycle, outcome, pipeline_start, ue}
 use Rattle.kp_pipeline.specs.Rows.{Row, bit, count_after, row}
@@ -9,12 +9,12 @@ use Rattle.kp_pipeline.specs.SpeculativeTimeline.{hints_after, moves_on, next_ho
 -- THE RIGHT (CORRECT) PATH: the stages from which upward no guess is wrong. What they do is determined by the sequential machine.
 
 -- A guess is right if it is the register's value in the sequential state before the instruction.
-abbrev pub IsRightIn : (ℕ → ℕ → ℕ) → PendingGuess → Type 0
+abbrev pub IsRightIn : State → PendingGuess → Type 0
 IsRightIn s p = p.value ≡ s p.register 0
 
 -- The guesses that a stage makes in this cycle are right, up to the first read that isn't met: if a guessed read has
 -- no value yet, the guess from the present hints is the register's value.
-abbrev pub MakesRightGuesses : (ℕ → ℕ → Bool) → (ℕ → ℕ) → (ℕ → ℕ → ℕ) → Tree → Type 0
+abbrev pub MakesRightGuesses : (ℕ → ℕ → Bool) → (ℕ → ℕ) → State → Tree → Type 0
 MakesRightGuesses ready hints s (Done puts sets aims) = Unit {0}
 MakesRightGuesses ready hints s (Ask t a rest) = ready t a ≡ true → MakesRightGuesses ready hints s (rest (s t a))
 MakesRightGuesses ready hints s (Guess t guess rest) =
@@ -25,7 +25,7 @@ pub record Moment : Type 0 where
   pub state : PipelineState
   pub count : ℕ → ℕ
 
-abbrev pub first_moment : (ℕ → ℕ → ℕ) → (ℕ → ℕ) → Moment
+abbrev pub first_moment : State → (ℕ → ℕ) → Moment
 first_moment s hints = record { state = pipeline_start s hints; count = λ k. 0 }
 
 -- The moment after a cycle: the counts are those of the rows.
@@ -37,53 +37,53 @@ abbrev pub held : Moment → ℕ → Option ℕ
 held now k = cond (now.state.stage k).full (Some (now.count k)) None
 
 -- The pending guesses of stage k are right, if it is full.
-abbrev pub HasRightGuesses : Machine → (ℕ → ℕ → ℕ) → (ℕ → ℕ → ℕ) → Moment → ℕ → Type 0
+abbrev pub HasRightGuesses : Machine → State → Samples → Moment → ℕ → Type 0
 HasRightGuesses m s given now k =
     (now.state.stage k).full ≡ true → AllByRecursion (IsRightIn (seq m s given (now.count k))) (now.state.stage k).pending
 
 -- And so are the guesses that it makes in this cycle.
-abbrev pub GuessesRight : Machine → (ℕ → ℕ → ℕ) → (ℕ → ℕ → ℕ) → Moment → Inputs → ℕ → Type 0
+abbrev pub GuessesRight : Machine → State → Samples → Moment → Inputs → ℕ → Type 0
 GuessesRight m s given now inputs k =
     (now.state.stage k).full ≡ true
     → MakesRightGuesses (ready_above m s given (held now) inputs k).ready now.state.hints (seq m s given (now.count k))
     (m.body k inputs.samples (instruction_before m s given (now.count k) k).pipes)
 
 -- The right path reaches down to stage k: from there up no guess is wrong.
-abbrev pub IsRightFrom : Machine → (ℕ → ℕ → ℕ) → (ℕ → ℕ → ℕ) → Moment → Inputs → ℕ → Type 0
+abbrev pub IsRightFrom : Machine → State → Samples → Moment → Inputs → ℕ → Type 0
 IsRightFrom m s given now inputs k =
     (j : ℕ) → k ≤ j → j < m.stages → HasRightGuesses m s given now j × GuessesRight m s given now inputs j
 
 -- A weaker condition, without the guesses that a stage makes while it waits: from stage k up the pending guesses are
 -- right, and so are those that a stage carries along as it moves on.
-abbrev pub KeepsRightFrom : Machine → (ℕ → ℕ → ℕ) → (ℕ → ℕ → ℕ) → Moment → Inputs → ℕ → Type 0
+abbrev pub KeepsRightFrom : Machine → State → Samples → Moment → Inputs → ℕ → Type 0
 KeepsRightFrom m s given now inputs k =
     (j : ℕ) → k ≤ j → j < m.stages
     → HasRightGuesses m s given now j
     × (ue m now.state inputs j ≡ true → AllByRecursion (IsRightIn (seq m s given (now.count j))) (outcome m now.state inputs j).guesses)
 
 -- A guess is found wrong in this cycle: its register can be read, and has another value.
-abbrev pub some_shows_wrong : (ℕ → ℕ → Bool) → (ℕ → ℕ → ℕ) → List PendingGuess → Bool
+abbrev pub some_shows_wrong : (ℕ → ℕ → Bool) → State → List PendingGuess → Bool
 some_shows_wrong ready s [] = false
 some_shows_wrong ready s (p ∷ ps) = (ready p.register 0 && not (eqb (s p.register 0) p.value)) || some_shows_wrong ready s ps
 
-abbrev pub shows_wrong : Machine → (ℕ → ℕ → ℕ) → (ℕ → ℕ → ℕ) → Moment → Inputs → ℕ → Bool
+abbrev pub shows_wrong : Machine → State → Samples → Moment → Inputs → ℕ → Bool
 shows_wrong m s given now inputs k =
     some_shows_wrong (ready_above m s given (held now) inputs k).ready (seq m s given (now.count k)) (now.state.stage k).pending
 
 -- Some read of the instruction on s can't be had yet, guessed reads included.
-abbrev pub some_missing : (ℕ → ℕ → Bool) → (ℕ → ℕ → ℕ) → Tree → Bool
+abbrev pub some_missing : (ℕ → ℕ → Bool) → State → Tree → Bool
 some_missing ready s (Done puts sets aims) = false
 some_missing ready s (Ask t a rest) = not (ready t a) || some_missing ready s (rest (s t a))
 some_missing ready s (Guess t guess rest) = not (ready t 0) || some_missing ready s (rest (s t 0))
 
 -- Stage k would wait in this cycle if it guessed nothing.
-abbrev pub waits_unguessed : Machine → (ℕ → ℕ → ℕ) → (ℕ → ℕ → ℕ) → Moment → Inputs → ℕ → Bool
+abbrev pub waits_unguessed : Machine → State → Samples → Moment → Inputs → ℕ → Bool
 waits_unguessed m s given now inputs k =
     some_missing (ready_above m s given (held now) inputs k).ready (seq m s given (now.count k))
     (m.body k inputs.samples (instruction_before m s given (now.count k) k).pipes)
 
 -- WHAT A CYCLE WAITS FOR, and nothing more. Here `r` is the row.
-pub record WaitsWhereItMust (m : Machine) (s given : ℕ → ℕ → ℕ) (now : Moment) (i : Inputs) (r : Row) : Type 0 where
+pub record WaitsWhereItMust (m : Machine) (s : State) (given : Samples) (now : Moment) (i : Inputs) (r : Row) : Type 0 where
   -- On the right path a stage moves on exactly where the timeline, in which a guessed read never waits, moves it on,
   -- and it isn't squashed. Correct guesses cost nothing, and nothing in lower stages affects it.
   pub moves : (k : ℕ) → k < m.stages → IsRightFrom m s given now i k → bit r.ue k ≡ moves_on m s given (held now) i k
@@ -117,7 +117,7 @@ pub record WaitsWhereItMust (m : Machine) (s given : ℕ → ℕ → ℕ) (now :
       → (j : ℕ) → j < m.stages → HasRightGuesses m s given (next_moment m now i) j
 
 -- In each cycle of the run from this moment on, with these rows.
-abbrev pub WaitsOnlyWhereItMust : Machine → (ℕ → ℕ → ℕ) → (ℕ → ℕ → ℕ) → Moment → List Inputs → List Row → Type 0
+abbrev pub WaitsOnlyWhereItMust : Machine → State → Samples → Moment → List Inputs → List Row → Type 0
 WaitsOnlyWhereItMust m s given now [] rows = Unit {0}
 WaitsOnlyWhereItMust m s given now (i ∷ ins) [] = ⊥
 WaitsOnlyWhereItMust m s given now (i ∷ ins) (r ∷ rows) =
@@ -125,7 +125,7 @@ WaitsOnlyWhereItMust m s given now (i ∷ ins) (r ∷ rows) =
 
 -- In none of these cycles is a wrong guess made. Stage k holds instruction n of the timeline, which carries the hints
 -- along too: so this speaks of the machine, its inputs and the samples that instructions take, and of no pipeline.
-abbrev pub NoWrongGuess : Machine → (ℕ → ℕ → ℕ) → (ℕ → ℕ → ℕ) → (ℕ → ℕ) → (ℕ → Option ℕ) → List Inputs → Type 0
+abbrev pub NoWrongGuess : Machine → State → Samples → (ℕ → ℕ) → Holds → List Inputs → Type 0
 NoWrongGuess m s given hints hold [] = Unit {0}
 NoWrongGuess m s given hints hold (i ∷ ins) =
     ((k n : ℕ) → k < m.stages → hold k ≡ Some n

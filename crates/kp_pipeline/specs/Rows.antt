@@ -1,5 +1,6 @@
 use Rattle.std.specs.Prelude.{ℕ, zero, suc, ◌+◌, ◌-◌, min, Bool, true, false, cond, ◌&&◌, eqb, leb, List, [], ◌∷◌}
 use Rattle.kp_pipeline.specs.{Machine.Machine, Pipeline.PipelineState, Pipeline.Inputs, Pipeline.back, Pipeline.ue, Pipeline.cycle, Pipeline.pipeline_start}
+use Rattle.kp_pipeline.specs.Machine.{State}
 
 -- THE OUTPUTS OF A RUN: a row for each cycle, and the counts that are computed from rows alone.
 
@@ -39,7 +40,7 @@ pub record Trace : Type 0 where
   pub visible : ℕ → ℕ → ℕ → ℕ
 
 -- The run of the pipeline over a list of inputs, from the start state and hints.
-abbrev pub pipe : Machine → (ℕ → ℕ → ℕ) → (ℕ → ℕ) → List Inputs → Trace
+abbrev pub pipe : Machine → State → (ℕ → ℕ) → List Inputs → Trace
 pipe m s hints ins = record {
   rows = rows_from m (pipeline_start s hints) ins;
   visible = λ T. (state_after m (pipeline_start s hints) ins T).visible;

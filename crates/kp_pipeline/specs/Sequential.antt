@@ -1,5 +1,5 @@
 use Rattle.std.specs.Prelude.{ℕ, zero, suc, Bool, true, false, cond, ◌&&◌, eqb, List, [], ◌∷◌, Option, Some, None, unwrap_or}
-use Rattle.kp_pipeline.specs.Machine.{Machine, Tree, Done, Ask, Guess}
+use Rattle.kp_pipeline.specs.Machine.{Machine, Tree, Done, Ask, Guess, Samples, State}
 
 -- THE SEQUENTIAL MACHINE, and the interpreter of stages that it shares with the pipeline.
 
@@ -52,7 +52,7 @@ fresh_instruction = record { pipes = λ p. 0; results = λ t. None }
 
 -- The instruction on the state s with the sample values q, before stage k. Each read, guessed or not, sees s, the
 -- state before the instruction.
-unfoldable pub before_stage : Machine → (ℕ → ℕ → ℕ) → (ℕ → ℕ) → ℕ → Instruction
+unfoldable pub before_stage : Machine → State → (ℕ → ℕ) → ℕ → Instruction
 before_stage m s q zero = fresh_instruction
 before_stage m s q (suc k) =
     after_stage (before_stage m s q k) (run (λ t a. Some (s t a)) (λ h. 0) (m.body k q (before_stage m s q k).pipes))
@@ -66,15 +66,15 @@ abbrev pub is_written : Machine → Instruction → ℕ → ℕ → Bool
 is_written m c t a = m.has_result t && intends m c t a
 
 -- The state after one instruction: what it writes has its result, or 0 if no set was enabled, and all else is unchanged.
-abbrev pub exec : Machine → (ℕ → ℕ → ℕ) → (ℕ → ℕ) → ℕ → ℕ → ℕ
+abbrev pub exec : Machine → State → (ℕ → ℕ) → ℕ → ℕ → ℕ
 exec m s q t a =
     cond (is_written m (before_stage m s q m.stages) t a) (unwrap_or ((before_stage m s q m.stages).results t) 0) (s t a)
 
 -- The state after i instructions from s, where instruction j has the sample values `given j`.
-unfoldable pub seq : Machine → (ℕ → ℕ → ℕ) → (ℕ → ℕ → ℕ) → ℕ → (ℕ → ℕ → ℕ)
+unfoldable pub seq : Machine → State → Samples → ℕ → State
 seq m s given zero = s
 seq m s given (suc i) = exec m (seq m s given i) (given i)
 
 -- Instruction i of that run, before stage k.
-abbrev pub instruction_before : Machine → (ℕ → ℕ → ℕ) → (ℕ → ℕ → ℕ) → ℕ → ℕ → Instruction
+abbrev pub instruction_before : Machine → State → Samples → ℕ → ℕ → Instruction
 instruction_before m s given i k = before_stage m (seq m s given i) (given i) k

@@ -8,6 +8,7 @@ use Rattle.kp_pipeline.specs.SpeculativeTimeline as timeline
 use Rattle.kp_machine.specs.Machine.{machine_of, state_of}
 use Rattle.kp_sites.specs.{declared.sites.Site.Site, Sites.no_site, Sites.sited}
 use Rattle.kp_stalls.specs.{declared.cause.Wait.Wait, declared.occupants.Stage.Stage, Occupants.report, Occupants.no_stage}
+use Rattle.kp_pipeline.specs.Machine.{Samples}
 
 -- The stages show the row of a moment, and the numbers of the instructions.
 pub record ShowsMoment (m : Machine) (now : Moment) (r : Row) (stages : List Stage) : Type 0 where
@@ -21,18 +22,18 @@ abbrev pub read_site : Job → ℕ → Site
 read_site job i = get_or (sited job).reads i no_site
 
 -- Stage j may write target t at address a, by the timeline: it isn't past the write stage, and its intent isn't known there, or its instruction writes there.
-abbrev pub is_writer : Job → (ℕ → ℕ → ℕ) → Moment → ℕ → ℕ → ℕ → Bool
+abbrev pub is_writer : Job → Samples → Moment → ℕ → ℕ → ℕ → Bool
 is_writer job given now t a j =
     is_candidate (machine_of job) j t && timeline.may_write (machine_of job) (state_of job (start_of job)) given j (held now j) t a
 
 -- Its result is ready there.
-abbrev pub has_ready : Job → (ℕ → ℕ → ℕ) → Moment → Inputs → ℕ → ℕ → Bool
+abbrev pub has_ready : Job → Samples → Moment → Inputs → ℕ → ℕ → Bool
 has_ready job given now i t j =
     timeline.is_ready (machine_of job) (state_of job (start_of job)) given j (held now j) (timeline.blocked (machine_of job) (state_of job (start_of job)) given (held now) i j) t
 
 -- THE CAUSE of a wait of stage k: it is a read of this stage without a guess, whose condition holds, at this address; and the stage that is named holds the
 -- instruction of this number, may write what is read, is the nearest such stage above stage k, and isn't ready.
-pub record IsCause (job : Job) (given : ℕ → ℕ → ℕ) (now : Moment) (i : Inputs) (k : ℕ) (w : Wait) : Type 0 where
+pub record IsCause (job : Job) (given : Samples) (now : Moment) (i : Inputs) (k : ℕ) (w : Wait) : Type 0 where
   pub there : w.read < length (sited job).reads
   pub own : (read_site job w.read).stage ≡ k
   pub plain : (read_site job w.read).guessed ≡ false

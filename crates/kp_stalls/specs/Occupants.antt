@@ -6,6 +6,7 @@ use Rattle.kp_machine.specs.{Machine.sequential, Slots.targets_of, Words.target}
 use Rattle.kp_seq.specs.Recorded.{Recorded, record_of}
 use Rattle.kp_stalls.specs.declared.{occupants.Stage.Stage, fate.Fate.TheVariants.Open}
 use Rattle.kp_sites.specs.{declared.sites.Site.Site, Sites.sited, Reports.nothing_recorded}
+use Rattle.kp_pipeline.specs.Machine.{Samples, State}
 
 -- What the sequential machine reports of an instruction, and for each read the value that its target had before the instruction at address 0.
 pub record Report : Type 0 where
@@ -19,16 +20,16 @@ nothing = record { recorded = nothing_recorded; values = [] }
 abbrev pub no_value : Word
 no_value = word 1 0
 
-abbrev pub value_before : Job → (ℕ → ℕ → ℕ) → Site → Word
+abbrev pub value_before : Job → State → Site → Word
 value_before job s site =
     if nat_lt site.target (length (targets_of job.decls)) then word (target job site.target).width (s site.target 0) else no_value
 
 -- of the instruction on the state s with the sample values q
-abbrev pub report_of : Job → (ℕ → ℕ → ℕ) → (ℕ → ℕ) → Report
+abbrev pub report_of : Job → State → (ℕ → ℕ) → Report
 report_of job s q = record { recorded = record_of job s q; values = map (value_before job s) (sited job).reads }
 
 -- of instruction i of the run in which instruction j has the sample values `given j`
-abbrev pub report : Job → (ℕ → ℕ → ℕ) → ℕ → Report
+abbrev pub report : Job → Samples → ℕ → Report
 report job given i = report_of job (sequential job given i) (given i)
 
 pub record Seen : Type 0 where

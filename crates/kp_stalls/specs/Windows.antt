@@ -6,6 +6,7 @@ use Rattle.kp_machine.specs.Machine.{sequential}
 use Rattle.kp_seq.specs.Running.{Running, state}
 use Rattle.kp_sites.specs.Sites.{Sited, sited}
 use Rattle.kp_stalls.specs.Occupants.{Report, report, nothing, stored}
+use Rattle.kp_pipeline.specs.Machine.{Samples}
 
 -- the machine, the tables of its job, the number of the instruction that it runs next, and what it reported of the last sixteen, each under its number
 -- modulo 16
@@ -34,6 +35,6 @@ pub record IsKept (job : Job) (w : Windowed) : Type 0 where
 
 -- It has run the instructions before `next` of the run in which instruction i has the sample values `given i`, and has the report of each of the last
 -- sixteen.
-pub record Follows (job : Job) (given : ℕ → ℕ → ℕ) (w : Windowed) : Type 0 where
+pub record Follows (job : Job) (given : Samples) (w : Windowed) : Type 0 where
   pub state_is : state w.machine ≡ sequential job given w.next
   pub report : (i : ℕ) → i < w.next → w.next ≤ i + 16 → stored w.ring i ≡ report job given i

@@ -11,19 +11,20 @@ use Rattle.kp_stalls.specs.declared.cause.{Cause.Cause, Cause.TheVariants.Squash
 use Rattle.kp_stalls.specs.{Claims.read_site, Occupants.report, Cycles.lines_from}
 use Rattle.kp_sites.specs.Sites.{sited}
 use Rattle.kp_stalls_run.specs.Guessed.{guessed_word}
+use Rattle.kp_pipeline.specs.Machine.{Samples}
 
 -- Sample x, if it is one of stage k, has in cycle T the value that instruction i takes.
-abbrev pub settles : Job → (ℕ → ℕ → ℕ) → (T k i x : ℕ) → Bool
+abbrev pub settles : Job → Samples → (T k i x : ℕ) → Bool
 settles job given T k i x =
     if get_or (sample_stages job.decls) x job.stages.value == k then values_in (input job T) x == given i x else true
 
 -- the first n samples
-abbrev pub settles_to : Job → (ℕ → ℕ → ℕ) → (T k i n : ℕ) → Bool
+abbrev pub settles_to : Job → Samples → (T k i n : ℕ) → Bool
 settles_to job given T k i zero = true
 settles_to job given T k i (suc n) = settles_to job given T k i n && settles job given T k i n
 
 -- The samples of stage k have in cycle T the values that instruction i takes.
-abbrev pub settled : Job → (ℕ → ℕ → ℕ) → (T k i : ℕ) → Bool
+abbrev pub settled : Job → Samples → (T k i : ℕ) → Bool
 settled job given T k i = settles_to job given T k i (length (sample_stages job.decls))
 
 -- The sample values that the instructions take in a run of n cycles under the job's own stall words and samples.

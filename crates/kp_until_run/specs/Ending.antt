@@ -6,6 +6,7 @@ use Rattle.kp_pipeline.specs.Rows.{Row, passed, taken}
 use Rattle.kp_machine.specs.Machine.{machine_of, inputs_from, pipe_of, sequential}
 use Rattle.kp_until.specs.Untils.{AreSame, Holds, Repeats}
 use Rattle.kp_until.specs.declared.until.Until.{Until, TheVariants.Halt}
+use Rattle.kp_pipeline.specs.Machine.{State}
 
 -- the rows of n cycles of the pipelined machine of a job
 abbrev pub own_rows : Job → ℕ → List Row
@@ -38,7 +39,7 @@ CountsFor job s _ j count = count ≡ j
 
 -- MET: condition k is the first that holds, and `cycles` is the least number of cycles in which as many instructions retire as are counted for it. `looked`
 -- is a number of cycles in which all instructions retire that the condition was looked for in.
-pub record IsMet (job : Job) (untils : List Until) (limit k retired cycles : ℕ) (state : ℕ → ℕ → ℕ) : Type 0 where
+pub record IsMet (job : Job) (untils : List Until) (limit k retired cycles : ℕ) (state : State) : Type 0 where
   pub looked : ℕ
   pub within : looked ≤ limit
   pub seen : ℕ
@@ -50,12 +51,12 @@ pub record IsMet (job : Job) (untils : List Until) (limit k retired cycles : ℕ
   pub same : AreSame job state (states_in job looked retired)
 
 -- THE LIMIT: no condition holds up to the instructions that retire in as many cycles.
-pub record IsLimit (job : Job) (untils : List Until) (limit retired cycles : ℕ) (state : ℕ → ℕ → ℕ) : Type 0 where
+pub record IsLimit (job : Job) (untils : List Until) (limit retired cycles : ℕ) (state : State) : Type 0 where
   pub all : cycles ≡ limit
   pub reached : retired ≡ retired_in job limit
   pub none : NoneTo job (states_in job limit) untils retired
   pub same : AreSame job state (states_in job limit retired)
 
-abbrev pub Ends : Job → List Until → ℕ → Option ℕ → (retired cycles : ℕ) → (ℕ → ℕ → ℕ) → Type 0
+abbrev pub Ends : Job → List Until → ℕ → Option ℕ → (retired cycles : ℕ) → State → Type 0
 Ends job untils limit (Some k) retired cycles state = IsMet job untils limit k retired cycles state
 Ends job untils limit None retired cycles state = IsLimit job untils limit retired cycles state

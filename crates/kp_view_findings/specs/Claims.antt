@@ -6,10 +6,11 @@ use Rattle.kp_pipeline.specs.Sequential.{Instruction, after_stage, before_stage,
 use Rattle.kp_stage.specs.Facts.{stmts_in}
 use Rattle.kp_machine.specs.{Machine.address_in, Machine.machine_of, Machine.result_for, Slots.pipes_of, Trees.entered, Trees.tree_of}
 use Rattle.kp_view_findings.specs.{declared.sets.PlacedSet.PlacedSet, Sets.in_vain, Sets.sets_from}
+use Rattle.kp_pipeline.specs.Machine.{State}
 
 -- The instruction of the sequential machine on the state s with the sample values q, before statement j of stage k: after the stages below k, and
 -- then the first j statements of stage k.
-abbrev pub instruction_at : Job → (ℕ → ℕ → ℕ) → (ℕ → ℕ) → ℕ → ℕ → Instruction
+abbrev pub instruction_at : Job → State → (ℕ → ℕ) → ℕ → ℕ → Instruction
 instruction_at job s q k j =
     let c = before_stage (machine_of job) s q k in
     after_stage c (run (λ t a. Some (s t a)) (λ h. 0) (tree_of job.decls (entered job.decls q c.pipes) (take j (stmts_in (slice_get job.blocks k)))))
@@ -17,19 +18,19 @@ instruction_at job s q k j =
 -- Its results are those before the stage, where no statement has come yet, and those before the next stage, where all have.
 abbrev pub IsBetweenStages : Job → Type 0
 IsBetweenStages job =
-    (s : ℕ → ℕ → ℕ) (q : ℕ → ℕ) (k t : ℕ)
+    (s : State) (q : ℕ → ℕ) (k t : ℕ)
     → ((instruction_at job s q k 0).results t ≡ (before_stage (machine_of job) s q k).results t)
     × ((instruction_at job s q k (length (stmts_in (slice_get job.blocks k)))).results t ≡ (before_stage (machine_of job) s q (suc k)).results t)
 
 -- Statement j of stage k sets the result of target t in this instruction: it is unset before the statement and set after it.
-abbrev pub Sets : Job → (ℕ → ℕ → ℕ) → (ℕ → ℕ) → ℕ → ℕ → ℕ → Type 0
+abbrev pub Sets : Job → State → (ℕ → ℕ) → ℕ → ℕ → ℕ → Type 0
 Sets job s q k j t =
     ((instruction_at job s q k j).results t ≡ None)
     × ((v : ℕ) × ((instruction_at job s q k (j + 1)).results t ≡ Some v))
 
 -- THE CLAIM that a set never takes place: the statement sets no result, in no instruction on any state and with any samples.
 abbrev pub NeverSets : Job → ℕ → ℕ → Type 0
-NeverSets job k j = (s : ℕ → ℕ → ℕ) (q : ℕ → ℕ) (t : ℕ) → Sets job s q k j t → ⊥
+NeverSets job k j = (s : State) (q : ℕ → ℕ) (t : ℕ) → Sets job s q k j t → ⊥
 
 abbrev pub NeverTakesPlace : Job → PlacedSet → Type 0
 NeverTakesPlace job p = NeverSets job p.stage p.index
@@ -38,7 +39,7 @@ abbrev pub AreInVain : Job → Type 0
 AreInVain job = (result : List ℕ) → All (NeverTakesPlace job) (in_vain (sets_from result 0 job.blocks))
 
 -- THE CLAIM that a result may be unset: an instruction that doesn't set the result r of target t, which has no enable, writes 0 at its address.
-abbrev pub WritesZero : Job → (ℕ → ℕ → ℕ) → (ℕ → ℕ) → ℕ → ResultDecl → Type 0
+abbrev pub WritesZero : Job → State → (ℕ → ℕ) → ℕ → ResultDecl → Type 0
 WritesZero job s q t r =
     let m = machine_of job in
     let c = before_stage m s q m.stages in
@@ -47,5 +48,5 @@ WritesZero job s q t r =
 
 abbrev pub UnsetIsZero : Job → Type 0
 UnsetIsZero job =
-    (s : ℕ → ℕ → ℕ) (q : ℕ → ℕ) (t : ℕ) (r : ResultDecl) → result_for job t ≡ Some r → r.enable ≡ None
+    (s : State) (q : ℕ → ℕ) (t : ℕ) (r : ResultDecl) → result_for job t ≡ Some r → r.enable ≡ None
     → ((k j : ℕ) → Sets job s q k j t → ⊥) → WritesZero job s q t r

@@ -5,6 +5,7 @@ use Rattle.kp_ast.specs.declared.tree.Job.{Job}
 use Rattle.kp_pipeline.specs.Rows.{Row, passed}
 use Rattle.kp_machine.specs.{Machine.sequential, Slots.targets_of}
 use Rattle.kp_seq.specs.Running.{Running, state}
+use Rattle.kp_pipeline.specs.Machine.{Samples}
 
 -- the state of machine k
 abbrev pub lane_state : List Running → ℕ → ℕ → ℕ → ℕ
@@ -24,13 +25,13 @@ abbrev pub lane_count : ℕ → List ℕ → ℕ → ℕ
 lane_count n counts k = if nat_lt k n then get_or counts k 0 else 0
 
 -- the machines of a job from number k on, by the counts of its stages
-pub record HaveRunFrom (job : Job) (given : ℕ → ℕ → ℕ) (counts : List ℕ) (k : ℕ) (machines : List Running) : Type 0 where
+pub record HaveRunFrom (job : Job) (given : Samples) (counts : List ℕ) (k : ℕ) (machines : List Running) : Type 0 where
   pub count : length machines + k ≡ job.stages.value + 1
   pub jobs : All (λ m. m.job ≡ job) machines
   pub states : (j : ℕ) → j < length machines → lane_state machines j ≡ sequential job given (lane_count job.stages.value counts (j + k))
 
 -- the machines of a job after these rows, if instructions read these sample values
-pub record HaveRun (job : Job) (given : ℕ → ℕ → ℕ) (rows : List Row) (machines : List Running) : Type 0 where
+pub record HaveRun (job : Job) (given : Samples) (rows : List Row) (machines : List Running) : Type 0 where
   pub count : length machines ≡ job.stages.value + 1
   pub jobs : All (λ m. targets_of m.job.decls ≡ targets_of job.decls) machines
   pub states : (k : ℕ) → k ≤ job.stages.value → lane_state machines k ≡ sequential job given (lane_passes job rows k)

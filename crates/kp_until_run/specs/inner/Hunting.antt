@@ -9,26 +9,27 @@ use Rattle.kp_until.specs.Untils.{Holds}
 use Rattle.kp_until_run.specs.Ending.{CountsFor, IsFirst, NoneTo}
 use Rattle.kp_until_run.specs.declared.hunt.{Found.Found, Hunt.Hunt}
 use Rattle.kp_until_run.specs.declared.trail.Trail.{Trail}
+use Rattle.kp_pipeline.specs.Machine.{Samples, State}
 
 -- the sample values that instructions read
 abbrev pub given : List Taken → ℕ → ℕ → ℕ
 given columns i = values_in (row_taken columns i)
 
 -- a number that two states have in common if their first n targets have the same words at address 0
-abbrev pub digest : (ℕ → ℕ → ℕ) → ℕ → ℕ
+abbrev pub digest : State → ℕ → ℕ
 digest s zero = 0
 digest s (suc n) = (digest s n * 31 % 2 ^ 64 + s n 0) % 2 ^ 64
 
-abbrev pub digest_of : Job → (ℕ → ℕ → ℕ) → ℕ
+abbrev pub digest_of : Job → State → ℕ
 digest_of job s = digest s (length (targets_of job.decls))
 
 -- a machine of a job that has executed i instructions
-pub record HasRun (job : Job) (values : ℕ → ℕ → ℕ) (i : ℕ) (m : Running) : Type 0 where
+pub record HasRun (job : Job) (values : Samples) (i : ℕ) (m : Running) : Type 0 where
   pub job_is : m.job ≡ job
   pub state_is : state m ≡ sequential job values i
 
 -- A trail after j instructions: the machine there, one that is at most j - 1, j - 2, j - 3 and j - 4 instructions on each, and the digests of these states.
-pub record Follows (job : Job) (values : ℕ → ℕ → ℕ) (j : ℕ) (t : Trail) : Type 0 where
+pub record Follows (job : Job) (values : Samples) (j : ℕ) (t : Trail) : Type 0 where
   pub lead : HasRun job values j t.lead
   pub count : length t.lags.items ≡ 4
   pub many : length t.ran ≡ 4
@@ -57,7 +58,7 @@ pub record IsFoundAt (job : Job) (s : ℕ → ℕ → ℕ → ℕ) (untils : Lis
 abbrev pub IsFound : Job → (ℕ → ℕ → ℕ → ℕ) → List Until → Found → Type 0
 IsFound job s untils f = IsFirst job s untils f.seen f.which × CountsFor job s (get_or untils f.which Halt) f.seen f.count
 
-abbrev pub IsSearched : Job → (ℕ → ℕ → ℕ) → List Until → ℕ → Running → Option Found → Type 0
+abbrev pub IsSearched : Job → Samples → List Until → ℕ → Running → Option Found → Type 0
 IsSearched job values untils n m (Some f) = IsFound job (sequential job values) untils f × (f.seen ≤ n) × HasRun job values f.seen m
 IsSearched job values untils n m None = NoneTo job (sequential job values) untils n
 

@@ -4,6 +4,7 @@ use Rattle.kp_bits.specs.Word.{word}
 use Rattle.kp_ast.specs.declared.tree.Job.{Job}
 use Rattle.kp_machine.specs.Words.{HasWord, target}
 use Rattle.kp_run.specs.declared.difference.Difference.{Difference}
+use Rattle.kp_pipeline.specs.Machine.{State}
 
 -- An address of a target at which two states differ.
 pub record IsOneAt (job : Job) (shown owed : ℕ → ℕ) (cycle t : ℕ) (d : Difference) : Type 0 where
@@ -35,11 +36,11 @@ ComparesTarget job shown owed cycle t result =
     MatchOption result ((a : ℕ) → HasWord job t a → shown a ≡ owed a) (IsFirstAt job shown owed cycle t)
 
 -- Both agree in all words of the targets before t.
-abbrev pub AgreeBelow : Job → (shown owed : ℕ → ℕ → ℕ) → ℕ → Type 0
+abbrev pub AgreeBelow : Job → (shown owed : State) → ℕ → Type 0
 AgreeBelow job shown owed t = (s b : ℕ) → s < t → HasWord job s b → shown s b ≡ owed s b
 
 -- The first word, by target and address, in which two states differ.
-pub record IsFirstIn (job : Job) (shown owed : ℕ → ℕ → ℕ) (cycle : ℕ) (d : Difference) : Type 0 where
+pub record IsFirstIn (job : Job) (shown owed : State) (cycle : ℕ) (d : Difference) : Type 0 where
   pub cycle_is : d.cycle ≡ cycle
   pub there : HasWord job d.target d.address
   pub differs : shown d.target d.address ≢ owed d.target d.address
@@ -47,6 +48,6 @@ pub record IsFirstIn (job : Job) (shown owed : ℕ → ℕ → ℕ) (cycle : ℕ
   pub found_is : d.found ≡ word (target job d.target).width (shown d.target d.address)
   pub due_is : d.due ≡ word (target job d.target).width (owed d.target d.address)
 
-abbrev pub Compares : Job → (shown owed : ℕ → ℕ → ℕ) → ℕ → Option Difference → Type 0
+abbrev pub Compares : Job → (shown owed : State) → ℕ → Option Difference → Type 0
 Compares job shown owed cycle result =
     MatchOption result ((t a : ℕ) → HasWord job t a → shown t a ≡ owed t a) (IsFirstIn job shown owed cycle)

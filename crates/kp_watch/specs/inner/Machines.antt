@@ -6,6 +6,7 @@ use Rattle.kp_pipeline.specs.Rows.{Row, passed}
 use Rattle.kp_machine.specs.{Machine.sequential, Machine.values_in, Slots.targets_of}
 use Rattle.kp_run.specs.{Columns.Taken, Columns.row_taken, Homes.home_of}
 use Rattle.kp_seq.specs.{Running.Running, Running.state, Recorded.record_of}
+use Rattle.kp_pipeline.specs.Machine.{Samples}
 
 -- the sample values that instructions read
 abbrev pub given : List Taken → ℕ → ℕ → ℕ
@@ -25,18 +26,18 @@ abbrev pub AreNeeded : Job → List Bool → Type 0
 AreNeeded job needed = (length needed ≡ job.stages.value + 1) × ((t : ℕ) → t < length (targets_of job.decls) → get_or needed (home_of job t) false ≡ true)
 
 -- A machine that has executed i instructions: its state, and its record of the last of them.
-pub record HasRun (job : Job) (values : ℕ → ℕ → ℕ) (i : ℕ) (m : Running) : Type 0 where
+pub record HasRun (job : Job) (values : Samples) (i : ℕ) (m : Running) : Type 0 where
   pub state_is : state m ≡ sequential job values i
   pub last_is : (j : ℕ) → i ≡ suc j → m.last ≡ record_of job (sequential job values j) (values j)
 
 -- The machines of a job after T of these rows. Those that have the value of no target may be in any state.
-pub record HaveRun (job : Job) (values : ℕ → ℕ → ℕ) (rows : List Row) (T : ℕ) (machines : List Running) : Type 0 where
+pub record HaveRun (job : Job) (values : Samples) (rows : List Row) (T : ℕ) (machines : List Running) : Type 0 where
   pub count : length machines ≡ job.stages.value + 1
   pub jobs : All (λ m. m.job ≡ job) machines
   pub each : (k : ℕ) (d : Running) → k < length machines → IsHome job k → HasRun job values (ran job.stages.value rows T k) (get_or machines k d)
 
 -- The same if the first k of them have executed row T too.
-pub record HaveRunFirst (job : Job) (values : ℕ → ℕ → ℕ) (rows : List Row) (T k : ℕ) (machines : List Running) : Type 0 where
+pub record HaveRunFirst (job : Job) (values : Samples) (rows : List Row) (T k : ℕ) (machines : List Running) : Type 0 where
   pub count : length machines ≡ job.stages.value + 1
   pub jobs : All (λ m. m.job ≡ job) machines
   pub each : (j : ℕ) (d : Running) → j < length machines → IsHome job j
