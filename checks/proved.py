@@ -1,8 +1,10 @@
 #!/usr/bin/env python3
 """docs/PROVED.md, which is made from the sources: python3 checks/proved.py compares it with them, python3 checks/proved.py --write writes it.
 
-For each crate, in the order of crates.txt but the top calls first: the first paragraph of its `//!` comment, the clauses of its top call with the comments
-above them, and its laws: the public functions that return and change nothing, whose contracts state a theorem, with their comments.
+For each crate that has laws or a top call, in the order of crates.txt but the top calls first: the first paragraph of its `//!` comment, the clauses of its
+top call with the comments above them, and its laws: the public functions that return and change nothing, whose contracts state a theorem. A law of a crate
+whose results users rely on has its comment, one of another crate the first sentence of it. A law of a crate that only proofs of others cite, and one in a
+file of examples, has its name alone. A comment that several laws of a crate have is printed once.
 """
 import os
 import re
@@ -12,17 +14,29 @@ TOP = os.path.dirname(os.path.dirname(os.path.abspath(__file__)))
 PAGE = f"{TOP}/docs/PROVED.md"
 # The top calls of the programs.
 CALLS = {"kp_tool": "tool", "kp_view": "view", "kp_view_same": "same_sources", "kp_view_explain": "explain_source", "kp_core": "run_core"}
+# The other crates whose laws users rely on: what is printed, shown and compared is said in their terms.
+DETAILED = """kp_pipeline kp_implements kp_isa kp_same kp_diagram kp_diagram_run kp_stalls kp_stalls_run kp_paths kp_depth kp_page kp_timing kp_debug kp_vcd kp_equiv kp_vlog
+kp_wires kp_core_ports kp_view_findings""".split()
+# Crates whose laws are steps in the proofs of others; docs/PARSING.md has those of kp_grammar.
+STEPS = """kp_base kp_grammar kp_region kp_ast kp_view_expected kp_described kp_machine kp_plain kp_seq kp_net kp_sched kp_synth_next kp_cycle kp_image kp_gen kp_run
+kp_vread kp_view_excerpt""".split()
 HEAD = """# What is proved, crate by crate
 
-This page is made from the comments of the sources, by `python3 checks/proved.py --write`. `README.md` has the main promises, and `BELIEVE.md` the
-definitions that one has to read to believe them. A promise is a clause of the contract of a public call. First the top calls of the programs, clause
-by clause; then the crates, lowest first, with their laws: a law is a public function that returns and changes nothing, whose contract states the theorem.
-Every other public function has a contract too, beside its code. Every function is also proved to return, with no index out of bounds, no overflow and
-no failed `unwrap`.
+Made from the comments of the sources by `python3 checks/proved.py --write`. `README.md` has the main promises, `BELIEVE.md` the definitions that one has to
+read to believe them, and `ARCHITECTURE.md` all crates. A promise is a clause of the contract of a public call: first those of the top calls of the programs.
+A law is a public function that returns and changes nothing, whose contract states the theorem: then the laws of each crate, lowest first. Some have
+the first sentence of their comment here, and those that are steps of other proofs their names at the end: all of it is above the function, in `src/`. Every
+other public function has a contract too, beside its code. Every function is also proved to return, with no index out of bounds, no overflow and no failed
+`unwrap`.
 
 A *row* is the record of one cycle: the full bits, the update enables and the rollback. A netlist *shows* a machine if its runs have the
 rows and the visible values of that machine.
 """
+STEPS_HEAD = """
+## Laws that are steps of other proofs
+
+| crate | laws |
+|---|---|"""
 FUNCTION = re.compile(r"^pub fn (\w+)", re.M)
 CLAUSE = re.compile(r"^    ensures (\w+) \{")
 WIDTH = 160
@@ -90,17 +104,38 @@ def clauses(text, at):
     return [(sentence(words), names) for words, names in found if words]
 
 
+def first_sentence(text):
+    return re.split(r"(?<=\.)\s+(?=[A-Z`])", text, maxsplit=1)[0]
+
+
 def laws(crate):
+    """What is said of the laws of the crate, each with the names of the laws that have these words; and the names of those that are examples."""
+    said, examples = {}, []
     for name, text in files_of(crate):
         for found in FUNCTION.finditer(text):
             signature = re.compile(r"^    (?:requires|ensures)\b|^\{", re.M).split(text[found.end() :], maxsplit=1)[0]
             comment = sentence(comment_above(text, found.start()))
             states = text[found.end() + len(signature) :].startswith(("    requires", "    ensures"))
             if comment and states and "->" not in signature and "&mut" not in signature:
-                yield f"- `{found[1]}`: {comment}"
+                words = comment if crate in CALLS or crate in DETAILED else first_sentence(comment)
+                names = examples if name.endswith("examples.rt") else said.setdefault(words, [])
+                names += [found[1]] if found[1] not in names else []
+    return said, examples
+
+
+def quoted(names):
+    return ", ".join(f"`{it}`" for it in names)
+
+
+def step_row(crate):
+    said, examples = laws(crate)
+    return f"| {crate} | {quoted(dict.fromkeys([*(it for names in said.values() for it in names), *examples]))} |"
 
 
 def part(crate):
+    said, examples = laws(crate)
+    if crate not in CALLS and not said:
+        return
     yield f"\n## {crate}\n"
     for it in about(crate)[:1]:
         yield wrapped(it) + "\n"
@@ -109,21 +144,22 @@ def part(crate):
             found = re.search(rf"^pub fn {CALLS[crate]}\b", text, re.M)
             if found:
                 yield wrapped(f"**`{CALLS[crate]}`**: {sentence(comment_above(text, found.start()))}") + "\n"
-                for said, names in clauses(text, found.start()):
-                    yield wrapped(f"- {', '.join(f'`{it}`' for it in names)}: {said}", "", "  ")
+                for words, names in clauses(text, found.start()):
+                    yield wrapped(f"- {quoted(names)}: {words}", "", "  ")
                 yield ""
-    stated = list(laws(crate))
-    if stated:
-        yield "Laws:\n"
-        yield from (wrapped(it, "", "  ") for it in stated)
-        yield ""
+    yield from (wrapped(f"- {quoted(names)}: {words}", "", "  ") for words, names in said.items())
+    if examples:
+        yield wrapped(f"- Machines with worked runs: {quoted(examples)}.", "", "  ")
+    yield ""
 
 
 def page():
     with open(f"{TOP}/crates.txt", encoding="utf-8") as it:
         order = [line.split(":")[0].split()[0] for line in it if line.strip() and not line.startswith("#")]
     crates = [*CALLS, *(it for it in order if it not in CALLS)]
-    text = "\n".join([HEAD, *(line for crate in crates for line in part(crate))])
+    text = "\n".join(
+        [HEAD, *(line for it in crates if it not in STEPS for line in part(it)), STEPS_HEAD, *(step_row(it) for it in crates if it in STEPS)]
+    )
     return re.sub(r"\n{3,}", "\n\n", text).rstrip("\n") + "\n"
 
 
