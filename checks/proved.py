@@ -1,8 +1,8 @@
 #!/usr/bin/env python3
 """docs/PROVED.md, which is made from the sources: python3 checks/proved.py compares it with them, python3 checks/proved.py --write writes it.
 
-For each crate that has laws or a top call, in the order of crates.txt but the top calls first: the first paragraph of its `//!` comment, the clauses of its
-top call with the comments above them, and its laws: the public functions that return and change nothing, whose contracts state a theorem. A law of a crate
+For each crate that has laws or a top call, in the order of crates.txt but the top calls first: the first paragraph of its `//!` comment and the clauses of its
+top call, with the comments above them, and its laws: the public functions that return and change nothing, whose contracts state a theorem. A law of a crate
 whose results users rely on has its comment, one of another crate the first sentence of it. A law of a crate that only proofs of others cite, and one in a
 file of examples, has its name alone. A comment that several laws of a crate have is printed once.
 """
@@ -22,12 +22,13 @@ STEPS = """kp_base kp_grammar kp_region kp_ast kp_lex kp_parse kp_view_expected 
 kp_isa_dlx kp_isa_dlx5 kp_seq kp_net kp_sched kp_synth_next kp_cycle kp_image kp_gen kp_run kp_vread kp_view_excerpt""".split()
 HEAD = """# What is proved, crate by crate
 
-Made from the comments of the sources by `python3 checks/proved.py --write`. `README.md` has the main promises, `BELIEVE.md` the definitions that one has to
-read to believe them, and `ARCHITECTURE.md` all crates. A promise is a clause of the contract of a public call: first those of the top calls of the programs.
-A law is a public function that returns and changes nothing, whose contract states the theorem: then the laws of each crate, lowest first. Some have
-the first sentence of their comment here, and those that are steps of other proofs their names at the end: all of it is above the function, in `src/`. Every
-other public function has a contract too, beside its code. Every function is also proved to return, with no index out of bounds, no overflow and no failed
-`unwrap`.
+Made from the comments of the sources by `python3 checks/proved.py --write`. [README.md](../README.md) has the main promises, [BELIEVE.md](BELIEVE.md) the definitions
+that one has to read to believe them, and [ARCHITECTURE.md](ARCHITECTURE.md) what each crate is.
+
+A promise is a clause of the contract of a public call: first those of the top calls of the programs. A law is a public function that returns and changes nothing,
+whose contract states the theorem: then the laws of each crate, lowest first, with their comments, or with the first sentence of it where users rely less on them;
+laws that are steps of other proofs are named at the end. Every other public function has a contract too, beside its code. Every function is also proved to return,
+with no index out of bounds, no overflow and no failed `unwrap`.
 
 A *row* is the record of one cycle: the full bits, the update enables and the rollback. A netlist *shows* a machine if its runs have the
 rows and the visible values of that machine.
@@ -68,10 +69,10 @@ def files_of(crate):
 
 
 def about(crate):
-    """The comment at the head of the crate, in paragraphs."""
-    text = next(text for name, text in files_of(crate) if name in ("lib.rt", "main.rt"))
+    """The first paragraph of the comment at the head of the crate."""
+    text = next(text for name, text in files_of(crate) if name == "lib.rt")
     said = [line[3:].strip() for line in text.split("\n") if line.startswith("//!")]
-    return [sentence(it.split()) for it in "\n".join(said).split("\n\n") if it.strip()]
+    return sentence("\n".join(said).split("\n\n")[0].split())
 
 
 def comment_above(text, at):
@@ -137,9 +138,8 @@ def part(crate):
     if crate not in CALLS and not said:
         return
     yield f"\n## {crate}\n"
-    for it in about(crate)[:1]:
-        yield wrapped(it) + "\n"
     if crate in CALLS:
+        yield wrapped(about(crate)) + "\n"
         for name, text in files_of(crate):
             found = re.search(rf"^pub fn {CALLS[crate]}\b", text, re.M)
             if found:
