@@ -26,8 +26,8 @@ Made from the comments of the sources by `python3 checks/proved.py --write`. [RE
 that one has to read to believe them, and [ARCHITECTURE.md](ARCHITECTURE.md) what each crate is.
 
 A promise is a clause of the contract of a public call: first those of the top calls of the programs. A law is a public function that returns and changes nothing,
-whose contract states the theorem: then the laws of each crate, lowest first, with their comments, or with the first sentence of it where users rely less on them;
-laws that are steps of other proofs are named at the end. Every other public function has a contract too, beside its code. Every function is also proved to return,
+whose contract states the theorem: then the laws of each crate, lowest first, with their comments, or the first sentence where users rely less on them; laws
+that are steps of other proofs are named at the end. Every other public function has a contract too, beside its code. Every function is also proved to return,
 with no index out of bounds, no overflow and no failed `unwrap`.
 
 A *row* is the record of one cycle: the full bits, the update enables and the rollback. A netlist *shows* a machine if its runs have the
