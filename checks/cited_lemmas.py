@@ -1,16 +1,14 @@
 #!/usr/bin/env python3
-"""Which lemmas other crates cite: python3 checks/cited_lemmas.py [--each] [CRATE ..], or python3 checks/cited_lemmas.py --check
+"""Which lemmas other crates cite: python3 checks/cited_lemmas.py [--each] [CRATE ..]
 
-Prints for each crate (or for the given ones) the modules of its proofs/ that .antt and .rt files of other crates cite, and these crates:
-the table of docs/ARCHITECTURE.md. With --each a row is one module, with the names that are cited of it. With --check it compares that page
-with the sources, prints the rows that differ, and its status is 0 where none does.
+Prints for each crate (or for the given ones) the modules of its proofs/ that .antt and .rt files of other crates cite, and these crates. With --each a row is one
+module, with the names that are cited of it.
 """
 import os
 import re
 import sys
 
 TOP = os.path.dirname(os.path.dirname(os.path.abspath(__file__)))
-PAGE = "docs/ARCHITECTURE.md"
 HEAD = ["| crate | modules of `proofs/` | cited by |", "|---|---|---|"]
 GROUP = re.compile(r"\buse (Rattle\.[^\s{]+?)\.\{([^}]*)\}")
 USE = re.compile(r"\buse Rattle\.(\w+)\.proofs\.([\w.]+?)(?:\.\{([^}]*)\}|(?= as |[;\s]))")
@@ -82,32 +80,12 @@ def rows_of_each(crates, found, chosen):
             yield row([crate, f"`{module}`" + (f": {names}" if names else ""), ", ".join(sorted(by, key=crates.index))])
 
 
-def check(rows):
-    with open(f"{TOP}/{PAGE}", encoding="utf-8") as it:
-        lines = it.read().split("\n")
-    at = lines.index(HEAD[0]) + 2 if HEAD[0] in lines else len(lines)
-    there = []
-    while at < len(lines) and lines[at].startswith("|"):
-        there.append(lines[at])
-        at += 1
-    for line in there:
-        if line not in rows:
-            print(f"{PAGE}: {line}")
-    for line in rows:
-        if line not in there:
-            print(f"the sources: {line}")
-    return there != rows
-
-
 def main(words):
     crates = order()
     found = cited(crates)
-    if words == ["--check"]:
-        return check(list(rows_of(crates, found, crates)))
     chosen = [it for it in words if it != "--each"] or crates
     print("\n".join(HEAD + list((rows_of_each if "--each" in words else rows_of)(crates, found, chosen))))
-    return 0
 
 
 if __name__ == "__main__":
-    sys.exit(main(sys.argv[1:]))
+    main(sys.argv[1:])
