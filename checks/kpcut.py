@@ -4,6 +4,7 @@
 - each example, with --flat and its functions closed and open, is accepted, `kpview same` shows it, and `kp seq` prints the same after 20 instructions;
 - mini5, dlx5, dlxs and rv32i, flat, get the five stages of the examples by a few lines, and `kp sim` prints the rows of the example;
 - RANDOM random jobs, 40 by default, are written flat and with random lines, with the same results, or are rejected by one of K4 to K6;
+- each row of `--table` has the longest path of the cut by its stages and its depth;
 - each rule K1 to K6 is reported at its place;
 - where `kpview same` shows nothing, nothing is written, and the status is 6.
 
@@ -134,6 +135,18 @@ def rules():
     yield 'a job that violates a rule', '' if said.startswith('<stdin>:') and 'E' in said else f'says {said.strip()}'
 
 
+def tables():
+    with open(f'{TOP}/examples/cookbook/early.kp', encoding='latin-1') as it:
+        job = it.read()
+    said = kpcut(job, '--table', '2', '4')
+    rows = [it.split() for it in said.split('\n')[1:] if it]
+    yield 'a table', '' if [it[0] for it in rows] == ['2', '3', '4'] else f'prints {said}'
+    for stages, depth, path, *_ in rows:
+        made = kpcut(f'{job}stages {stages}\nopen all\ndepth {depth}\n')
+        longest = re.search(r'longest path ([\d.]+)', run([*KPVIEW.split(), 'depth'], made))
+        yield f'a table, {stages} stages', '' if longest and longest[1] == path else f'has the path {path}, and the cut {longest and longest[1]}'
+
+
 def not_shown(work):
     """kpcut with a `kpview same` that shows nothing."""
     path = f'{work}/kpview'
@@ -155,7 +168,7 @@ def main():
         if subprocess.run([*KPVIEW.split(), 'same', acc3, late3], stdout=subprocess.PIPE, stderr=subprocess.PIPE).returncode:
             print(f'{KPVIEW} has no word `same`')
             return 77
-        for part in (examples(), by_hand(), random_jobs(count), rules(), not_shown(work)):
+        for part in (examples(), by_hand(), random_jobs(count), rules(), tables(), not_shown(work)):
             for what, fault in part:
                 checked, wrong = checked + 1, wrong + bool(fault)
                 if fault:

@@ -2,8 +2,8 @@
 # Whether the labs of docs/labs are sound: bash checks/labs.sh
 #
 # Each answer passes the tests of its lab, and each file to begin with is accepted by the program and doesn't pass. Answers into which a fault is planted don't pass. KP
-# names another program than crates/kp/out/kp; where there is none, the check is skipped. Lab 9 needs kpcore: KPCORE names
-# another program than the one that is built here, and without it the lab is left out. The last line is `N checked, M wrong`, and the status is 0 where M is 0.
+# names another program than crates/kp/out/kp; where there is none, the check is skipped. Lab 6 needs kpview and lab 9 kpcore: KPVIEW and KPCORE name
+# other programs than those that are built here, and without one its lab is left out. The last line is `N checked, M wrong`, and the status is 0 where M is 0.
 [ -n "${KP:-}" ] || [ -x "$(dirname "$0")/../crates/kp/out/kp" ] || { echo "kp isn't built"; exit 77; }
 . "$(dirname "$0")/common.sh"
 need python3
@@ -24,8 +24,9 @@ wrong() {
     fi
 }
 
-export KPCORE="${KPCORE:-$top/crates/kpcore/out/kpcore}"
+export KPVIEW="${KPVIEW:-$top/crates/kpview/out/kpview}" KPCORE="${KPCORE:-$top/crates/kpcore/out/kpcore}"
 labs="1 2 3 4 5 7 8 10"
+[ -x "$KPVIEW" ] && labs="$labs 6" || missing="$missing kpview"
 [ -x "$KPCORE" ] && labs="$labs 9" || missing="$missing kpcore"
 for it in $labs; do
     answer=$(echo answers/$it.*)
@@ -54,6 +55,7 @@ planted 3 counters "s/(k == 2'h3 ? k : k + 2'h1)/k/"
 planted 3 target 's/taken ? next + c : next/taken ? P + c : next/'
 planted 5 signs 's/f\[0\] ? a < b : less(a, b)/f[0] ? less(a, b) : a < b/'
 planted 5 imm "s/IR\[25\] \& opreg/IR[25]/"
+case $labs in *6*) planted 6 minus "s/? a - b/? b - a/" ;; esac
 planted 7 store "s/ \& ~taken;\$/;/"
 planted 7 enable 's/let taken = I & enabled/let taken = I/'
 planted 8 stalls 's/^  3 from.*//'

@@ -2,7 +2,7 @@
 """Whether the commands of the manual print what the manual says: python3 checks/manual.py [PAGE ..]
 
 In README.md, TUTORIAL.md, LANGUAGE.md, COOKBOOK.md and KPVIEW.md, or in the given pages, it runs each command `./kp WORDS < examples/FILE`,
-`examples/with-program JOB PROGRAM | ./kp WORDS` and `./kpview WORDS examples/FILE`. A command has to print the indented block that follows it, or, where it is a line `$ ./kp ..` of a
+`examples/with-program JOB PROGRAM | ./kp WORDS` and `./kpview WORDS examples/FILE ..`. A command has to print the indented block that follows it, or, where it is a line `$ ./kp ..` of a
 block, the rest of that block: the lines of the block are consecutive lines of the output, but where a line of dots is in place of others. A command
 that no block follows isn't run. `explain` prints to standard error.
 
@@ -20,7 +20,7 @@ import sys
 TOP = os.path.dirname(os.path.dirname(os.path.abspath(__file__)))
 KP = os.environ.get("KP", f"{TOP}/kp")
 KPVIEW = os.environ.get("KPVIEW", f"{TOP}/kpview")
-COMMAND = re.compile(r"\./kp ([^<>|`]+?) < (examples/[\w./]+)(?=[`\s]|$)|examples/with-program (\S+) (\S+) \| \./kp ([^<>|`#\n]+?)(?=[`\n]|$)|\./kpview ([^<>|`\n]+? examples/[\w./]+)(?=[`\s]|$)")
+COMMAND = re.compile(r"\./kp ([^<>|`]+?) < (examples/[\w./]+)(?=[`\s]|$)|examples/with-program (\S+) (\S+) \| \./kp ([^<>|`#\n]+?)(?=[`\n]|$)|\./kpview ([^<>|`\n]+?(?: examples/[\w./]+)+)(?=[`\s]|$)")
 ROW = re.compile(r"^\| (E\d+) \| [^|]* \| (.*) \| ([^|]*`refused (E\d+ \d+:\d+)`) \|$", re.M)
 
 

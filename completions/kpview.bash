@@ -20,10 +20,11 @@ _kpview() {
     fi
     compopt +o default 2>/dev/null
     case $count in
-        0) COMPREPLY=($(compgen -W 'diagram svg page paths stalls same explain help --help --version' -- "$cur")) ;;
+        0) COMPREPLY=($(compgen -W 'diagram svg page paths stalls depth same explain help --help --version' -- "$cur")) ;;
         1)
             case ${COMP_WORDS[1]} in
                 paths) COMPREPLY=($(compgen -f -W '--svg' -- "$cur")) ;;
+                depth) COMPREPLY=($(compgen -f -W '--files' -- "$cur")) ;;
                 explain) COMPREPLY=($(compgen -f -W '--werror --help read watch asm debug' -- "$cur")) ;;
                 *) COMPREPLY=($(compgen -W '10 20 50 100 1000' -- "$cur")) ;;
             esac

@@ -7,6 +7,7 @@
 
 mod delay;
 mod ends;
+mod lines;
 mod path;
 mod stages;
 mod text;

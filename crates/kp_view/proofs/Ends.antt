@@ -10,7 +10,7 @@ use Rattle.kp_lex.{specs.Text.HasOutcome, specs.declared.token.Lexed.Lexed, proo
 use Rattle.kp_directive.specs.{Faults.stage_names, declared.directive.DirectiveFault.DirectiveFault}
 use Rattle.kp_view_words.specs.Words.{Order, Task, named, names_for, show}
 use Rattle.kp_view.specs.Complaints.{complaint_status, complaint_text}
-use Rattle.kp_view.specs.{Due.directive_text, Due.DueFor, Due.DueOfJob, Due.DueOfNames, Due.DueOfOrder, Due.Draws, Due.IsShown, Due.Says, Due.names_fit, Due.order_text, Texts.names_text}
+use Rattle.kp_view.specs.{Due.directive_text, Due.DueFor, Due.DueOfJob, Due.DueOfNames, Due.DueOfOrder, Due.Draws, Due.IsShown, Due.IsText, Due.Says, Due.names_fit, Texts.names_text}
 use Rattle.kp_view.specs.{Ends.Ends, Ends.EndsAt, inner.Failures.failure_of, declared.failure.Complaint.Complaint, declared.failure.Failure.Failure}
 use Rattle.kp_view.specs.declared.failure.{Failure.TheVariants.Complained, Failure.TheVariants.Stopped, Stop.Stop}
 use Rattle.kp_view.specs.declared.failure.Complaint.TheVariants as complaints
@@ -86,11 +86,20 @@ module _ {S : Type 0} (held : S → Option (List ℕ)) (faults : S → ℕ) (fil
 
 -- the text of a word was written, which shows the run
 pub drawn_by : {S : Type 0} (held : S → Option (List ℕ)) (faults : S → ℕ) (file : Option (List ℕ)) (asked order : Order) (input : List ℕ) (job : Job) → asked ≡ order → IsShown order job
-    → (old new : S) {T : Type 0} (r : Result T Failure) → Ends held faults ⊥ (Says 0 (order_text order input job)) None old new r
+    → (old new : S) {T : Type 0} (r : Result T Failure) → Ends held faults ⊥ (λ s t. (s ≡ 0) × IsText order input job t) None old new r
     → Ends held faults ⊥ (Draws asked input job) file old new r
-drawn_by held faults file asked order input job is shows old new r ends =
-    said held faults file None ⊥ (Draws asked input job) (order_text order input job)
-    (subst (λ (o : Order). Draws o input job 0 (order_text order input job)) (sym is) (refl, refl, shows)) old new r ends
+drawn_by {S} held faults file asked order input job is shows old new {T} r ends = go r ends
+  where
+    drawn : (s : ℕ) (t : List ℕ) → (s ≡ 0) × IsText order input job t → Draws asked input job s t
+    drawn s t due = subst (λ (o : Order). Draws o input job s t) (sym is) (due.0, due.1, shows)
+
+    go : (r : Result T Failure) → Ends held faults ⊥ (λ s t. (s ≡ 0) × IsText order input job t) None old new r
+        → Ends held faults ⊥ (Draws asked input job) file old new r
+    go (Ok _) (text, due, appended) = (text, drawn 0 text due, appended)
+    go (Err (Complained c)) (same, due) = absurd (never_zero c due.0)
+    go (Err (Stopped stops.WriteFault)) (rose, text, due, part) = (rose, text, drawn 0 text due, part)
+    go (Err (Stopped stops.ReadFault)) (unread, same) = absurd unread
+    go (Err (Stopped stops.NoMemory)) same = same
 
 -- a complaint was written
 module _ {S T : Type 0} (held : S → Option (List ℕ)) (faults : S → ℕ) (held_err : T → Option (List ℕ)) (faults_err : T → ℕ) (V : Type 0) (Q : ℕ → List ℕ → Type 0) where

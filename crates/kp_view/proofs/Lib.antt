@@ -1,4 +1,5 @@
 pub mod Ends
+pub mod Netlists
 pub mod Outside
 pub mod Pictures
 pub mod Pieces

@@ -7,7 +7,7 @@ use Rattle.kp_frontend.{specs.Judging.Judges, specs.Judging.too_long, specs.Judg
 use Rattle.kp_directive.specs.declared.directive.DirectiveFault.{DirectiveFault}
 use Rattle.kp_view_words.specs.{Words.Asked, Words.named, Words.Order, Words.Task, Words.bad_words, Words.help, Words.version, Words.show, declared.words.Topic.Topic}
 use Rattle.kp_view_words.specs.Texts.{help_text, version_text}
-use Rattle.kp_view.specs.Due.{Says, DueFor, IsShown, order_text, wrong_names_text, DueOfListed, DueOfNames, Lists, IsDue, IsFinal, IsWhole, Completes, Begins, Between, Prints, IsDrawn, IsRefusal, IsUnaccepted, IsUnrefused, names_fit, reads_input}
+use Rattle.kp_view.specs.Due.{Says, DueFor, IsShown, IsText, wrong_names_text, DueOfListed, DueOfNames, Lists, IsDue, IsFinal, IsWhole, Completes, Begins, Between, Prints, IsDrawn, IsRefusal, IsUnaccepted, IsUnrefused, names_fit, reads_input}
 use Rattle.kp_view.specs.{Texts.refusal_text, Ends.Ends, Ends.EndsAt, inner.Failures.stop_status, inner.Failures.end_status, declared.failure.Failure.Failure}
 use Rattle.kp_view.specs.declared.failure.{Failure.TheVariants.Complained, Stop.Stop}
 use Rattle.kp_view.specs.declared.failure.Stop.TheVariants.{ReadFault, WriteFault, NoMemory}
@@ -185,7 +185,7 @@ names_never_two fit order input job status text due two = go fit due
     go false due = let e = due.0 in omega (arith, e, two)
 
 names_at_zero : (fit : _) (order : Order) (input : List ℕ) (job : Job) (status : ℕ) (text : List ℕ) → DueOfNames fit order input job status text → status ≡ 0
-    → (fit ≡ true) × (text ≡ order_text order input job) × IsShown order job
+    → (fit ≡ true) × IsText order input job text × IsShown order job
 names_at_zero true order input job status text (is, same, shows) zero_is = (refl, same, shows)
 names_at_zero false order input job status text due zero_is = let e = due.0 in absurd (omega (arith, e, zero_is))
 

@@ -5,7 +5,8 @@ use Rattle.std.specs.Io.KnownBytes.{Consumes, Appends, IsAtEnd}
 use Rattle.kp_base.specs.{Bytes.AppendsPart, declared.refusal.Refusal.Refusal}
 use Rattle.kp_ast.specs.declared.tree.Job.{Job}
 use Rattle.kp_frontend.specs.Judging.{Judges}
-use Rattle.kp_view_words.specs.Words.{Asked, Order, Run, Task, bad_words, help, version, show, diagram, svg, page, paths, paths_svg, stalls, named, names_for}
+use Rattle.kp_view_words.specs.Words.{Asked, Order, Run, Task, bad_words, help, version, show, diagram, svg, page, paths, paths_svg, stalls, depth, named, names_for}
+use Rattle.kp_view_words.specs.declared.task.{Memories.Memories, Memories.TheVariants.Inside, Memories.TheVariants.Outside}
 use Rattle.kp_view_words.specs.Texts.{help_text, usage_text, version_text}
 use Rattle.kp_pipeline.specs.Rows.{Row}
 use Rattle.kp_diagram_text.specs.{Charts.are_names, Figures.Figure, Text.diagram_text}
@@ -18,7 +19,7 @@ use Rattle.kp_paths.specs.{Claims.ArePaths, Text.paths_text, ArrowClaims.ShowsCe
 use Rattle.kp_stalls_text.specs.{Labels.labels_from, Text.stalls_text}
 use Rattle.kp_lex.specs.{Text.HasOutcome, declared.token.Lexed.Lexed}
 use Rattle.kp_directive.specs.{Faults.stage_names, Messages.message, declared.directive.DirectiveFault.DirectiveFault}
-use Rattle.kp_view.specs.Texts.{file_text, names_text, refusal_text}
+use Rattle.kp_view.specs.{Depths.IsDepthText, Texts.file_text, Texts.names_text, Texts.refusal_text}
 
 -- exactly this status and this text
 abbrev pub Says : ℕ → List ℕ → ℕ → List ℕ → Type 0
@@ -31,14 +32,21 @@ figure_drawn run job = job_figure run.names run.count job
 abbrev pub rows_drawn : Run → Job → List Row
 rows_drawn run job = job_rows run.count job
 
--- THE TEXT that a word writes about the job of an input.
-abbrev pub order_text : Order → List ℕ → Job → List ℕ
-order_text (diagram run) input job = diagram_text (figure_drawn run job)
-order_text (svg run) input job = picture (figure_drawn run job) (rows_drawn run job)
-order_text (page run) input job = page_text (figure_drawn run job) (rows_drawn run job) input (paths_text job) (states_text job run.count)
-order_text paths input job = paths_text job
-order_text paths_svg input job = paths_svg_text job
-order_text (stalls count) input job = stalls_text (labels_from job.blocks) (job_stalls count job)
+-- whether files are in the circuit
+abbrev pub are_inside : Memories → Bool
+are_inside Inside = true
+are_inside Outside = false
+
+-- THE TEXT that a word writes about the job of an input. That of `depth` is of some netlist of the job, and any other is determined by the job.
+abbrev pub IsText : Order → List ℕ → Job → List ℕ → Type 0
+IsText (diagram run) input job text = text ≡ diagram_text (figure_drawn run job)
+IsText (svg run) input job text = text ≡ picture (figure_drawn run job) (rows_drawn run job)
+IsText (page run) input job text =
+    text ≡ page_text (figure_drawn run job) (rows_drawn run job) input (paths_text job) (states_text job run.count)
+IsText paths input job text = text ≡ paths_text job
+IsText paths_svg input job text = text ≡ paths_svg_text job
+IsText (stalls count) input job text = text ≡ stalls_text (labels_from job.blocks) (job_stalls count job)
+IsText (depth memories) input job text = IsDepthText job (are_inside memories) text
 
 -- What the states that a page records of n cycles and the end after them show: the value of a word in a cycle is the one that was listed last, or 0 if
 -- none was.
@@ -47,7 +55,7 @@ ShowsStates job n = (T t a : ℕ) → listed_last (pipe_of job (inputs_from job 
 
 -- What that text shows. Of a diagram: the fetches, cells, marks and the account in it are those of the run, and the laws of the diagram hold of them.
 -- Of the table of paths: its cells say where the reads take their values from, in each state of each run. The arrows of its picture are these cells. A page
--- has a diagram and the table, and shows the states.
+-- has a diagram and the table, and shows the states. What the text of `depth` shows is said by `IsDepthText`.
 abbrev pub IsShown : Order → Job → Type 0
 IsShown (diagram run) job = ShowsRun job run.count (figure_drawn run job)
 IsShown (svg run) job = ShowsRun job run.count (figure_drawn run job)
@@ -55,9 +63,10 @@ IsShown (page run) job = ShowsRun job run.count (figure_drawn run job) × ArePat
 IsShown paths job = ArePaths job
 IsShown paths_svg job = ArePaths job × ShowsCells job
 IsShown (stalls count) job = ShowCauses job count
+IsShown (depth memories) job = Unit {0}
 
 abbrev pub Draws : Order → List ℕ → Job → ℕ → List ℕ → Type 0
-Draws order input job status text = (status ≡ 0) × (text ≡ order_text order input job) × IsShown order job
+Draws order input job status text = (status ≡ 0) × IsText order input job text × IsShown order job
 
 -- the names that are given are names for the stages of the job
 abbrev pub names_fit : Order → Job → Bool
@@ -158,11 +167,12 @@ IsNamed task input job order = (listed : List (List ℕ)) × Lists input job (Ok
 
 -- THE HEADLINE. The input is a job that violates no rule, for whose stages the names are, and the text shows what was asked: the run of its pipelined
 -- machine, with the instructions in the full stages, the marks with their reasons, the instructions that retire in order, and each cycle counted under
--- its cause; or the paths of its reads, with the stages that have a value, and those that never have one; or all of this, with the input and the states.
+-- its cause; or the paths of its reads, with the stages that have a value, and those that never have one; or all of this, with the input and the states,
+-- or the longest paths of a netlist that shows its pipelined machine.
 abbrev pub IsDrawn : Task → List ℕ → List ℕ → Type 0
 IsDrawn task input text =
     (job : Job) × Judges input (Ok job) × (order : Order) × IsNamed task input job order × (names_fit order job ≡ true)
-    × (text ≡ order_text order input job) × IsShown order job
+    × IsText order input job text × IsShown order job
 
 -- the text names the first rule that the input violates, or that its directives violate
 abbrev pub IsRuled : Task → List ℕ → List ℕ → Type 0

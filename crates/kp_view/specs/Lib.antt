@@ -1,4 +1,5 @@
 pub mod Texts
+pub mod Depths
 pub mod Complaints
 pub mod Due
 pub mod Ends

@@ -6,6 +6,7 @@ ghost use Rattle.kp_view_words.specs.{Asked.order_seen, Asked.task_seen, Words.s
 ghost use Rattle.kp_view.specs.Due.{DueFor, DueOfJob, DueOfOrder, Draws, names_fit};
 ghost use Rattle.kp_view.specs.Ends.{Ends};
 
+use crate::depth::depth;
 use crate::diagram::diagram;
 use crate::failure::{Complaint, Failure, Stop};
 use crate::page::page;
@@ -128,5 +129,6 @@ fn drawn<K: Sink>(
         Order::Paths => paths(alloc, job, out),
         Order::PathsSvg => paths_svg(alloc, job, out),
         Order::Stalls(cycles) => stalls(alloc, cycles.count, job, out),
+        Order::Depth(memories) => depth(alloc, *memories, job, out),
     }
 }

@@ -8,6 +8,7 @@
 #![tactic(auto)]
 
 mod complaint;
+mod depth;
 mod diagram;
 mod failure;
 mod job;

@@ -14,7 +14,7 @@ known : (name : Text) → (word_named name ≡ None) ⊎ IsName name
 known name =
     named_or IsName name (codes "diagram") words.Diagram _ refl (named_or IsName name (codes "svg") words.Svg _ refl (named_or IsName name (codes "page") words.Page _ refl
     (named_or IsName name (codes "paths") words.Paths _ refl (named_or IsName name (codes "stalls") words.Stalls _ refl
-    (named_or IsName name (codes "same") words.Same _ refl (inl refl))))))
+    (named_or IsName name (codes "depth") words.Depth _ refl (named_or IsName name (codes "same") words.Same _ refl (inl refl)))))))
 
 pub matched : (all : List Text) → option_and_then task_matched (matched_in names 0 all) ≡ task_named all
 matched [] = refl

@@ -1,7 +1,7 @@
 -- A request of the program, as what it asks for.
 use Rattle.std.specs.Prelude.{ℕ, List, Option, None, map, string_bytes, option_map}
 use Rattle.kp_command_line.specs.{declared.Input.Input, Words.file_seen}
-use Rattle.kp_view_words.specs.Words.{Asked, Order, Pair, Run, Task, bad_words, help, version, show, diagram, svg, page, paths, paths_svg, stalls}
+use Rattle.kp_view_words.specs.Words.{Asked, Order, Pair, Run, Task, bad_words, help, version, show, diagram, svg, page, paths, paths_svg, stalls, depth}
 use Rattle.kp_view_words.specs.declared.words.Request.{Request}
 use Rattle.kp_view_words.specs.declared.task.Order as code_order
 use Rattle.kp_view_words.specs.declared.task.Order.TheVariants as orders
@@ -20,6 +20,7 @@ order_seen (orders.Page run) = page (run_seen run)
 order_seen orders.Paths = paths
 order_seen orders.PathsSvg = paths_svg
 order_seen (orders.Stalls cycles) = stalls cycles.count
+order_seen (orders.Depth memories) = depth memories
 
 abbrev pub task_seen : code_task.Task → Task
 task_seen task = record { order = order_seen task.order; file = option_map (λ word. string_bytes word.now) task.file }

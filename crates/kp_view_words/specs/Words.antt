@@ -4,7 +4,8 @@ use Rattle.std.specs.{List.list_all, List.list_any, Option.option_map_or, Str.by
 use Rattle.kp_base.specs.Characters.{is_word}
 use Rattle.kp_bits.specs.Literals.{number_of}
 use Rattle.kp_command_line.specs.Words.{Text, begins_with_dash, has_dash}
-use Rattle.kp_view_words.specs.declared.words.{Topic.Topic, Word.Word}
+use Rattle.kp_view_words.specs.declared.{task.Memories.Memories, words.Topic.Topic, words.Word.Word}
+use Rattle.kp_view_words.specs.declared.task.Memories.TheVariants.{Inside, Outside}
 use Rattle.kp_view_words.specs.declared.words.Topic.TheVariants as topics
 use Rattle.kp_view_words.specs.declared.words.Word.TheVariants as words
 
@@ -21,6 +22,7 @@ pub data Order : Type 0 where
   paths : Order
   paths_svg : Order
   stalls : ℕ → Order
+  depth : Memories → Order
 
 -- What is to be shown of a job, and its file, or none for standard input.
 pub record Task : Type 0 where
@@ -41,6 +43,7 @@ names_for (page run) = run.names
 names_for paths = []
 names_for paths_svg = []
 names_for (stalls count) = []
+names_for (depth memories) = []
 
 -- the same with these names of the stages, where none are given
 abbrev pub run_named : List Text → Run → Run
@@ -53,6 +56,7 @@ named listed (page run) = page (run_named listed run)
 named listed paths = paths
 named listed paths_svg = paths_svg
 named listed (stalls count) = stalls count
+named listed (depth memories) = depth memories
 
 -- the word of this name
 abbrev pub word_named : Text → Option Word
@@ -62,7 +66,8 @@ word_named name =
     else (if bytes_eq name (codes "page") then Some words.Page
     else (if bytes_eq name (codes "paths") then Some words.Paths
     else (if bytes_eq name (codes "stalls") then Some words.Stalls
-    else (if bytes_eq name (codes "same") then Some words.Same else None)))))
+    else (if bytes_eq name (codes "depth") then Some words.Depth
+    else (if bytes_eq name (codes "same") then Some words.Same else None))))))
 
 -- the topic of a name: its word, or the program
 abbrev pub topic_named : Text → Topic
@@ -145,6 +150,7 @@ task_with words.Svg rest = option_map (λ asked. record { order = svg asked.run;
 task_with words.Page rest = option_map (λ asked. record { order = page asked.run; file = asked.file }) (run_in rest)
 task_with words.Paths rest = with_file paths rest
 task_with words.Stalls rest = stalls_with rest
+task_with words.Depth rest = with_file (depth Inside) rest
 task_with words.Same rest = None
 
 -- the task of an accepted list: a word, and at most 14 further words
@@ -152,15 +158,24 @@ abbrev pub task_named : List Text → Option Task
 task_named [] = None
 task_named (name ∷ rest) = if nat_lt 14 (length rest) then None else option_and_then (λ word. task_with word rest) (word_named name)
 
--- The one flag of a word: `paths --svg`, with at most a file after it.
+-- The flags of words: `paths --svg`, and `depth --files 0`, with at most a file after them.
 abbrev pub asks_picture : Text → Text → Bool
 asks_picture word flag = bytes_eq word (codes "paths") && bytes_eq flag (codes "--svg")
+
+abbrev pub asks_files : Text → Text → Bool
+asks_files word flag = bytes_eq word (codes "depth") && bytes_eq flag (codes "--files")
+
+abbrev pub depth_with : List Text → Option Task
+depth_with [] = None
+depth_with (number ∷ files) = if bytes_eq number (codes "0") then with_file (depth Outside) files else None
 
 abbrev pub flagged_task : List Text → Option Task
 flagged_task [] = None
 flagged_task (word ∷ []) = None
 flagged_task (word ∷ flag ∷ files) =
-    if asks_picture word flag && not (has_dash files) then with_file paths_svg files else None
+    if has_dash files then None
+    else (if asks_picture word flag then with_file paths_svg files
+    else (if asks_files word flag then depth_with files else None))
 
 abbrev pub task_of : List Text → Option Task
 task_of all = if has_dash all then flagged_task all else task_named all

@@ -24,6 +24,17 @@ pub enum Order<'w> {
     PathsSvg,
     /// Why instructions wait or are squashed.
     Stalls(Cycles),
+    /// The longest path of each stage.
+    Depth(Memories),
+}
+
+/// Where the files of a job are, for the lengths of paths.
+#[derive(Clone, Copy, PartialEq, Eq)]
+pub enum Memories {
+    /// In the circuit: a word of a file takes time.
+    Inside,
+    /// Outside of it, as block RAM: a word takes none, and an address ends a path.
+    Outside,
 }
 
 /// A number of cycles that are listed.

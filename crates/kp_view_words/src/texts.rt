@@ -13,6 +13,7 @@ pub const USAGE: &str = "usage: kpview diagram N [NAMES] [FILE]
        kpview page N [NAMES] [FILE]
        kpview paths [--svg] [FILE]
        kpview stalls N [FILE]
+       kpview depth [--files 0] [FILE]
        kpview same FILE FILE
        kpview explain [--werror] [FILE]
        kpview explain read|watch|asm|debug [FILE]
@@ -43,6 +44,10 @@ pub const USAGE_STALLS: &str = "usage: kpview stalls N [FILE]
 N is 0 to 100000
 ";
 
+/// How `depth` is called.
+pub const USAGE_DEPTH: &str = "usage: kpview depth [--files 0] [FILE]
+";
+
 /// How `same` is called.
 pub const USAGE_SAME: &str = "usage: kpview same FILE FILE
 one of the files may be `-`, standard input
@@ -59,6 +64,7 @@ words:
   page N [NAMES] [FILE]      the same as an HTML page, with the states
   paths [--svg] [FILE]       where each read takes its value from
   stalls N [FILE]            why instructions wait or are squashed
+  depth [--files 0] [FILE]   the longest path of each stage
   same FILE FILE             whether two jobs describe the same instruction
   explain [--werror] [FILE]  why the job is rejected, and warnings
   explain read|watch|asm|debug [FILE]
@@ -175,6 +181,22 @@ or may write it; in a job with guesses, only of an instruction that retires in
 these N cycles.
 ";
 
+/// The help of `depth`.
+pub const HELP_DEPTH: &str =
+    "Prints the longest path of each stage in the circuit of the pipelined machine of
+a job, by a model of delays, with the wires of the module of `kp pipe` that it
+goes through, and the bits of the registers after each stage. A unit is about a
+level of lookup tables.
+
+usage: kpview depth [--files 0] [FILE]
+
+  --files 0   files are outside of the circuit, as block RAM: a word of one takes
+              no time, and an address ends a path
+  FILE        the job; without it, standard input is read
+
+The model says nothing of a clock frequency.
+";
+
 /// The help of `same`.
 pub const HELP_SAME: &str =
     "Says whether two jobs describe the same instruction and start alike. Stages,
@@ -214,6 +236,7 @@ pub fn help_of(topic: Topic) -> &'static str
         Topic::Of(Word::Page) => HELP_PAGE,
         Topic::Of(Word::Paths) => HELP_PATHS,
         Topic::Of(Word::Stalls) => HELP_STALLS,
+        Topic::Of(Word::Depth) => HELP_DEPTH,
         Topic::Of(Word::Same) => HELP_SAME,
     }
 }
@@ -229,6 +252,7 @@ pub fn usage_of(topic: Topic) -> &'static str
         Topic::Of(Word::Page) => USAGE_PAGE,
         Topic::Of(Word::Paths) => USAGE_PATHS,
         Topic::Of(Word::Stalls) => USAGE_STALLS,
+        Topic::Of(Word::Depth) => USAGE_DEPTH,
         Topic::Of(Word::Same) => USAGE_SAME,
     }
 }

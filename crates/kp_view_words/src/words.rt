@@ -4,9 +4,9 @@ ghost use Rattle.std.specs.List.{list_any, list_all};
 ghost use Rattle.kp_view_words.specs.{Asked.asked, Asked.file_asked, Asked.order_seen, Asked.run_seen, Asked.task_seen, inner.Asking.run_asked, inner.Matching.task_matched};
 ghost use Rattle.kp_command_line.specs.Words.{has_dash, matched_seen};
 ghost use Rattle.kp_base.specs.Characters.{is_word};
-ghost use Rattle.kp_view_words.specs.Words.{asked_for, named, names_for, run_named, topic_of, topic_named, help_place, is_help_word, is_help_flag, is_version_flag, asks_help, task_of, task_named, task_with, stalls_with, with_file, flagged_task, asks_picture, run_in, run_with, word_named, count_of, names_in, file_in, is_file_after, is_name, is_path};
+ghost use Rattle.kp_view_words.specs.Words.{asked_for, named, names_for, run_named, topic_of, topic_named, help_place, is_help_word, is_help_flag, is_version_flag, asks_help, task_of, task_named, task_with, stalls_with, with_file, flagged_task, asks_files, asks_picture, depth_with, run_in, run_with, word_named, count_of, names_in, file_in, is_file_after, is_name, is_path};
 
-use crate::task::{Cycles, Order, Run, Task};
+use crate::task::{Cycles, Memories, Order, Run, Task};
 use kp_base::{NoMemory, is_word};
 use kp_bits::read_number;
 use kp_command_line::{Matched, has_dash, match_words};
@@ -19,12 +19,13 @@ const MOST_DRAWN: u32 = 1_000;
 const MOST_LISTED: u32 = 100_000;
 
 /// The words, each with the greatest number of words after it.
-const WORDS: [(&'static str, usize); 6] = [
+const WORDS: [(&'static str, usize); 7] = [
     ("diagram", 14),
     ("svg", 14),
     ("page", 14),
     ("paths", 14),
     ("stalls", 14),
+    ("depth", 14),
     ("same", 14),
 ];
 
@@ -44,6 +45,8 @@ pub enum Word {
     Paths,
     /// `stalls`: why instructions wait or are squashed.
     Stalls,
+    /// `depth`: the longest path of each stage.
+    Depth,
     /// `same`: whether two jobs describe the same instruction. Its two files are a `Pair`.
     Same,
 }
@@ -102,7 +105,7 @@ impl<'w> Order<'w> {
     {
         match self {
             Order::Diagram(run) | Order::Svg(run) | Order::Page(run) => run.names,
-            Order::Paths | Order::PathsSvg | Order::Stalls(_) => &[],
+            Order::Paths | Order::PathsSvg | Order::Stalls(_) | Order::Depth(_) => &[],
         }
     }
 
@@ -114,7 +117,7 @@ impl<'w> Order<'w> {
             Order::Diagram(run) => Order::Diagram(run.named(listed)),
             Order::Svg(run) => Order::Svg(run.named(listed)),
             Order::Page(run) => Order::Page(run.named(listed)),
-            Order::Paths | Order::PathsSvg | Order::Stalls(_) => self,
+            Order::Paths | Order::PathsSvg | Order::Stalls(_) | Order::Depth(_) => self,
         }
     }
 }
@@ -157,6 +160,7 @@ impl Word {
             "page" => Some(Word::Page),
             "paths" => Some(Word::Paths),
             "stalls" => Some(Word::Stalls),
+            "depth" => Some(Word::Depth),
             "same" => Some(Word::Same),
             _ => None,
         }
@@ -280,6 +284,7 @@ fn task_with<'w>(word: Word, rest: &'w [String]) -> Option<Task<'w>>
         }
         Word::Paths => with_file(Order::Paths, rest),
         Word::Stalls => stalls_with(rest),
+        Word::Depth => with_file(Order::Depth(Memories::Inside), rest),
         Word::Same => None,
     }
 }
@@ -310,19 +315,45 @@ fn with_file<'w>(order: Order<'w>, rest: &'w [String]) -> Option<Task<'w>>
     })
 }
 
-// What words ask for one of which begins with `-`: `paths --svg`, with at most a file.
+// What words ask for one of which begins with `-`: `paths --svg` or `depth --files 0`, with at most a file.
 fn flagged_task<'w>(words: &'w [String]) -> Option<Task<'w>>
     ensures { option_map task_seen result ≡ flagged_task (map string_bytes words.now) }
 {
     match words {
         [word, flag, files @ ..] => {
-            if asks_picture(word.as_str(), flag.as_str()) && !has_dash(files) {
+            if has_dash(files) {
+                None
+            } else if asks_picture(word.as_str(), flag.as_str()) {
                 with_file(Order::PathsSvg, files)
+            } else if asks_files(word.as_str(), flag.as_str()) {
+                depth_with(files)
             } else {
                 None
             }
         }
         _ => None,
+    }
+}
+
+fn asks_files(word: &str, flag: &str) -> bool
+    ensures { result ≡ asks_files word.now flag.now }
+{
+    word == "depth" && flag == "--files"
+}
+
+// The depth without the files, after `--files`: the number 0, with at most a file after it.
+fn depth_with<'w>(rest: &'w [String]) -> Option<Task<'w>>
+    ensures { option_map task_seen result ≡ depth_with (map string_bytes rest.now) }
+{
+    match rest {
+        [number, files @ ..] => {
+            if number.as_str() == "0" {
+                with_file(Order::Depth(Memories::Outside), files)
+            } else {
+                None
+            }
+        }
+        [] => None,
     }
 }
 

@@ -72,6 +72,24 @@ def zbb(job):
         yield f"RV32I: {name}", f"{differ[0]} is another than by QEMU" if differ else ""
 
 
+def cut(job):
+    """Lab 6: the instruction of dlxs, cut for the product of path and cycles."""
+    with tempfile.TemporaryDirectory() as work:
+        file = f"{work}/my.kp"
+        with open(file, "w", encoding="utf-8") as it:
+            it.write(job)
+        said = subprocess.run([tool("kpview"), "same", f"{TOP}/examples/dlxs.kp", file], stdout=subprocess.PIPE, stderr=subprocess.STDOUT)
+        depth = re.search(r"longest path ([\d.]+)", subprocess.run([tool("kpview"), "depth", file], stdout=subprocess.PIPE).stdout.decode())
+        program = subprocess.run([f"{TOP}/examples/with-program", file, f"{TOP}/examples/sort.dlx"], stdout=subprocess.PIPE, env={**os.environ, "KP": tool("kp")})
+    count = re.search(r"^count .*?(\d+)$", kp(["sim", "400"], program.stdout.decode())[1], re.M)
+    path, cycles = float(depth[1]) if depth else 99, 400 / max(1, int(count[1])) if count else 99
+    yield "the same instruction as dlxs", "" if said.returncode == 0 else said.stdout.decode().strip()
+    yield "a path of at most 28 levels", "" if path <= 28 else f"{path}"
+    yield "at most 1.5 cycles per instruction", "" if cycles <= 1.5 else f"{cycles:.2f}"
+    for word, most in (("good", 40), ("better", 34), ("best", 29)):
+        yield f"{word}: a product of at most {most}", "" if path * cycles <= most else f"{path} x {cycles:.2f} = {path * cycles:.1f}"
+
+
 def interrupt(job):
     """Lab 7: L8 with an interrupt line."""
     yield from machine("2", job, counted=[it for it in CYCLES["2"][1] if it[0] != "a loop with a jump"], randoms=0)
@@ -148,4 +166,4 @@ def products(job):
         yield f"random program {seed}", computes(job, l8.random_program(seed, "mul"), 70, "mul")
 
 
-LATER = {"5": zbb, "7": interrupt, "8": find_faults, "9": board, "10": products}
+LATER = {"5": zbb, "6": cut, "7": interrupt, "8": find_faults, "9": board, "10": products}

@@ -4,7 +4,7 @@ use Rattle.kp_command_line.specs.Words.{Matched, Name, Text}
 use Rattle.kp_view_words.specs.Words.{Task, task_with, word_named}
 
 abbrev pub names : List Name
-names = (codes "diagram", 14) ∷ (codes "svg", 14) ∷ (codes "page", 14) ∷ (codes "paths", 14) ∷ (codes "stalls", 14) ∷ (codes "same", 14) ∷ []
+names = (codes "diagram", 14) ∷ (codes "svg", 14) ∷ (codes "page", 14) ∷ (codes "paths", 14) ∷ (codes "stalls", 14) ∷ (codes "depth", 14) ∷ (codes "same", 14) ∷ []
 
 abbrev pub task_after : Option Text → List Text → Option Task
 task_after None rest = None

@@ -1,6 +1,6 @@
 use Rattle.std.proofs.Common.{ap}
 use Rattle.kp_machine.specs.Machine.{inputs_from, pipe_of}
-use Rattle.kp_view_words.specs.{Asked.order_seen, Asked.run_seen, Words.diagram, Words.svg, Words.page, Words.paths, Words.paths_svg, Words.stalls}
+use Rattle.kp_view_words.specs.{Asked.order_seen, Asked.run_seen, Words.diagram, Words.svg, Words.page, Words.paths, Words.paths_svg, Words.stalls, Words.depth}
 use Rattle.kp_view.proofs.Ends.{drawn_by}
 use Rattle.kp_view.proofs.job.drawn.Goals as goal
 
@@ -40,3 +40,8 @@ returns-in-Stalls g c =
     let count = c.in-Stalls.cycles.count in
     λ file. drawn_by g.K.Sink.held g.K.Sink.faults file (order_seen c.args.order.now) (stalls count) c.args.input.now c.args.job.now.design.job (ap order_seen c.in-Stalls.is)
     (c.the_lines_show_causes.ensures count) _ _ _ c.stalls.ensures
+
+pub returns-in-Depth : goal.returns-in-Depth
+returns-in-Depth g c =
+    λ file. drawn_by g.K.Sink.held g.K.Sink.faults file (order_seen c.args.order.now) (depth c.in-Depth.memories) c.args.input.now c.args.job.now.design.job
+    (ap order_seen c.in-Depth.is) tt _ _ _ c.depth.ensures

@@ -1,6 +1,6 @@
 use Rattle.std.proofs.Common.{◌≡◌, ◌-◌, ◌++◌, drop, length}
 use Rattle.kp_depth.specs.Text.{steps_text}
-use Rattle.kp_depth.proofs.text.add_steps.Given as goal
+use Rattle.kp_depth.proofs.lines.add_steps.Given as goal
 
 abbrev pub invariant-loop-done : goal.invariant-loop-done
 invariant-loop-done l = l.out.items ≡ l.fn.out.items ++ steps_text l.source.layout.now l.source.net.now l.source.times.now.all.items (drop (length l.steps - l.done) l.steps)
