@@ -1,6 +1,6 @@
 use Rattle.std.proofs.Common.{◌≡◌, ℕ, suc, ◌+◌, Bool, true, false, cond, List, [], ◌∷◌, length, Option, Some, None, refl, ap, ◌∙◌, arith}
 use Rattle.kp_pipeline.specs.Rows.{Row, bit, one_if, passed}
-use Rattle.kp_diagram.specs.Diagram.{Account, Loss, Filling, DataHazard, WrongGuess, Outside, account_from, and_cycle, loss_of_wait, losses_after, lost_to}
+use Rattle.kp_diagram.specs.Diagram.{Account, Loss, Filling, account_from, and_cycle, loss_of_wait, losses_after, lost_to}
 use Rattle.kp_diagram.specs.Claims.{cycles_of}
 
 -- THE ACCOUNT ADDS UP, and what it says is retired are the update enables of the last stage.

@@ -3,3 +3,5 @@ pub mod Steps
 pub mod Cells
 pub mod Retired
 pub mod Causes
+pub mod Windows
+pub mod Parts

@@ -1,11 +1,12 @@
 //! The laws, for every accepted machine. `s` is the start state by target and address, `hints` the start values of the hints, `ins` the inputs
 //! of the cycles: a stall word and sample values for each.
 
-ghost use Rattle.std.specs.Prelude.{◌≡◌, ◌<◌, ℕ, suc, Bool, List, length, get_or, None};
+ghost use Rattle.std.specs.Prelude.{◌≡◌, ◌<◌, ◌+◌, ◌++◌, ℕ, suc, Bool, List, length, get_or, None};
 ghost use Rattle.kp_pipeline.specs.{Accepted.Accepted, Machine.Machine, Pipeline.Inputs, Pipeline.PipelineState, Pipeline.pipeline_start};
 ghost use Rattle.kp_pipeline.specs.Rows.{Row, passed, pipe};
-ghost use Rattle.kp_diagram.specs.Diagram.{Mark, account, diagram, retired_numbers, spent};
+ghost use Rattle.kp_diagram.specs.Diagram.{Fetch, Mark, account, diagram, retired_numbers, spent};
 ghost use Rattle.kp_diagram.specs.Claims.{Counts, HasReasons, Holds, IsReason, IsSpentFor, Shows, cycles_of, numbers_from, stalls_of};
+ghost use Rattle.kp_diagram.specs.Windows.{minus, window};
 
 /// A line of instruction i has a cell in cycle T and stage k exactly where stage k is full in that cycle and holds instruction i.
 pub fn cells_are_what_the_stages_hold()
@@ -47,4 +48,13 @@ pub fn lost_cycles_have_their_causes()
         → T < length ins
         → IsSpentFor m (pipeline_start s hints) ins T last (get_or (spent last (stalls_of ins) (pipe m s hints ins).rows) T None) }
     ensures counted { (last : ℕ) (ext : ℕ → ℕ → Bool) (rows : List Row) → Counts (account last ext rows) (spent last ext rows) }
+{}
+
+/// A window shows the cells of the complete diagram from cycle A on, in columns that are counted from there, and no others. Its account, the
+/// difference of two, adds up to its cycles. For any rows.
+pub fn a_window_is_a_part()
+    ensures cells { (A : ℕ) (fetches : List Fetch) (i T k : ℕ) → Shows (window A fetches) i T k → Shows fetches i (A + T) k }
+    ensures all { (A : ℕ) (fetches : List Fetch) (i T k : ℕ) → Shows fetches i (A + T) k → Shows (window A fetches) i T k }
+    ensures total { (last : ℕ) (ext : ℕ → ℕ → Bool) (before rows : List Row)
+        → cycles_of (minus (account last ext (before ++ rows)) (account last ext before)) ≡ length rows }
 {}

@@ -41,7 +41,7 @@ onto-account last ext T loss (r ∷ rows) =
     ∙ ap (and_cycle (lost_to last (ext T) r loss)) (onto-account last ext (suc T) (losses_after (ext T) r loss) rows)
 
 -- the losses count up to the last stage
-after-alike : (e : ℕ → Bool) (r : Row) (f g : ℕ → Loss) (last : ℕ) → ((j : ℕ) → j ≤ last → f j ≡ g j) → (j : ℕ) → j ≤ last
+pub after-alike : (e : ℕ → Bool) (r : Row) (f g : ℕ → Loss) (last : ℕ) → ((j : ℕ) → j ≤ last → f j ≡ g j) → (j : ℕ) → j ≤ last
     → losses_after e r f j ≡ losses_after e r g j
 after-alike e r f g last h zero b = refl
 after-alike e r f g last h (suc j) b =

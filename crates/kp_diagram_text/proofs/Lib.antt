@@ -5,3 +5,4 @@ pub mod Names
 pub mod Fetches
 pub mod Steps
 pub mod InOrder
+pub mod Windows

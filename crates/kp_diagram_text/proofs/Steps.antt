@@ -1,11 +1,14 @@
 -- The steps of the loops that write a diagram.
 use Rattle.std.proofs.Common.{◌≡◌, ◌∙◌, ℕ, suc, ◌+◌, ◌-◌, ◌<◌, ◌≤◌, Bool, true, false, cond, List, [], ◌∷◌, ◌++◌, length, get_or, take, drop, Option, Some, None, refl, ap, ap₂, sym, arith, replicate, decimal}
-use Rattle.std.proofs.lemmas.List.{replicate-append-replicate}
+use Rattle.std.proofs.lemmas.{Grind.flat_map-append, List.drop_all, List.replicate-append-replicate}
+use Rattle.std.specs.Prelude.{flat_map, map}
+use Rattle.kp_pipeline.specs.Rows.{Row}
 use Rattle.kp_base.specs.declared.row.Row as masks
 use Rattle.kp_pipeline.specs.Rows.{counts}
 use Rattle.kp_diagram.specs.Diagram.{Fetch, Mark, account, cells_from, diagram, fetches_from, fetches_next, mark, next_place}
+use Rattle.kp_diagram.specs.Flights.{Placed, carried, entering}
 use Rattle.kp_sched.{specs.Rows.row_seen, specs.Rows.rows_seen, proofs.Counting.seen_length}
-use Rattle.kp_diagram_text.specs.Text.{account_text, cells_text, column, cycle_numbers, diagram_text, head, in_column, legend, line_at, lines_text, sign, spaces, stage_name}
+use Rattle.kp_diagram_text.specs.Text.{account_text, cells_text, column, cycle_numbers, diagram_text, head, in_column, legend, line_at, line_text, lines_text, sign, spaces, stage_name}
 use Rattle.kp_diagram_text.proofs.Fetches.{cells_step, fetch_of, fetches_end, fetches_step, last_cells, no_cells, split}
 use Rattle.kp_diagram_text.specs.{declared.chart.Chart.Chart, Charts.ext_of, Charts.figure_of, Charts.names_of, Charts.rows_of}
 
@@ -29,10 +32,13 @@ spaces_next left here b =
     let e : here + (left - here) ≡ left = omega arith in
     sym (replicate-append-replicate here (left - here) 32 ∙ ap (λ (n : ℕ). replicate n 32) e)
 
-pub numbers_next : (width count T : ℕ) → T < count
-    → cycle_numbers width T (count - T) ≡ in_column width (decimal T) ++ cycle_numbers width (T + 1) (count - (T + 1))
-numbers_next width count T h =
-    let one : count - T ≡ suc (count - (T + 1)) = omega arith in ap (λ (m : ℕ). cycle_numbers width T m) one
+pub numbers_next : (width count from T : ℕ) → T < count
+    → cycle_numbers width (from + T) (count - T) ≡ in_column width (decimal (from + T)) ++ cycle_numbers width (from + (T + 1)) (count - (T + 1))
+numbers_next width count from T h =
+    let one : count - T ≡ suc (count - (T + 1)) = omega arith in
+    let on : from + T + 1 ≡ from + (T + 1) = omega arith in
+    ap (λ (m : ℕ). cycle_numbers width (from + T) m) one
+    ∙ ap (λ (U : ℕ). in_column width (decimal (from + T)) ++ cycle_numbers width U (count - (T + 1))) on
 
 module _ (n : ℕ) (ext : ℕ → ℕ → Bool) (width : ℕ) (names : List (List ℕ)) (rows : List masks.Row) (T : ℕ) where
   -- CELLS
@@ -70,3 +76,41 @@ module _ (n : ℕ) (ext : ℕ → ℕ → Bool) (width : ℕ) (names : List (Lis
   pub lines_end : (f : ℕ → ℕ) (enters : Bool) → length rows ≤ T
       → lines_text width names (fetches_from n ext T f enters (rows_seen n (drop T rows))) ≡ []
   lines_end f enters b = ap (lines_text width names) (fetches_end n ext rows T f enters b)
+
+-- THE LINES OF A WINDOW
+module _ (n : ℕ) (ext : ℕ → ℕ → Bool) (width : ℕ) (names : List (List ℕ)) where
+  abbrev pub carried_line : List Row → Placed → List ℕ
+  carried_line rows p = line_at width names 0 p.number (cells_from n ext 0 rows (Some p.stage))
+
+  pub carried_lines : {X : Type 0} (place : X → Placed) (rows : List Row) (xs : List X) → 0 < length rows
+      → flat_map (λ x. carried_line rows (place x)) xs ≡ lines_text width names (carried n ext 0 rows (map place xs))
+  carried_lines place [] xs h = absurd (omega (arith, h))
+  carried_lines place (r ∷ rows) [] h = refl
+  carried_lines place (r ∷ rows) (x ∷ xs) h = ap (λ (t : List ℕ). carried_line (r ∷ rows) (place x) ++ t) (carried_lines place (r ∷ rows) xs h)
+
+  pub both_lines : (xs ys : List Fetch) → lines_text width names (xs ++ ys) ≡ lines_text width names xs ++ lines_text width names ys
+  both_lines xs ys = flat_map-append (line_text width names) xs ys
+
+  module _ (numbers : ℕ → ℕ) (rows : List masks.Row) (T : ℕ) where
+    pub entering_end : (enters : Bool) → length rows ≤ T → lines_text width names (entering n ext T numbers enters (rows_seen n (drop T rows))) ≡ []
+    entering_end enters b = ap (λ (rs : List masks.Row). lines_text width names (entering n ext T numbers enters (rows_seen n rs))) (drop_all T rows b)
+
+    pub entering_next : (r d : masks.Row) → T < length rows → r ≡ get_or rows T d → (enters next : Bool) (number : ℕ) → next ≡ fetches_next (row_seen n r) → number ≡ numbers T
+        → lines_text width names (entering n ext T numbers enters (rows_seen n (drop T rows)))
+        ≡ cond enters (line_at width names T number (cells_from n ext T (rows_seen n (drop T rows)) (Some 0))) []
+        ++ lines_text width names (entering n ext (T + 1) numbers next (rows_seen n (drop (T + 1) rows)))
+    entering_next r d b is enters next number to named =
+        let left = split n ext rows T r d b is in
+        let on : suc T ≡ T + 1 = omega arith in
+        ap (λ (rs : List masks.Row). lines_text width names (entering n ext T numbers enters (rows_seen n rs))) left
+        ∙ here enters
+        ∙ ap₂ (λ (rs : List masks.Row) (i : ℕ). cond enters (line_at width names T i (cells_from n ext T (rows_seen n rs) (Some 0))) []
+        ++ lines_text width names (entering n ext (suc T) numbers (fetches_next (row_seen n r)) (rows_seen n (drop (T + 1) rows)))) (sym left) (sym named)
+        ∙ ap₂ (λ (U : ℕ) (e : Bool). cond enters (line_at width names T number (cells_from n ext T (rows_seen n (drop T rows)) (Some 0))) []
+        ++ lines_text width names (entering n ext U numbers e (rows_seen n (drop (T + 1) rows)))) on (sym to)
+      where
+        here : (enters : Bool) → lines_text width names (entering n ext T numbers enters (rows_seen n (r ∷ drop (T + 1) rows)))
+            ≡ cond enters (line_at width names T (numbers T) (cells_from n ext T (rows_seen n (r ∷ drop (T + 1) rows)) (Some 0))) []
+            ++ lines_text width names (entering n ext (suc T) numbers (fetches_next (row_seen n r)) (rows_seen n (drop (T + 1) rows)))
+        here true = refl
+        here false = refl

@@ -4,4 +4,5 @@ pub mod Figures
 pub mod Text
 pub mod Writing
 pub mod Charts
+pub mod Windows
 pub mod inner

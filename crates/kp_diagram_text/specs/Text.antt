@@ -120,3 +120,15 @@ diagram_text f =
     let width = column f.names f.stages f.cycles in
     head f.name f.stages f.cycles width
     ++ (lines_text width f.names f.fetches ++ (legend ++ account_text f.cycles f.account))
+
+-- `mini5: 5 stages, cycles 5 to 18`, and the head of the column of numbers
+unfoldable pub window_title : List ℕ → ℕ → ℕ → ℕ → List ℕ
+window_title name n from count =
+    name ++ (codes ": " ++ (decimal n ++ (codes " stages, cycles " ++ (decimal from ++ (codes " to " ++ (decimal (from + count - 1) ++ codes "\n\ninstruction "))))))
+
+-- THE TEXT of a window that begins with this cycle.
+unfoldable pub window_text : ℕ → Figure → List ℕ
+window_text from f =
+    let width = column f.names f.stages (from + f.cycles) in
+    window_title f.name f.stages from f.cycles
+    ++ (cycle_numbers width from f.cycles ++ (codes "\n" ++ (lines_text width f.names f.fetches ++ (legend ++ account_text f.cycles f.account))))

@@ -1,7 +1,7 @@
 // What the cycles of a run were spent for.
 ghost use Rattle.std.specs.Prelude.{◌≡◌, ℕ, ◌+◌, ◌-◌, ◌<◌, ◌≤◌, option_map, length};
 ghost use Rattle.kp_sched.specs.Rows.{bit_of, row_seen};
-ghost use Rattle.kp_diagram.specs.Diagram.{account as account_for, and_cycle, loss_of_wait as wait_lost_to, losses_after as next_losses, lost_to as cycle_lost_to};
+ghost use Rattle.kp_diagram.specs.Diagram.{account as account_for, account_from, and_cycle, loss_of_wait as wait_lost_to, losses_after as next_losses, lost_to as cycle_lost_to};
 ghost use Rattle.kp_diagram_text.specs.Charts.{IsDrawable, ext_of, rows_of};
 ghost use Rattle.kp_diagram_text.specs.Losses.{account_shown, loss_shown, losses_shown};
 
@@ -20,8 +20,9 @@ pub struct Account {
     pub outside: u64,
 }
 
+/// What a cycle is lost to.
 #[derive(Clone, Copy)]
-enum Loss {
+pub enum Loss {
     Filling,
     DataHazard,
     WrongGuess,
@@ -34,6 +35,16 @@ pub fn account_of(chart: &Chart<'_>) -> Account
     ensures account { account_shown result ≡ account_for (chart.now.stages - 1) (ext_of chart.now) (rows_of chart.now) }
     ensures retired { result.retired ≤ length chart.now.rows.now }
 {
+    account_after(chart, [Loss::Filling; 12])
+}
+
+/// The account of the cycles of a chart, where each stage that is empty in the first cycle is so for this reason.
+pub(crate) fn account_after(chart: &Chart<'_>, start: [Loss; 12]) -> Account
+    requires drawable { IsDrawable chart.now }
+    requires losses { length start ≡ 12 }
+    ensures account { account_shown result ≡ account_from (chart.now.stages - 1) (ext_of chart.now) 0 (losses_shown start) (rows_of chart.now) }
+    ensures retired { result.retired ≤ length chart.now.rows.now }
+{
     let mut account = Account {
         retired: 0,
         filling: 0,
@@ -41,7 +52,7 @@ pub fn account_of(chart: &Chart<'_>) -> Account
         guesses: 0,
         outside: 0,
     };
-    let mut losses = [Loss::Filling; 12];
+    let mut losses = start;
     let last = chart.stages - 1;
     for cycle in 0..chart.rows.len() {
         let row = chart.rows[cycle];
@@ -81,8 +92,8 @@ fn lost_to(last: u8, word: u16, row: Row, losses: &[Loss; 12]) -> Option<Loss>
     }
 }
 
-// Why each stage is empty after the cycle, if it is.
-fn losses_after(last: u8, word: u16, row: Row, losses: &[Loss; 12]) -> [Loss; 12]
+/// Why each stage is empty after the cycle, if it is, where these were the reasons before.
+pub fn losses_after(last: u8, word: u16, row: Row, losses: &[Loss; 12]) -> [Loss; 12]
     requires few { last < 12 }
     ensures length { length result ≡ 12 }
     ensures losses { (k : ℕ) → k ≤ last

@@ -89,14 +89,14 @@ impl<'a> Chart<'a> {
         }
     }
 
-    // The width of a column of the text.
-    pub(crate) fn width(&self) -> usize
+    // The width of a column of the text of cycles below `end`.
+    pub(crate) fn width(&self, end: u64) -> usize
         requires { IsDrawable self.now }
-        ensures value { result ≡ column (names_of self.now) self.now.stages (length self.now.rows.now) }
+        ensures value { result ≡ column (names_of self.now) self.now.stages end }
         ensures few { result ≤ 42 }
     {
         let mut buffer = Buffer::new();
-        let digits = buffer.format(self.rows.len() as u64).len();
+        let digits = buffer.format(end).len();
         larger(self.longest() + 2, digits + 1)
     }
 }

@@ -13,11 +13,13 @@ mod lines;
 mod pieces;
 mod summary;
 mod text;
+mod window;
 mod writer;
 
-pub use account::{Account, account_of};
+pub use account::{Account, Loss, account_of, losses_after};
 pub use cells::{Mark, fetches_next, mark_of, next_place};
 pub use chart::{Chart, are_names};
 pub use summary::{put_rate, write_rate};
 pub use text::write_text;
+pub use window::{Placed, Window, write_window};
 pub use writer::Writing;

@@ -40,7 +40,7 @@ pub(crate) fn write_lines<K: Sink>(
 
 // The line of an instruction, where one enters in this cycle.
 #[tactic(auto, using(crate::proofs::InOrder::wrote_none))]
-fn write_fetch<K: Sink>(
+pub(crate) fn write_fetch<K: Sink>(
     chart: &Chart<'_>,
     width: usize,
     enters: bool,
@@ -57,27 +57,30 @@ fn write_fetch<K: Sink>(
         (cells_from chart.now.stages (ext_of chart.now) cycle (rows_seen chart.now.stages (drop cycle chart.now.rows.now)) (Some 0))) []) }
 {
     if enters {
-        write_line(chart, width, number, cycle, writing, sink)
+        write_line(chart, width, number, cycle, 0, writing, sink)
     }
 }
 
-fn write_line<K: Sink>(
+// The line of an instruction that is in a stage in this cycle.
+pub(crate) fn write_line<K: Sink>(
     chart: &Chart<'_>,
     width: usize,
     number: u64,
     cycle: usize,
+    stage: u8,
     writing: &mut Writing,
     sink: &mut K,
 )
     requires drawable { IsDrawable chart.now }
     requires width { width ≤ 42 }
     requires cycle { cycle ≤ 100000 }
+    requires stage { stage < chart.now.stages }
     ensures { Wrote (K.held sink.old) (K.faults sink.old) writing.old (K.held sink.new) (K.faults sink.new) writing.new
         (line_at width (names_of chart.now) cycle number
-        (cells_from chart.now.stages (ext_of chart.now) cycle (rows_seen chart.now.stages (drop cycle chart.now.rows.now)) (Some 0))) }
+        (cells_from chart.now.stages (ext_of chart.now) cycle (rows_seen chart.now.stages (drop cycle chart.now.rows.now)) (Some stage))) }
 {
     write_start(width, number, cycle, writing, sink);
-    write_cells(chart, width, cycle, writing, sink);
+    write_cells(chart, width, cycle, stage, writing, sink);
     writing.put(sink, b"\n")
 }
 
@@ -101,21 +104,23 @@ fn write_start<K: Sink>(
     write_parts(writing, sink, &pieces)
 }
 
-// The cells of an instruction that enters in this cycle: it is followed through the rows.
+// The cells of an instruction that is in a stage in this cycle: it is followed through the rows.
 #[tactic(auto, using(crate::proofs::InOrder::up_none))]
 fn write_cells<K: Sink>(
     chart: &Chart<'_>,
     width: usize,
     entered: usize,
+    stage: u8,
     writing: &mut Writing,
     sink: &mut K,
 )
     requires drawable { IsDrawable chart.now }
+    requires stage { stage < chart.now.stages }
     ensures { Wrote (K.held sink.old) (K.faults sink.old) writing.old (K.held sink.new) (K.faults sink.new) writing.new
         (cells_text width (names_of chart.now) (cells_from chart.now.stages (ext_of chart.now) entered
-        (rows_seen chart.now.stages (drop entered chart.now.rows.now)) (Some 0))) }
+        (rows_seen chart.now.stages (drop entered chart.now.rows.now)) (Some stage))) }
 {
-    let mut place = Some(0);
+    let mut place = Some(stage);
     for cycle in entered..chart.rows.len() {
         match place {
             None => return,

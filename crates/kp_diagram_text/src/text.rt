@@ -23,7 +23,8 @@ pub fn write_text<K: Sink>(chart: &Chart<'_>, sink: &mut K) -> Result<(), SinkFa
     ensures cause { HasCause (K.faults sink.old) (K.faults sink.new) result }
 {
     let mut writing = Writing::begin();
-    write_all_parts(chart, chart.width(), &mut writing, sink);
+    let width = chart.width(chart.rows.len() as u64);
+    write_all_parts(chart, width, &mut writing, sink);
     writing.end()
 }
 
@@ -37,7 +38,7 @@ fn write_all_parts<K: Sink>(chart: &Chart<'_>, width: usize, writing: &mut Writi
 {
     let count = chart.rows.len();
     write_title(chart.name, chart.stages, count as u64, writing, sink);
-    write_numbers(count, width, writing, sink);
+    write_numbers(0, count, width, writing, sink);
     writing.put(sink, b"\n");
     write_lines(chart, width, writing, sink);
     write_legend(writing, sink);
@@ -45,7 +46,7 @@ fn write_all_parts<K: Sink>(chart: &Chart<'_>, width: usize, writing: &mut Writi
 }
 
 #[tactic(auto, unfolding(crate::specs::Text::legend))]
-fn write_legend<K: Sink>(writing: &mut Writing, sink: &mut K)
+pub(crate) fn write_legend<K: Sink>(writing: &mut Writing, sink: &mut K)
     ensures { Wrote (K.held sink.old) (K.faults sink.old) writing.old (K.held sink.new) (K.faults sink.new) writing.new legend_text }
 {
     writing.put(
@@ -70,11 +71,20 @@ fn write_title<K: Sink>(name: &[u8], stages: u8, count: u64, writing: &mut Writi
     write_parts(writing, sink, &pieces)
 }
 
+// The numbers of cycles from one on.
 #[tactic(auto, using(crate::proofs::InOrder::up_none))]
-fn write_numbers<K: Sink>(count: usize, width: usize, writing: &mut Writing, sink: &mut K)
-    ensures { Wrote (K.held sink.old) (K.faults sink.old) writing.old (K.held sink.new) (K.faults sink.new) writing.new (cycle_numbers width 0 count) }
+pub(crate) fn write_numbers<K: Sink>(
+    from: u64,
+    count: usize,
+    width: usize,
+    writing: &mut Writing,
+    sink: &mut K,
+)
+    requires early { from ≤ 1000000000 }
+    requires few { count ≤ 100000 }
+    ensures { Wrote (K.held sink.old) (K.faults sink.old) writing.old (K.held sink.new) (K.faults sink.new) writing.new (cycle_numbers width from count) }
 {
     for cycle in 0..count {
-        write_piece(writing, sink, Piece::Column(width, cycle as u64));
+        write_piece(writing, sink, Piece::Column(width, from + cycle as u64));
     }
 }
