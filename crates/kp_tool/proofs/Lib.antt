@@ -13,6 +13,7 @@ mod Retiring
 mod ConstantTime
 mod Restarting
 pub mod Rollbacks
+pub mod Bypassed
 pub mod Headline
 pub mod Refusals
 pub mod Registers
