@@ -29,7 +29,7 @@ use Rattle.kp_report.proofs.Sims.{rows_many}
 use Rattle.kp_tool.specs.{Due.DueFor, Due.DueOfJob, Due.DueOfTiming, Read.ReadsVerilog, Refused.Breaks, Refused.own_rule}
 use Rattle.kp_tool.specs.Watched.{DueOfNetlist, agrees, differs, of_other, of_job}
 use Rattle.kp_tool.specs.Agreeing.{sequential_state, IsSequential, IsChecked, IsFaulty, IsReadBack}
-use Rattle.kp_tool.proofs.{Differences.agrees_everywhere, Dues.denoted_is_due}
+use Rattle.kp_tool.proofs.{Differences.agrees_everywhere, Dues.denoted_is_due, Restarting.shorter_begins}
 use Rattle.kp_tool.proofs.Headline.{accepted_machine, judged_unbroken, head_unbroken, same_trace}
 
 -- ---- `sim` and `seq`
@@ -84,6 +84,7 @@ sim_is_sequential n input text (Ok job, judged, due) = record {
   counts = count_is job n (accepted_machine job (judged_unbroken input job judged));
   values = λ none. due.1 ∙ run_is job n none;
   states = seq_states input job judged;
+  shorter = λ m b. shorter_begins job m n b;
 }
 sim_is_sequential n input text (Err refusal, judged, due) = absurd (omega (arith, due.0))
 

@@ -27,8 +27,9 @@ use Rattle.kp_vcd.specs.{Held.held, Held.Changes, Dumps.own_run, Dumps.values_at
 use Rattle.kp_vcd.proofs.{Holding.recorded_held, Holding.recorded_new, Lasting.run_lasts}
 use Rattle.kp_timing.{specs.Unfit.untimed, proofs.Plain.has_timeline}
 use Rattle.kp_tool.specs.Headline.{IsMoving, HasNoNeedlessStall, HasNoNeedlessStallFrom, IsCorrect, IsCorrectFrom, IsVerilogWith, IsRunWith, IsDumpedWith, IsGeneratedWith, IsTimed, IsDebuggedWith, IsNetlistWith, IsPairAlike, IsPairDifferent, Implements, IsImplementation, RunsWith, IsPairWith}
-use Rattle.kp_tool.specs.{Due.DueFor, Due.DueOfTiming, Read.ReadsVerilog}
+use Rattle.kp_tool.specs.{Due.DueFor, Due.DueOfTiming, Read.ReadsVerilog, Retiring.IsInTime}
 use Rattle.kp_tool.specs.{Watched.agrees, Watched.differs, Watched.DueOfNetlist, Watched.of_other, Watched.of_job, Compared.jobs, Compared.DueOfModules}
+use Rattle.kp_tool.proofs.{Retiring.in_time, Restarting.restarts_alike}
 use Rattle.kp_tool.{specs.Scripted.DueOfScript, proofs.Pairs.first_right, proofs.Pairs.second_right, proofs.Pairs.comparable_pair}
 use Rattle.kp_net.specs.Netlist.{Net, Input, State, start_of as begin_of, state_after, last_of}
 use Rattle.kp_vlog.specs.Splitting.{FirstEnds}
@@ -109,7 +110,7 @@ pipe_with Fact law input text (Err refusal, judged, due) = absurd (omega (arith,
 moves_pipe : HoldsOfPipe IsMoving
 moves_pipe job ins acc =
     let s : ℕ → ℕ → ℕ = state_of job (start_of job) in
-    (moves (machine_of job) s (start_hints job) ins acc, never-squashed (machine_of job) s (start_hints job) ins acc)
+    (moves (machine_of job) s (start_hints job) ins acc, never-squashed (machine_of job) s (start_hints job) ins acc, in_time (machine_of job) s (start_hints job) ins acc)
 
 -- for each trace with the rows of the pipeline from a state on
 waits_with : (job : Job) (s : ℕ → ℕ → ℕ) (ins : List Inputs) (trace : Trace) → Accepted (machine_of job)
@@ -201,6 +202,7 @@ moves_alike : HoldsAlike (λ job s. IsMoving job)
 moves_alike job s ins trace acc alike = (
   alike_moves job ins _ _ alike (moves (machine_of job) s (start_hints job) ins acc),
   alike_stays job _ _ alike (never-squashed (machine_of job) s (start_hints job) ins acc),
+  subst (IsInTime (machine_of job).stages ins) (sym alike.rows) (in_time (machine_of job) s (start_hints job) ins acc),
 )
 
 waits_alike : HoldsAlike HasNoNeedlessStallFrom
@@ -324,6 +326,7 @@ pipe_implements input text (Ok job, judged, (zero, verilog)) = record {
   net = verilog.net;
   denotes = verilog.denotes;
   implements = implements verilog.net job verilog.shows verilog.anew;
+  restarts = restarts_alike verilog.net job (accepted_machine job (judged_unbroken input job judged)) verilog.anew;
 }
 pipe_implements input text (Err refusal, judged, due) = absurd (omega (arith, due.0))
 

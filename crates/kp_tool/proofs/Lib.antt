@@ -9,6 +9,11 @@ pub mod Statuses
 pub mod Summed
 pub mod Dues
 pub mod Pairs
+mod Retiring
+mod ConstantTime
+mod Restarting
+pub mod Rollbacks
+pub mod Bypassed
 pub mod Headline
 pub mod Refusals
 pub mod Registers

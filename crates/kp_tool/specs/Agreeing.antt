@@ -1,5 +1,5 @@
 -- HOW THE COMMANDS AGREE: what the specified text of one command says about those of others.
-use Rattle.std.specs.Prelude.{◌≡◌, ◌≤◌, ◌<◌, ◌^◌, ◌++◌, ℕ, true, List, [], ◌∷◌, length, None, Some, Ok}
+use Rattle.std.specs.Prelude.{◌≡◌, ◌≤◌, ◌<◌, ◌^◌, ◌++◌, ℕ, true, List, [], ◌∷◌, length, take, None, Some, Ok}
 use Rattle.kp_base.specs.declared.refusal.Refusal.{Refusal}
 use Rattle.kp_ast.specs.declared.tree.Job.{Job}
 use Rattle.kp_stage.specs.{Counts.summary_of, Start.input as samples_at}
@@ -21,7 +21,8 @@ abbrev pub sequential_state : Job → ℕ → ℕ → ℕ → ℕ
 sequential_state job count = sequential job (λ i. values_in (samples_at job i)) count
 
 -- `sim N` AND `seq P`. After its rows, the text of `sim n` has values, each with `after P`. If the register or file has a result, P is the entry of the
--- line `count` for its write stage. And for a job without samples the value is the one that `seq P` prints for the same input.
+-- line `count` for its write stage. And for a job without samples the value is the one that `seq P` prints for the same input. A shorter run has the first
+-- rows of a longer one.
 pub record IsSequential (n : ℕ) (input text : List ℕ) : Type 0 where
   pub job : Job
   pub judged : Judges input (Ok job)
@@ -32,6 +33,7 @@ pub record IsSequential (n : ℕ) (input text : List ℕ) : Type 0 where
       → text ≡ run_text job (own_run job n).rows (λ t. sequential_state job (passes job (own_run job n).rows (length (own_run job n).rows) t) t)
   pub states : (count : ℕ) (answer : List ℕ) → DueFor (Some (OnJob (Seq count))) input 0 answer
       → answer ≡ text_after count job.decls (sequential_state job count)
+  pub shorter : (m : ℕ) → m ≤ n → (own_run job m).rows ≡ take m (own_run job n).rows
 
 -- `check` AND ALL COMMANDS ON A JOB. The input is a job that violates no rule; the only rule by which a command on a job still refuses it is one of its
 -- own, E38 of `timing`, and a command without such a rule ends with status 0.

@@ -26,12 +26,14 @@ use Rattle.kp_report.specs.{Runs.run_text, Line.totals_of, Line.totals_line}
 use Rattle.kp_gen.specs.Generated.{gen_job}
 use Rattle.kp_vcd.specs.{Held.held, Held.Changes, Dumps.own_run, Dumps.values_at, Dumps.vcd_dump, Dumps.vcd_text}
 use Rattle.kp_timing.specs.Lines.{timing_text}
-use Rattle.kp_tool.specs.{Read.ReadsVerilog, Watched.own_text}
+use Rattle.kp_tool.specs.{Read.ReadsVerilog, Watched.own_text, Retiring.IsInTime, Restarting.RestartsAlike}
 
 -- MOVING: in a cycle in which no stage is stalled from outside the highest full stage updates, and any n stall-free cycles of a machine of n
--- stages retire an instruction. The highest full stage is never squashed.
+-- stages retire an instruction. The highest full stage is never squashed. In any n * k cycles, and as many more as are stalled from outside, k
+-- instructions retire; and one that isn't squashed leaves after n cycles for each older one in flight and n for itself, and the stalled ones.
 abbrev pub IsMoving : Job → List Inputs → Trace → Type 0
-IsMoving job ins trace = Moves (machine_of job) ins trace × HighestStays (machine_of job).stages trace.rows
+IsMoving job ins trace =
+    Moves (machine_of job) ins trace × HighestStays (machine_of job).stages trace.rows × IsInTime (machine_of job).stages ins trace.rows
 
 -- NO NEEDLESS STALL. In each cycle of the run, the stages of the right path (no guess is wrong in the stage or above it) move on, wait and stall
 -- exactly as in the timeline, in which a guessed read never waits, and a stage waits only if the values of the sequential machine itself show that an
@@ -186,13 +188,14 @@ pub record IsPairDifferent (input text : List ℕ) : Type 0 where
 abbrev pub Implements : Net → Job → Type 0
 Implements net job = ShowsButName net job × BeginsAnew (renamed net (module_name job)) job
 
--- The text denotes a netlist that implements the input's job.
+-- The text denotes a netlist that implements the input's job. Runs of it from two resets on differ in nothing but what the two memories decide.
 pub record IsImplementation (input text : List ℕ) : Type 0 where
   pub job : Job
   pub judged : Judges input (Ok job)
   pub net : Net
   pub denotes : Denotes 0 text net
   pub implements : Implements net job
+  pub restarts : RestartsAlike net job
 
 -- The two texts after a job denote netlists of the job, and if one of the two implements the job, as the text of `pipe` does, then the fact holds of
 -- all runs of both.

@@ -9,10 +9,10 @@ use Rattle.kp_tool.specs.Headline.{IsCorrect, IsCorrectFrom, IsVerilogWith, IsRu
 use Rattle.kp_tool.specs.Agreeing.{IsSequential, IsChecked, IsFaulty, IsReadBack, IsWatched, IsReadAsDump}
 use Rattle.kp_tool.specs.{Refused.Breaks, Misread.Misreads}
 
--- THE HEADLINE: `pipe`. The text denotes a netlist that implements the job (`implements`). So for all stall words and samples, from the start on and again
--- after each reset, in whatever state it is raised, every run of it is correct (`correct`):
+-- THE HEADLINE: `pipe`. The text denotes a netlist that implements the job, and after a reset depends on the memory alone (`implements`). So for all stall
+-- words and samples, from the start on and again after each reset, in whatever state it is raised, every run of it is correct (`correct`):
 --   legal              each register and each word of a file has the value of the sequential machine after as many instructions as its stage has completed;
---   moves              any n stall-free cycles of a machine of n stages retire an instruction, and the oldest instruction is never squashed;
+--   moves              any n * k stall-free cycles of a machine of n stages retire k instructions, and the oldest instruction is never squashed;
 --   no_needless_stall  right guesses cost nothing, a wrong one is detected as soon as the value of its register is available, and a stage waits only for an
 --                      operand that isn't available yet.
 -- `read` writes the text again, if it isn't too long (`read_back`), and after an input that ends with a line feed `watch N` finds no difference in it
