@@ -16,6 +16,7 @@
 #                and the program kpcore. Icarus and Verilator print nothing of it, as above: ports-i and ports-v.
 #     named      the module of `kpcore --named` without its names is that of `pipe`. Icarus and Verilator print nothing of it (named-i, named-v), and Yosys makes
 #                the same cells of both (named-c).
+#     comments   the module of `kpcore --comments` without its comments is that of `pipe`. Icarus and Verilator print nothing of it (comments-i, comments-v).
 #
 # Where acc3 is among the jobs, Yosys has to make as many flip-flops of its module, with ports and without, as the widths of its values say (cells).
 #
@@ -74,6 +75,14 @@ named() {
     fi
 }
 
+# comments NAME JOB MODULE
+comments() {
+    "$kpcore" --comments "$2" >"$work/comments.v"
+    sed 's,  //.*,,' "$work/comments.v" | cmp - "$3" >"$work/said" 2>&1
+    quiet "$1" comments "$work/said"
+    lint "$1" "$work/comments.v" comments-i comments-v
+}
+
 # verilog NAME JOB SEED
 verilog() {
     local name=$1 job=$2 module="$work/m_$1.v"
@@ -96,7 +105,10 @@ verilog() {
     if has yosys && has iverilog && has python3; then
         says "$name" gates "$(python3 "$top/checks/gates.py" "$kp" "$job" "$3" "$cycles" "$seconds" 2>&1 | tail -n 1)"
     fi
-    if has "$kpcore"; then named "$name" "$job" "$module"; fi
+    if has "$kpcore"; then
+        named "$name" "$job" "$module"
+        comments "$name" "$job" "$module"
+    fi
     if has "$kpcore" && has iverilog && has python3; then ports "$name" "$job" "$3" "$module"; fi
     if [ "$name" = acc3 ] && has "$kpcore" && has yosys && has python3; then
         says "$name" cells "$(python3 "$top/checks/ports.py" cells "$kp" "$kpcore" 2>&1 | tail -n 1)"

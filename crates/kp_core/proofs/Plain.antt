@@ -1,16 +1,17 @@
--- Without ports a module is the canonical text of its netlist.
-use Rattle.std.proofs.Common.{◌≡◌, ◌∙◌, ℕ, ◌+◌, ◌-◌, ◌≤◌, List, [], ◌++◌, take, drop, refl, sym, ap, subst, arith}
+-- Without ports, names and comments a module is the canonical text of its netlist.
+use Rattle.std.proofs.Common.{◌≡◌, ◌∙◌, ℕ, ◌+◌, ◌-◌, ◌≤◌, List, [], ◌∷◌, ◌++◌, take, drop, refl, sym, ap, subst, arith}
 use Rattle.std.proofs.lemmas.List.{drop-drop, take-append-drop}
 use Rattle.std.specs.Prelude.{slice_range}
 use Rattle.kp_ast.specs.declared.tree.Job.{Job}
 use Rattle.kp_net.specs.Netlist.{Net}
 use Rattle.kp_vlog.specs.{Canon.canon, Denote.Denotes}
-use Rattle.kp_core_ports.{specs.Core.core_text, specs.Core.added_lines, specs.Core.header_ports, specs.Core.header_end, specs.Core.last_line, specs.Extended.IsExtended, specs.declared.port.Port.Port}
+use Rattle.kp_core_ports.specs.{Core.core_text, Core.added_lines, Core.header_ports, Core.header_end, Core.last_line, Core.with_ports, Extended.IsExtended, declared.port.Port.Port}
 use Rattle.kp_core_ports.proofs.Extending.{extended}
-use Rattle.kp_wires.specs.{Table.wires_of, Texts.named_lines}
+use Rattle.kp_wires.specs.{Comments.commented_text, Comments.note_at, Comments.with_comments, Table.wires_of, Texts.named_lines}
 use Rattle.kp_tool.specs.Written.{IsVerilogOf}
-use Rattle.kp_core.specs.{Due.IsCoreOf, Waves.IsPipeWithLines, declared.request.Form.Form, declared.request.Form.TheVariants.Module, declared.request.Form.TheVariants.Named}
-use Rattle.kp_core.proofs.Outcomes.{all_registers}
+use Rattle.kp_core.specs.{Bare.without_comments, Due.IsCoreOf, Waves.IsPipeWithComments, Waves.IsPipeWithLines, Promises.IsOfPipe, declared.request.Form.Form}
+use Rattle.kp_core.specs.declared.request.Form.TheVariants.{Comments, Module, Named, Names, Wires}
+use Rattle.kp_core.proofs.{Bare.bare, Outcomes.all_registers, Slashes.canon_free}
 
 -- a text is what is before its first place, between its two places, and after its second one
 in_three : (h n : ℕ) (text : List ℕ) → h ≤ n → take h text ++ (slice_range text h n ++ drop n text) ≡ text
@@ -21,9 +22,13 @@ in_three h n text low =
     ∙ ap (λ (x : List ℕ). take h text ++ x) (take-append-drop (n - h) (drop h text))
     ∙ take-append-drop h text
 
+unported : (net : Net) (job : Job) (text : List ℕ) → with_ports net job [] text [] ≡ text
+unfolding header_ports
+unported net job text = in_three (header_end text) (last_line text) text (omega arith)
+
 plain : (net : Net) (job : Job) → core_text net job [] [] ≡ canon net
-unfolding core_text header_ports
-plain net job = in_three (header_end (canon net)) (last_line (canon net)) (canon net) (omega arith)
+unfolding core_text
+plain net job = unported net job (canon net)
 
 -- the canonical text of its netlist
 own : (form : Form) (job : Job) (ports : List Port) (text plain : List ℕ) → (core : IsCoreOf form job ports text) → plain ≡ canon core.net → IsVerilogOf job plain
@@ -39,19 +44,51 @@ own form job ports text plain core is = record {
   regs = all_registers core.net job job core.carries refl;
 }
 
-pub written : (job : Job) (text : List ℕ) → IsCoreOf Module job [] text → IsVerilogOf job text
-written job text core = own Module job [] text text core (core.whole ∙ plain core.net job)
-
--- with names for waveforms
-pub with_lines : (job : Job) (ports : List Port) (text : List ℕ) → IsCoreOf Named job ports text → IsPipeWithLines job text
+-- with ports, and with more lines
+extending : (form : Form) (job : Job) (ports : List Port) (text more : List ℕ) → (core : IsCoreOf form job ports text) → text ≡ core_text core.net job ports more
+    → IsPipeWithLines job text
 unfolding core_text
-with_lines job ports text core =
-    let lines : List ℕ = added_lines core.net job ports ++ named_lines core.net job (wires_of core.net job core.outcomes core.names) in
+extending form job ports text more core is =
+    let lines : List ℕ = added_lines core.net job ports ++ more in
     record {
       plain = canon core.net;
       ports = header_ports job ports;
       lines = lines;
-      written = own Named job ports text (canon core.net) core refl;
-      extended = subst (λ (t : List ℕ). IsExtended (canon core.net) (header_ports job ports) lines t) (sym core.whole)
+      written = own form job ports text (canon core.net) core refl;
+      extended = subst (λ (t : List ℕ). IsExtended (canon core.net) (header_ports job ports) lines t) (sym is)
           (extended core.net (header_ports job ports) lines core.ok core.named);
     }
+
+-- with comments
+abbrev commented_of : (form : Form) (job : Job) (ports : List Port) (text : List ℕ) → IsCoreOf form job ports text → List ℕ
+commented_of form job ports text core = with_comments (note_at core.net job (wires_of core.net job core.outcomes core.names)) (canon core.net)
+
+without : (form : Form) (job : Job) (ports : List Port) (text : List ℕ) → (core : IsCoreOf form job ports text) → without_comments (commented_of form job ports text core) ≡ canon core.net
+without form job ports text core = bare (note_at core.net job (wires_of core.net job core.outcomes core.names)) (canon core.net) (canon_free core.net core.named)
+
+with_notes : (job : Job) (ports : List Port) (text : List ℕ) → IsCoreOf Comments job ports text → IsPipeWithComments job text
+unfolding commented_text
+with_notes job ports text core = record {
+  commented = commented_of Comments job ports text core;
+  ports = header_ports job ports;
+  lines = added_lines core.net job ports ++ [];
+  written = own Comments job ports text (without_comments (commented_of Comments job ports text core)) core (without Comments job ports text core);
+  added = core.whole;
+}
+
+uncommented : (job : Job) (text : List ℕ) → IsCoreOf Comments job [] text → IsVerilogOf job (without_comments text)
+unfolding commented_text
+uncommented job text core =
+    own Comments job [] text (without_comments text) core
+    (ap without_comments (core.whole ∙ unported core.net job (commented_of Comments job [] text core)) ∙ without Comments job [] text core)
+
+-- ---- all forms
+
+pub of_pipe : (form : Form) (job : Job) (ports : List Port) (text : List ℕ) → IsCoreOf form job ports text → IsOfPipe form job ports text
+of_pipe Module job [] text core = own Module job [] text text core (core.whole ∙ plain core.net job)
+of_pipe Module job (p ∷ ps) text core = extending Module job (p ∷ ps) text [] core core.whole
+of_pipe Named job ports text core = extending Named job ports text (named_lines core.net job (wires_of core.net job core.outcomes core.names)) core core.whole
+of_pipe Comments job [] text core = uncommented job text core
+of_pipe Comments job (p ∷ ps) text core = with_notes job (p ∷ ps) text core
+of_pipe Names job ports text core = tt
+of_pipe Wires job ports text core = tt

@@ -16,7 +16,7 @@ use Rattle.kp_synth.specs.{Carrying.Carries, Known.HasStages}
 use Rattle.kp_view_texts.specs.Heads.{rule_head}
 use Rattle.kp_core_ports.specs.{declared.port.Port.Port, declared.port.PortRefusal.PortRefusal, Ports.ports_of, Core.core_text, Names.names_text}
 use Rattle.kp_wires.specs.{Comments.commented_text, Table.wires_of, Texts.named_lines, Texts.wires_text}
-use Rattle.kp_core.specs.{declared.request.Form.Form, Messages.BeginsWith, Messages.file_name, Messages.port_head}
+use Rattle.kp_core.specs.{declared.request.Form.Form, Messages.BeginsWith, Messages.IsMessage, Messages.file_name}
 use Rattle.kp_core.specs.Words.{Asked, bad_words, help, version, write, reads_input}
 use Rattle.kp_core.specs.declared.texts.TheConstants.{HELP, USAGE, VERSION}
 use Rattle.kp_core.specs.declared.request.Form.TheVariants as forms
@@ -54,13 +54,13 @@ pub record IsCoreOf (form : Form) (job : Job) (ports : List Port) (text : List �
   pub whole : text ≡ text_for form net job ports outcomes names
 
 -- the outcome for a job and the lines after it
-abbrev pub DueOfLines : Form → List ℕ → Job → Result (List Port) PortRefusal → ℕ → List ℕ → Type 0
-DueOfLines form file job (Ok ports) status text = (status ≡ 0) × IsCoreOf form job ports text
-DueOfLines form file job (Err refusal) status text = (status ≡ 2) × BeginsWith (port_head file refusal) text
+abbrev pub DueOfLines : Form → List ℕ → List ℕ → Job → Result (List Port) PortRefusal → ℕ → List ℕ → Type 0
+DueOfLines form file input job (Ok ports) status text = (status ≡ 0) × IsCoreOf form job ports text
+DueOfLines form file input job (Err refusal) status text = (status ≡ 2) × IsMessage file input refusal text
 
 -- the outcome for a verdict on the head of an input
 abbrev pub DueOfVerdict : Form → List ℕ → List ℕ → Result (Job × ℕ) Refusal → ℕ → List ℕ → Type 0
-DueOfVerdict form file input (Ok (job, rest)) status text = DueOfLines form file job (ports_of job input rest) status text
+DueOfVerdict form file input (Ok (job, rest)) status text = DueOfLines form file input job (ports_of job input rest) status text
 DueOfVerdict form file input (Err refusal) status text = (status ≡ 2) × BeginsWith (rule_head file refusal) text
 
 -- the outcome for an input that is not too long

@@ -2,8 +2,10 @@ pub mod Words
 pub mod Messages
 pub mod Answers
 pub mod Due
+pub mod Bare
 pub mod Waves
 pub mod Values
 pub mod Beginning
 pub mod Loading
+pub mod Promises
 pub mod Cores

@@ -1,13 +1,13 @@
--- NAMES FOR WAVEFORMS: what a module with them is, and what each of its wires has in a run.
-use Rattle.std.specs.Prelude.{ℕ, List, All}
+-- NAMES FOR WAVEFORMS, AND COMMENTS: what a module with them is, and what each wire that they name has in a run.
+use Rattle.std.specs.Prelude.{◌≡◌, ℕ, List, All}
 use Rattle.kp_ast.specs.declared.tree.Job.{Job}
-use Rattle.kp_pipeline.specs.{Pipeline.PipelineState, Pipeline.Inputs, Trimming.trimmed}
+use Rattle.kp_pipeline.specs.{Trimming.trimmed}
 use Rattle.kp_net.specs.{Netlist.Net, Netlist.Input, Netlist.State, Netlist.cells_of, Nodes.at}
 use Rattle.kp_implements.specs.Traces.{input_seen, inputs_seen}
 use Rattle.kp_synth_tables.specs.Keys.{is_alive}
-use Rattle.kp_core_ports.specs.Extended.{IsExtended}
+use Rattle.kp_core_ports.specs.{Core.with_added, Extended.IsExtended}
 use Rattle.kp_tool.specs.Written.{IsVerilogOf}
-use Rattle.kp_core.specs.Values.{moment_in, state_in}
+use Rattle.kp_core.specs.{Bare.without_comments, Values.moment_in, Values.state_in}
 use Rattle.kp_wires.specs.{Truth.Has, declared.wire.Wire.Wire}
 
 -- a text that `pipe` may write for the job, with ports at the end of its header, and lines before its last one
@@ -17,6 +17,14 @@ pub record IsPipeWithLines (job : Job) (text : List ℕ) : Type 0 where
   pub lines : List ℕ
   pub written : IsVerilogOf job plain
   pub extended : IsExtended plain ports lines text
+
+-- a text that without its comments is one that `pipe` may write for the job, with ports at the end of its header, and lines before its last one
+pub record IsPipeWithComments (job : Job) (text : List ℕ) : Type 0 where
+  pub commented : List ℕ
+  pub ports : List ℕ
+  pub lines : List ℕ
+  pub written : IsVerilogOf job (without_comments commented)
+  pub added : text ≡ with_added commented ports lines
 
 -- in the cycle after T others of a run, each wire has its signal in the state of the pipelined machine, in which a pipe is 0 past its last use
 abbrev pub AllHave : Job → Net → State → (ℕ → ℕ → ℕ) → List Input → Input → ℕ → List Wire → Type 0

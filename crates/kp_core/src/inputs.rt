@@ -62,7 +62,7 @@ fn of_head(
     requires short { length text.now ≤ most_bytes }
     requires within { head.now.rest ≤ length text.now }
     ensures low { IfOk result (λ a. a.status ≤ 2) }
-    ensures due { IfOk result (λ a. DueOfLines form file.now head.now.job.design.job (ports_of head.now.job.design.job text.now head.now.rest) a.status (text_said a.said)) }
+    ensures due { IfOk result (λ a. DueOfLines form file.now text.now head.now.job.design.job (ports_of head.now.job.design.job text.now head.now.rest) a.status (text_said a.said)) }
 {
     let layout = Layout::of(alloc, &head.job.design)?;
     match read_ports(alloc, &layout, text, head.rest) {

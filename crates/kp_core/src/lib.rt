@@ -4,8 +4,8 @@
 //! with status 0, and why there is none to standard error. All memory is allocated before the first byte is written.
 //!
 //! `request.rt`, `texts.rt` and `message.rt`: the words of a command line as what they ask for, the texts of help, usage and version, and the message on a
-//! line that is refused. `runs` and `laws`: runs of a module whose files are loaded while its reset is raised, where they begin (`specs/Beginning.antt`), what
-//! the laws of the pipeline say of them, and what the ports of the module show, in terms of the job's machine.
+//! line that is refused. `specs/Promises.antt` defines what is promised of a module: what is added to the text of `pipe`, that each run is correct, also after
+//! files were loaded while the reset was raised (`specs/Beginning.antt`), what its ports show, and what its wires have, in terms of the job's machine.
 #![tactic(auto)]
 
 mod answer;
@@ -14,7 +14,6 @@ pub mod laws;
 mod message;
 pub mod processors;
 mod request;
-pub mod runs;
 mod texts;
 mod top;
 

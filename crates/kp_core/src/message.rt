@@ -1,6 +1,6 @@
 // Why a line is refused.
 ghost use Rattle.std.specs.Prelude.{◌≡◌, ◌++◌, OnOk, IfOk, option_map};
-ghost use Rattle.kp_core.specs.Messages.{port_head, sentence, help, AreFacts, IsMessage, BeginsWith};
+ghost use Rattle.kp_core.specs.Messages.{port_head, sentence, help, AreFacts, IsMessage};
 
 use itoa::Buffer;
 use kp_base::NoMemory;
@@ -16,8 +16,7 @@ pub fn message_of(
     text: &[u8],
     refusal: PortRefusal,
 ) -> Result<Vec<u8>, NoMemory>
-    ensures begins { IfOk result (λ said. BeginsWith (port_head file.now refusal) said.items) }
-    ensures message { IfOk result (λ said. IsMessage file.now text.now refusal said.items) }
+    ensures { IfOk result (λ said. IsMessage file.now text.now refusal said.items) }
 {
     let facts = facts(alloc, text, refusal)?;
     let mut said = Vec::new(alloc);

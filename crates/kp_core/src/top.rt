@@ -4,6 +4,8 @@ ghost use Rattle.kp_base.specs.Causes.{Rose};
 ghost use Rattle.kp_frontend.specs.Judging.{too_long};
 ghost use Rattle.kp_view_texts.specs.Heads.{rule_head};
 ghost use Rattle.kp_core.specs.{Messages.BeginsWith, Messages.file_name, Words.asked, Words.reads_input, Words.write, Answers.text_said};
+ghost use Rattle.kp_tool.specs.Due.{Between};
+ghost use Rattle.kp_core.specs.{declared.request.Form.Form, Promises.IsPromised};
 ghost use Rattle.kp_core.specs.Due.{DueFor, IsDue, IsFinal, Prints, PrintsPart};
 ghost use Rattle.kp_core.specs.declared.top.Stop.TheVariants as stop;
 
@@ -58,6 +60,15 @@ pub fn run_core<S: Source, K: Sink, E: Sink>(
     ensures complete { ¬ Rose (S.faults source.old) (S.faults source.new) → ¬ Rose (K.faults out.old) (K.faults out.new)
         → ¬ Rose (E.faults err.old) (E.faults err.new) → result ≢ 5 → IfSome (S.left source.old) (λ input.
         (text : List ℕ) × DueFor (asked request.now) input result text × Prints K.held E.held out.old out.new err.old err.new result text) }
+
+    // What is promised of a module and of its tables, for the bytes that were read and those that were written: `specs/Promises.antt`. Without what is added, its
+    // text is one that `pipe` may write. A run begins at power-up, or after cycles that raise the reset, in which files may be loaded. Each run is correct, so a
+    // program that is loaded runs as if the image of the job held it. `show R` is the value of R in the sequential machine, and `peek F` the word of F, after as
+    // many instructions as their write stage has let pass; `probe P at k` is the pipe P in stage k of the pipelined machine, and where no guess that is pending in
+    // the stage or in a later one is wrong, that of the instruction in it; `next P at k` is what the register of P has in the next cycle; `commit` is 1 where an
+    // instruction leaves the last stage. Each wire of the table has the value of its signal in its stage of the pipelined machine.
+    ensures promises { (form : Form) (file : Option (List ℕ)) → asked request.now ≡ write form file → result ≡ 0
+        → Between (S.left source.old) (S.left source.new) (K.held out.old) (K.held out.new) (IsPromised form) }
 {
     match answer(alloc, request, source) {
         Ok(answer) => written(&answer, out, err),

@@ -1,5 +1,5 @@
 use Rattle.kp_core.proofs.{Loading.cycle_memory, Memory.start_memory}
-use Rattle.kp_core.proofs.runs.files_stay_complete.Goals as goal
+use Rattle.kp_core.proofs.laws.files_stay_complete.Goals as goal
 
 pub returns-clause-start : goal.returns-clause-start
 returns-clause-start c = start_memory
