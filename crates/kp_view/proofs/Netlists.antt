@@ -1,5 +1,5 @@
 -- A netlist of a job, and the text of its depths.
-use Rattle.std.proofs.Common.{◌≡◌, ◌∙◌, ◌≤◌, ℕ, Bool, List, [], length, sym, ap, subst, arith}
+use Rattle.std.proofs.Common.{◌≡◌, ◌∙◌, ℕ, Bool, List, [], length, sym, ap, subst, arith}
 use Rattle.kp_ast.specs.declared.tree.Job.{Job}
 use Rattle.kp_net.specs.Netlist.{Net}
 use Rattle.kp_implements.specs.Shows.{Shows}
@@ -21,5 +21,5 @@ depth_is job layout given inside net d text same is shows carries depth said = r
   shows = shows;
   carries = carries;
   depth = subst (λ (b : Bool). IsDepth job net b d) is (subst (λ (j : Job). IsDepth j net given d) same depth);
-  text = said ∙ ap (λ (j : Job). depth_text j net d) same;
+  printed = said ∙ ap (λ (j : Job). depth_text j net d) same;
 }

@@ -13,4 +13,4 @@ pub record IsDepthText (job : Job) (inside : Bool) (text : List ℕ) : Type 0 wh
   pub shows : Shows net job
   pub carries : Carries net job
   pub depth : IsDepth job net inside depths
-  pub text : text ≡ depth_text job net depths
+  pub printed : text ≡ depth_text job net depths
