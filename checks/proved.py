@@ -16,7 +16,7 @@ PAGE = f"{TOP}/docs/PROVED.md"
 CALLS = {"kp_tool": "tool", "kp_view": "view", "kp_view_same": "same_sources", "kp_view_explain": "explain_source", "kp_core": "run_core"}
 # The other crates whose laws users rely on: what is printed, shown and compared is said in their terms.
 DETAILED = """kp_pipeline kp_implements kp_isa kp_same kp_diagram kp_diagram_run kp_stalls kp_stalls_run kp_paths kp_depth kp_page kp_timing kp_debug
-kp_vcd kp_equiv kp_vlog kp_wires kp_core_ports kp_view_findings""".split()
+kp_vcd kp_equiv kp_vlog kp_wires kp_core_ports kp_lint""".split()
 # Crates whose laws are steps in the proofs of others; docs/PARSING.md has those of kp_grammar.
 STEPS = """kp_base kp_grammar kp_region kp_ast kp_lex kp_parse kp_view_expected kp_described kp_width kp_machine kp_plain kp_isa_rv kp_isa_rvm
 kp_isa_dlx kp_isa_dlx5 kp_seq kp_net kp_sched kp_synth_next kp_cycle kp_image kp_gen kp_run kp_vread kp_view_excerpt""".split()

@@ -9,7 +9,7 @@ use Rattle.kp_width.proofs.Listed.{verdict as width_verdict}
 use Rattle.kp_stage.specs.{Stages.answers_of, Stages.broken_of, Findings.refusal_of as stage_refusal}
 use Rattle.kp_image.specs.{Sections.asked_by, Sections.sections_of, Faults.refusal_of as section_refusal}
 use Rattle.kp_image.proofs.Unbroken.{asked_first as section_verdict}
-use Rattle.kp_view_findings.specs.declared.finding.Finding.{Finding as Message}
+use Rattle.kp_view_explain.specs.declared.passes.Finding.{Finding as Message}
 use Rattle.kp_view_explain.specs.inner.Found.{first_rule, head_of}
 
 -- what is said of the first findings of a list has its first one as the first

@@ -1,3 +1,4 @@
+mod Appending
 mod Agree
 mod Inputs
 mod Next

@@ -2,7 +2,7 @@
 use Rattle.std.proofs.Common.{◌≡◌, ℕ, List, [], ◌∷◌, ◌++◌, Option, Some, None, ap, append_assoc, append-nil, sym, ◌∙◌}
 use Rattle.kp_base.specs.declared.{place.Place.Place, refusal.Refusal.Refusal}
 use Rattle.kp_view_excerpt.specs.{Excerpts.excerpt_text, Notes.AppendsNoteAt}
-use Rattle.kp_view_findings.specs.Messages.{AppendsMessage, AppendsShown, Grows}
+use Rattle.kp_view_explain.specs.Messages.{AppendsMessage, AppendsShown, Grows}
 use Rattle.kp_view_texts.specs.Heads.{rule_head}
 use Rattle.kp_view_verilog.specs.Marks.{Marks}
 use Rattle.kp_view_explain.specs.{Explaining.BeginsWith, Showing.ShowsPlace, Showing.job_mark, inner.Shown.ShowsMarked}

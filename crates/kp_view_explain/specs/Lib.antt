@@ -1,4 +1,6 @@
 pub mod Showing
+pub mod Messages
+pub mod Warned
 pub mod Printed
 pub mod Explaining
 pub mod Listing

@@ -1,18 +1,17 @@
 -- WHAT IS PRINTED for a job that violates no rule.
-use Rattle.std.specs.{Prelude.◌≡◌, Prelude.◌≤◌, Prelude.ℕ, Prelude.List, Prelude.[], Prelude.◌∷◌, Prelude.length, List.All}
+use Rattle.std.specs.Prelude.{◌≡◌, ℕ, List, [], ◌∷◌, take}
+use Rattle.kp_base.specs.{Findings.findings, declared.finding.Finding.Finding}
 use Rattle.kp_ast.specs.declared.tree.Job.{Job}
-use Rattle.kp_view_findings.specs.Messages.{AppendsCaution}
-use Rattle.kp_view_findings.specs.declared.finding.Caution.{Caution}
-use Rattle.kp_view_stages.specs.Cautions.{IsTrueOf}
+use Rattle.kp_lint.specs.{Lints.warned_in, declared.lint.Lint.Lint}
+use Rattle.kp_view_message.specs.declared.warning.Warning.{Warning}
+use Rattle.kp_view_explain.specs.{Messages.AppendsWarning, Warned.SaysOf}
 
 -- The new text is the old one, and these warnings, one after the other.
-abbrev pub Prints : List ℕ → List ℕ → List Caution → List ℕ → List ℕ → Type 0
-Prints file text [] old new = new ≡ old
-Prints file text (c ∷ cs) old new = (more : List ℕ) × AppendsCaution text file c old more × Prints file text cs more new
+abbrev pub Prints : List ℕ → List ℕ → Job → List (Finding Lint) → List ℕ → List ℕ → Type 0
+Prints file text job [] old new = new ≡ old
+Prints file text job (f ∷ fs) old new =
+    (w : Warning) × SaysOf text job f.place f.fault w × ((more : List ℕ) × AppendsWarning text file f.place w old more × Prints file text job fs more new)
 
--- At most 20 warnings, each true of the job; with no warning nothing is printed.
-pub record IsPrinted (file text : List ℕ) (job : Job) (out : List ℕ) : Type 0 where
-  pub warnings : List Caution
-  pub each : All (IsTrueOf job) warnings
-  pub few : length warnings ≤ 20
-  pub printed : Prints file text warnings [] out
+-- The first 20 warnings in the order of the text, and nothing else; with no warning nothing is printed.
+abbrev pub IsPrinted : List ℕ → List ℕ → Job → List ℕ → Type 0
+IsPrinted file text job out = Prints file text job (take 20 (findings (warned_in job))) [] out

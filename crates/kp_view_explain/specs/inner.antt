@@ -3,3 +3,4 @@ pub mod Naming
 pub mod Shown
 pub mod Found
 pub mod Reading
+pub mod Outputs

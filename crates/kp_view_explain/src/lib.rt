@@ -8,10 +8,12 @@ mod of_job;
 mod passes;
 mod program;
 mod reading;
+mod report;
 mod script;
 mod text;
 mod top;
 mod verilog;
+mod warning;
 mod words;
 
 pub use explanation::Explanation;

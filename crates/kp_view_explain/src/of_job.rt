@@ -2,22 +2,23 @@
 ghost use Rattle.std.specs.Prelude.{◌≡◌, ◌≢◌, ◌≤◌, [], length, Err, IfOk, OnOk};
 ghost use Rattle.kp_frontend.specs.{Judging.broken_in, Judging.most_bytes, Judging.JudgesHeadText, inner.Reading.IsCountable, inner.Reading.IsRead};
 ghost use Rattle.kp_view_texts.specs.Heads.{rule_head};
-ghost use Rattle.kp_view_findings.specs.Messages.{AppendsShown, Grows};
+ghost use Rattle.kp_view_explain.specs.Messages.{Grows};
 ghost use Rattle.kp_view_message.specs.Texts.{message_text};
 ghost use Rattle.kp_view_explain.specs.{Explaining.BeginsWith, Explaining.warned, Listing.ListsNext, Printed.IsPrinted, Printed.Prints, Showing.ShowsPlace, Showing.job_mark};
 ghost use Rattle.kp_view_explain.specs.declared.words.Subject.TheVariants as subjects;
 ghost use Rattle.kp_view_explain.specs.inner.{Found.IsOfTree, Naming.SaysMessage, Shown.ExplainsShown};
 
 use crate::explanation::Explanation;
-use crate::passes::violations;
+use crate::passes::{Finding, MOST, violations};
 use crate::reading::{Reading, read};
+use crate::report::{write_finding, write_message, write_warning};
+use crate::warning::warning_of;
 use kp_ast::Job;
-use kp_base::{NoMemory, Refusal};
+use kp_base::{Finding as At, NoMemory, Refusal};
 use kp_lex::tail;
+use kp_lint::{Lint, lints};
 use kp_parse::Parsed;
-use kp_view_findings::{Caution, Finding, MOST, write_caution, write_finding, write_message};
 use kp_view_message::{Message, ReadingFault};
-use kp_view_stages::cautions;
 use std::alloc::Global;
 
 /// The explanation of a job that is not too long: the first rule that it violates, and further violations, or warnings.
@@ -162,10 +163,9 @@ fn write_others(
 fn warnings(alloc: Global, file: &[u8], text: &[u8], job: &Job) -> Result<Vec<u8>, NoMemory>
     ensures { IfOk result (λ out. IsPrinted file.now text.now job.now out.items) }
 {
-    let mut all = cautions(alloc, job)?;
-    all.truncate(MOST);
+    let found = lints(alloc, job, MOST)?;
     let mut out = Vec::new(alloc);
-    write_warnings(alloc, &mut out, file, text, all.as_slice())?;
+    write_warnings(alloc, &mut out, file, text, job, found.as_slice())?;
     Ok(out)
 }
 
@@ -174,12 +174,20 @@ fn write_warnings(
     out: &mut Vec<u8>,
     file: &[u8],
     text: &[u8],
-    all: &[Caution<'_>],
+    job: &Job,
+    found: &[At<Lint>],
 ) -> Result<(), NoMemory>
-    ensures { OnOk result (Prints file.now text.now all.now out.old.items out.new.items) }
+    ensures { OnOk result (Prints file.now text.now job.now found.now out.old.items out.new.items) }
 {
-    for caution in all {
-        write_caution(alloc, out, text, file, caution)?;
+    for lint in found {
+        write_warning(
+            alloc,
+            out,
+            text,
+            file,
+            lint.place,
+            warning_of(text, job, *lint),
+        )?;
     }
     Ok(())
 }

@@ -8,13 +8,22 @@ ghost use Rattle.kp_frontend.specs.{Judging.broken_in, inner.Reading.IsCountable
 ghost use Rattle.kp_view_explain.specs.inner.Found.{first_rule};
 
 use kp_ast::Job;
-use kp_base::NoMemory;
+use kp_base::{NoMemory, Place};
 use kp_image::section_findings;
 use kp_stage::stage_findings;
-use kp_view_findings::{Finding, MOST};
 use kp_view_message::{Message, SectionMessage, StageMessage, width_message};
 use kp_width::width_findings;
 use std::alloc::Global;
+
+/// The most violations or warnings that are listed for one text.
+pub(crate) const MOST: usize = 20;
+
+/// A violated rule, with the place that the rule names.
+#[derive(Clone, Copy)]
+pub(crate) struct Finding<'t> {
+    pub place: Place,
+    pub message: Message<'t>,
+}
 
 /// The violations of names and widths, up to 20; where there are none, those of stages; where there are none of them, those of sections. The first is the
 /// verdict on the tree. The only error is out of memory.

@@ -2,7 +2,7 @@
 use Rattle.std.specs.Prelude.{◌≡◌, ℕ, List, [], ◌∷◌, Option, Some, None}
 use Rattle.kp_base.specs.{Refusal.e_rule, declared.refusal.Refusal.Refusal}
 use Rattle.kp_view_message.specs.Rules.{rule_of}
-use Rattle.kp_view_findings.specs.declared.finding.Finding.{Finding}
+use Rattle.kp_view_explain.specs.declared.passes.Finding.{Finding}
 use Rattle.kp_view_explain.specs.{Showing.ShowsPlace, Showing.job_mark, declared.explanation.Explanation.Explanation}
 
 -- the rule that a finding is of, at its place

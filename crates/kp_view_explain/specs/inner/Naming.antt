@@ -8,7 +8,7 @@ use Rattle.kp_view_help.specs.{Texts.found_text, declared.found.FoundToken.Found
 use Rattle.kp_view_message.specs.declared.message.Message.{Message}
 use Rattle.kp_view_message.specs.declared.message.Message.TheVariants as messages
 use Rattle.kp_view_message.specs.declared.reading_fault.ReadingFault.TheVariants as faults
-use Rattle.kp_view_findings.specs.Messages.{AppendsMessage}
+use Rattle.kp_view_explain.specs.Messages.{AppendsMessage}
 use Rattle.kp_view_texts.specs.Heads.{rule_head}
 use Rattle.kp_view_explain.specs.Listing.{IsNext, SaysNext, found_at, tokens_before}
 

@@ -1,4 +1,4 @@
-use Rattle.kp_view_findings.specs.Messages.{Grows}
+use Rattle.kp_view_explain.specs.Messages.{Grows}
 use Rattle.kp_view_explain.proofs.of_job.write_others.Given as goal
 
 abbrev pub invariant-loop-finding : goal.invariant-loop-finding

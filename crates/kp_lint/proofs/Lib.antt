@@ -1,0 +1,5 @@
+pub mod Noting
+pub mod Passing
+pub mod Steps
+pub mod Vain
+pub mod Zero

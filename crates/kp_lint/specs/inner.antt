@@ -1,0 +1,2 @@
+-- These definitions are only for private contracts and proofs: no public clause depends on them.
+pub mod Noted

@@ -1,4 +1,0 @@
-mod Appending
-pub mod Steps
-pub mod Vain
-pub mod Zero

@@ -1,6 +1,0 @@
-use Rattle.std.proofs.Common.{◌≡◌, drop}
-use Rattle.kp_view_findings.specs.Sets.{in_vain}
-use Rattle.kp_view_findings.proofs.sets.in_vain.Given as goal
-
-abbrev pub invariant-loop-i : goal.invariant-loop-i
-invariant-loop-i l = in_vain (drop l.i l.sets) ≡ in_vain l.sets
