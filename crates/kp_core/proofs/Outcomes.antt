@@ -31,7 +31,7 @@ of_excess form name file old new input status text is consumed count said = reco
   taken = input;
   consumed = consumed;
   whole = inr count;
-  due = (Err too_long, head_over (omega (arith, count)), subst (λ (f : List ℕ). DueOfVerdict form f input (Err too_long) status text) is said);
+  due = (Err too_long, head_over (omega (arith, count)), subst (λ (f : List ℕ). DueOfVerdict form f input (Err too_long) status text) is (said.0, (said.1, λ few. absurd (omega (arith, count, few)))));
 }
 
 nothing_taken : (left : Option (List ℕ)) → Consumes left left []

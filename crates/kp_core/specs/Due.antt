@@ -15,6 +15,7 @@ use Rattle.kp_synth_next.specs.Bound.{node_bound}
 use Rattle.kp_synth.specs.{Carrying.Carries, Known.HasStages}
 use Rattle.kp_view_texts.specs.Heads.{rule_head}
 use Rattle.kp_core_ports.specs.{declared.port.Port.Port, declared.port.PortRefusal.PortRefusal, Ports.ports_of, Core.core_text, Names.names_text}
+use Rattle.kp_view_explain.specs.{Listing.ListsNext, Showing.ShowsPlace, Showing.job_mark}
 use Rattle.kp_wires.specs.{Comments.commented_text, Table.wires_of, Texts.named_lines, Texts.wires_text}
 use Rattle.kp_core.specs.{declared.request.Form.Form, Messages.BeginsWith, Messages.IsMessage, Messages.file_name}
 use Rattle.kp_core.specs.Words.{Asked, bad_words, help, version, write, reads_input}
@@ -58,10 +59,16 @@ abbrev pub DueOfLines : Form → List ℕ → List ℕ → Job → Result (List 
 DueOfLines form file input job (Ok ports) status text = (status ≡ 0) × IsCoreOf form job ports text
 DueOfLines form file input job (Err refusal) status text = (status ≡ 2) × IsMessage file input refusal text
 
+-- why a job is refused: the head of the message on the first rule that it violates, and for an input that is not too long the line of its place, and further
+-- violations
+abbrev pub IsExplained : List ℕ → List ℕ → Refusal → List ℕ → Type 0
+IsExplained file input refusal text = BeginsWith (rule_head file refusal) text
+    × (length input ≤ 16777216 → ShowsPlace file input refusal (job_mark input refusal) text × ListsNext file input text)
+
 -- the outcome for a verdict on the head of an input
 abbrev pub DueOfVerdict : Form → List ℕ → List ℕ → Result (Job × ℕ) Refusal → ℕ → List ℕ → Type 0
 DueOfVerdict form file input (Ok (job, rest)) status text = DueOfLines form file input job (ports_of job input rest) status text
-DueOfVerdict form file input (Err refusal) status text = (status ≡ 2) × BeginsWith (rule_head file refusal) text
+DueOfVerdict form file input (Err refusal) status text = (status ≡ 2) × IsExplained file input refusal text
 
 -- the outcome for an input that is not too long
 abbrev pub DueOfHead : Form → List ℕ → List ℕ → ℕ → List ℕ → Type 0
