@@ -10,24 +10,13 @@ use kp_ast::Job;
 use kp_base::NoMemory;
 use std::alloc::Global;
 
+#[derive(Drop)]
 pub(crate) struct Facts<'t> {
     pub job: &'t Job,
     /// The names that expressions use.
     pub used: Table<bool>,
     /// The first stage in which each pipe can be used.
     pub pipes: Table<usize>,
-}
-
-impl Drop for Facts<'_> {
-    fn drop(self) {
-        let Facts {
-            job: _,
-            used,
-            pipes,
-        } = self;
-        drop(used);
-        drop(pipes);
-    }
 }
 
 impl<'t> Facts<'t> {

@@ -69,7 +69,7 @@ fn in_stmt(
     spot: Spot,
     stmt: &Stmt,
 ) -> Result<(), NoMemory>
-    ensures { OnOk result (notes.new ≡ with_answers notes.old (of_stmt (facts_in facts.now) facts.now.job.now (has used.now) spot.stage spot.index stmt.now)) }
+    ensures { OnOk result (notes.new ≡ with_answers notes.old (of_stmt (facts_in facts.now) facts.now.job.now (has used.now.entries) spot.stage spot.index stmt.now)) }
 {
     if notes.is_full() {
         return Ok(());

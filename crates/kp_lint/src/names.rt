@@ -57,7 +57,7 @@ pub(crate) fn of_decl(
 }
 
 fn has(used: &Table<bool>, name: &Name) -> bool
-    ensures { result ≡ has used.now name.now }
+    ensures { result ≡ has used.now.entries name.now }
 {
     used.get(name).is_some()
 }
@@ -91,7 +91,7 @@ fn has_result(facts: &Facts<'_>, target: &Name) -> bool
 
 /// W5: a local name that no expression of the stage uses. A read with a guess serves where nothing uses its name.
 pub(crate) fn of_local(used: &Table<bool>, stage: usize, stmt: &StmtKind) -> Option<Found>
-    ensures { result ≡ of_local (has used.now) stage stmt.now }
+    ensures { result ≡ of_local (has used.now.entries) stage stmt.now }
 {
     let lint = Lint::UnusedLocal { stage };
     match stmt {

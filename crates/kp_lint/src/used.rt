@@ -6,7 +6,7 @@ ghost use Rattle.kp_lint.specs.Tables.{value_of};
 ghost use Rattle.kp_lint.specs.Used.{is_used, names_in_block, names_in_both, names_in_decl, names_in_kind, names_in_option, names_in_stmt};
 ghost use Rattle.kp_lint.specs.inner.Noted.{has, noted};
 
-use crate::table::Table;
+use crate::table::{Table, note};
 use kp_ast::{Block, Decl, Expr, ExprKind, Stmt, StmtKind};
 use kp_base::NoMemory;
 use std::alloc::Global;
@@ -17,7 +17,7 @@ pub(crate) fn used_in(
     decls: &[Decl],
     blocks: &[Block],
 ) -> Result<Table<bool>, NoMemory>
-    ensures { IfOk result (λ used. has used ≡ is_used (names_in_both decls.now blocks.now)) }
+    ensures { IfOk result (λ used. has used.entries ≡ is_used (names_in_both decls.now blocks.now)) }
 {
     let mut used = Table::new(alloc);
     add_decls(&mut used, decls)?;
@@ -27,7 +27,7 @@ pub(crate) fn used_in(
 
 /// The names in the expressions of a stage.
 pub(crate) fn used_in_block(alloc: Global, block: &Block) -> Result<Table<bool>, NoMemory>
-    ensures { IfOk result (λ used. has used ≡ is_used (names_in_block block.now)) }
+    ensures { IfOk result (λ used. has used.entries ≡ is_used (names_in_block block.now)) }
 {
     let mut used = Table::new(alloc);
     add_stmts(&mut used, block.stmts.as_slice())?;
@@ -35,7 +35,7 @@ pub(crate) fn used_in_block(alloc: Global, block: &Block) -> Result<Table<bool>,
 }
 
 fn add_decls(used: &mut Table<bool>, decls: &[Decl]) -> Result<(), NoMemory>
-    ensures { OnOk result (value_of used.new ≡ noted (value_of used.old) (flat_map names_in_decl decls.now)) }
+    ensures { OnOk result (value_of used.new.entries ≡ noted (value_of used.old.entries) (flat_map names_in_decl decls.now)) }
 {
     for decl in decls {
         add_decl(used, decl)?;
@@ -44,7 +44,7 @@ fn add_decls(used: &mut Table<bool>, decls: &[Decl]) -> Result<(), NoMemory>
 }
 
 fn add_decl(used: &mut Table<bool>, decl: &Decl) -> Result<(), NoMemory>
-    ensures { OnOk result (value_of used.new ≡ noted (value_of used.old) (names_in_decl decl.now)) }
+    ensures { OnOk result (value_of used.new.entries ≡ noted (value_of used.old.entries) (names_in_decl decl.now)) }
 {
     match decl {
         Decl::Func(func) => add_expr(used, &func.body),
@@ -53,7 +53,7 @@ fn add_decl(used: &mut Table<bool>, decl: &Decl) -> Result<(), NoMemory>
 }
 
 fn add_blocks(used: &mut Table<bool>, blocks: &[Block]) -> Result<(), NoMemory>
-    ensures { OnOk result (value_of used.new ≡ noted (value_of used.old) (flat_map names_in_block blocks.now)) }
+    ensures { OnOk result (value_of used.new.entries ≡ noted (value_of used.old.entries) (flat_map names_in_block blocks.now)) }
 {
     for block in blocks {
         add_stmts(used, block.stmts.as_slice())?;
@@ -62,7 +62,7 @@ fn add_blocks(used: &mut Table<bool>, blocks: &[Block]) -> Result<(), NoMemory>
 }
 
 fn add_stmts(used: &mut Table<bool>, stmts: &[Stmt]) -> Result<(), NoMemory>
-    ensures { OnOk result (value_of used.new ≡ noted (value_of used.old) (flat_map names_in_stmt stmts.now)) }
+    ensures { OnOk result (value_of used.new.entries ≡ noted (value_of used.old.entries) (flat_map names_in_stmt stmts.now)) }
 {
     for stmt in stmts {
         add_stmt(used, &stmt.kind)?;
@@ -72,7 +72,7 @@ fn add_stmts(used: &mut Table<bool>, stmts: &[Stmt]) -> Result<(), NoMemory>
 
 #[tactic(auto, using(crate::proofs::Noting::append))]
 fn add_stmt(used: &mut Table<bool>, stmt: &StmtKind) -> Result<(), NoMemory>
-    ensures { OnOk result (value_of used.new ≡ noted (value_of used.old) (names_in_kind stmt.now)) }
+    ensures { OnOk result (value_of used.new.entries ≡ noted (value_of used.old.entries) (names_in_kind stmt.now)) }
 {
     match stmt {
         StmtKind::Read(read) => {
@@ -89,7 +89,7 @@ fn add_stmt(used: &mut Table<bool>, stmt: &StmtKind) -> Result<(), NoMemory>
 }
 
 fn add_option(used: &mut Table<bool>, e: &Option<Expr>) -> Result<(), NoMemory>
-    ensures { OnOk result (value_of used.new ≡ noted (value_of used.old) (names_in_option e.now)) }
+    ensures { OnOk result (value_of used.new.entries ≡ noted (value_of used.old.entries) (names_in_option e.now)) }
 {
     match e {
         Some(e) => add_expr(used, e),
@@ -100,11 +100,11 @@ fn add_option(used: &mut Table<bool>, e: &Option<Expr>) -> Result<(), NoMemory>
 #[cycle(uses)]
 #[tactic(auto, using(crate::proofs::Noting::append))]
 fn add_expr(used: &mut Table<bool>, e: &Expr) -> Result<(), NoMemory>
-    ensures { OnOk result (value_of used.new ≡ noted (value_of used.old) (names_in e.now)) }
+    ensures { OnOk result (value_of used.new.entries ≡ noted (value_of used.old.entries) (names_in e.now)) }
 {
     match &e.kind {
         ExprKind::Lit(_) => Ok(()),
-        ExprKind::Name(name) => used.set_first(name, true),
+        ExprKind::Name(name) => note(used, name, true),
         ExprKind::Not(a) | ExprKind::Slice(a, _, _) | ExprKind::Zext(a, _) | ExprKind::Sext(a, _) =>
             add_expr(used, a.get()),
         ExprKind::Binary(_, a, b) => {
@@ -118,7 +118,7 @@ fn add_expr(used: &mut Table<bool>, e: &Expr) -> Result<(), NoMemory>
         }
         ExprKind::Concat(parts) => add_exprs(used, parts.as_slice()),
         ExprKind::Call(name, args) => {
-            used.set_first(name, true)?;
+            note(used, name, true)?;
             add_exprs(used, args.as_slice())
         }
     }
@@ -126,7 +126,7 @@ fn add_expr(used: &mut Table<bool>, e: &Expr) -> Result<(), NoMemory>
 
 #[cycle(uses)]
 fn add_exprs(used: &mut Table<bool>, es: &[Expr]) -> Result<(), NoMemory>
-    ensures { OnOk result (value_of used.new ≡ noted (value_of used.old) (flat_map (λ names. names) (map names_in es.now))) }
+    ensures { OnOk result (value_of used.new.entries ≡ noted (value_of used.old.entries) (flat_map (λ names. names) (map names_in es.now))) }
 {
     for e in es {
         add_expr(used, e)?;

@@ -13,4 +13,4 @@ abbrev pub has : List (List ℕ × Bool) → List ℕ → Bool
 has table name = is_some (value_of table name)
 
 abbrev pub facts_in : stored.Facts → Facts
-facts_in t = record { used = has t.used; first = value_of t.pipes }
+facts_in t = record { used = has t.used.entries; first = value_of t.pipes.entries }

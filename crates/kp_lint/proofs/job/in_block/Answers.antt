@@ -7,7 +7,7 @@ pub loop-index-preserved : goal.loop-index-preserved
 loop-index-preserved c =
     let facts = facts_in c.args.facts.now in
     let job = c.args.facts.now.job.now in
-    let used = has c.in_ok-used.used in
+    let used = has c.in_ok-used.used.entries in
     let k = c.args.stage in
     let j = c.loop-index.index in
     let stmts = c.args.block.now.stmts in

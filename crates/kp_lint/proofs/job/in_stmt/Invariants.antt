@@ -8,4 +8,4 @@ invariant-loop-number l =
     let facts = facts_in l.facts in
     let job = l.facts.job.now in
     with_answers l.notes (of_results facts job.blocks l.spot.stage l.spot.index l.stmt l.number (drop l.number job.decls))
-    ≡ with_answers l.fn.notes (of_stmt facts job (has l.used) l.spot.stage l.spot.index l.stmt)
+    ≡ with_answers l.fn.notes (of_stmt facts job (has l.used.entries) l.spot.stage l.spot.index l.stmt)

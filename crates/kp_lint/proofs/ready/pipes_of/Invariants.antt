@@ -4,4 +4,4 @@ use Rattle.kp_lint.specs.Ready.{after_blocks, known_in}
 use Rattle.kp_lint.proofs.ready.pipes_of.Given as goal
 
 abbrev pub invariant-loop-stage : goal.invariant-loop-stage
-invariant-loop-stage l = after_blocks l.stage (value_of l.pipes) (drop l.stage l.blocks) ≡ known_in l.blocks
+invariant-loop-stage l = after_blocks l.stage (value_of l.pipes.entries) (drop l.stage l.blocks) ≡ known_in l.blocks

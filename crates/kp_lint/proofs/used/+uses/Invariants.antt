@@ -6,4 +6,4 @@ use Rattle.kp_lint.proofs.used.+uses.Given as goal
 
 abbrev pub invariant-add_exprs-loop-e : goal.invariant-add_exprs-loop-e
 invariant-add_exprs-loop-e l =
-    noted (value_of l.used) (flat_map (λ names. names) (map names_in (drop l.e-index l.es))) ≡ noted (value_of l.initial.used) (flat_map (λ names. names) (map names_in l.es))
+    noted (value_of l.used.entries) (flat_map (λ names. names) (map names_in (drop l.e-index l.es))) ≡ noted (value_of l.initial.used.entries) (flat_map (λ names. names) (map names_in l.es))

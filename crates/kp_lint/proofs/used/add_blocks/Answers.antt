@@ -5,7 +5,7 @@ use Rattle.kp_lint.proofs.used.add_blocks.Goals as goal
 
 pub loop-block-preserved : goal.loop-block-preserved
 loop-block-preserved c =
-    let before = value_of c.loop-block.used in
-    more names_in_block before (value_of c.add_stmts.new.used) c.args.blocks.now c.loop-block.block-index c.block-item.result c.loop-block-test.true c.block-item.is
+    let before = value_of c.loop-block.used.entries in
+    more names_in_block before (value_of c.add_stmts.new.used.entries) c.args.blocks.now c.loop-block.block-index c.block-item.result c.loop-block-test.true c.block-item.is
     (c.in_ok-add_stmts.ensures ∙ ap (λ ss. noted before (flat_map names_in_stmt ss)) c.as_slice.ensures)
     ∙ c.loop-block.invariant

@@ -4,4 +4,4 @@ use Rattle.kp_lint.specs.{Used.names_in_stmt, inner.Noted.noted}
 use Rattle.kp_lint.proofs.used.add_stmts.Given as goal
 
 abbrev pub invariant-loop-stmt : goal.invariant-loop-stmt
-invariant-loop-stmt l = noted (value_of l.used) (flat_map names_in_stmt (drop l.stmt-index l.stmts)) ≡ noted (value_of l.initial.used) (flat_map names_in_stmt l.stmts)
+invariant-loop-stmt l = noted (value_of l.used.entries) (flat_map names_in_stmt (drop l.stmt-index l.stmts)) ≡ noted (value_of l.initial.used.entries) (flat_map names_in_stmt l.stmts)

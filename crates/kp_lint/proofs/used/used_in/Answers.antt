@@ -4,5 +4,5 @@ use Rattle.kp_lint.proofs.used.used_in.Goals as goal
 
 pub returns : goal.returns
 returns c =
-    has_both c.new-used.result c.add_decls.new.used c.add_blocks.new.used (flat_map names_in_decl c.args.decls.now) (flat_map names_in_block c.args.blocks.now)
-    c.new-used.ensures c.in_ok-add_decls.ensures c.in_ok-add_blocks.ensures
+    has_both c.new-used.result.entries c.add_decls.new.used.entries c.add_blocks.new.used.entries (flat_map names_in_decl c.args.decls.now) (flat_map names_in_block c.args.blocks.now)
+    c.new-used.ensures.empty c.in_ok-add_decls.ensures c.in_ok-add_blocks.ensures
