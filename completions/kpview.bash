@@ -26,6 +26,7 @@ _kpview() {
                 paths) COMPREPLY=($(compgen -f -W '--svg' -- "$cur")) ;;
                 depth) COMPREPLY=($(compgen -f -W '--files' -- "$cur")) ;;
                 explain) COMPREPLY=($(compgen -f -W '--werror --help read watch asm debug' -- "$cur")) ;;
+                diagram) COMPREPLY=($(compgen -W '10 20 50 100 1000 100..120' -- "$cur")) ;;
                 *) COMPREPLY=($(compgen -W '10 20 50 100 1000' -- "$cur")) ;;
             esac
             ;;

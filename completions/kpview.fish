@@ -16,6 +16,7 @@ complete -c kpview -n '__kpview_argument 1' -k -a same -d 'Say whether two jobs 
 complete -c kpview -n '__kpview_argument 1' -k -a depth -d 'Print the longest path of each stage'
 complete -c kpview -n '__kpview_argument 1' -k -a explain -d 'Say why a job is rejected, and warn'
 complete -c kpview -n '__kpview_argument 2; and not __fish_seen_subcommand_from paths depth same explain' -f -k -a '10 20 50 100 1000' -d 'Cycles, 0 to 1000'
+complete -c kpview -n '__kpview_argument 2; and __fish_seen_subcommand_from diagram' -f -k -a '100..120' -d 'A window, 100 to 120'
 complete -c kpview -n '__kpview_argument 2; and __fish_seen_subcommand_from paths' -k -a '--svg'
 complete -c kpview -n '__kpview_argument 2; and __fish_seen_subcommand_from depth' -k -a '--files'
 complete -c kpview -n '__kpview_argument 2; and __fish_seen_subcommand_from explain' -k -a '--werror read watch asm debug'

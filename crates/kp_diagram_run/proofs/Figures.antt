@@ -14,7 +14,7 @@ use Rattle.kp_diagram_text.specs.Figures.{figure_from}
 use Rattle.kp_diagram_run.specs.Figures.{IsRunOf, job_figure}
 use Rattle.kp_diagram_run.proofs.{Alike.SameFrom, Alike.account-same, Alike.fetches-same, Words.words-seen}
 
-from-zero : (e f : ℕ → ℕ → Bool) (count : ℕ) → ((T : ℕ) → T < count → e T ≡ f T) → SameFrom e f 0 count
+pub from-zero : (e f : ℕ → ℕ → Bool) (count : ℕ) → ((T : ℕ) → T < count → e T ≡ f T) → SameFrom e f 0 count
 from-zero e f count h T b = let z : 0 + T ≡ T = omega arith in rw z (h T b)
 
 figure-same : (name : List ℕ) (names : List (List ℕ)) (n : ℕ) (e f : ℕ → ℕ → Bool) (rows : List Row) → ((T : ℕ) → T < length rows → e T ≡ f T)
@@ -30,7 +30,7 @@ figure-same name names n e f rows h =
     })
     (fetches-same e f n 0 (λ k. 0) true rows (from-zero e f (length rows) h)) (account-same e f (n - 1) 0 (λ k. Filling) rows (from-zero e f (length rows) h))
 
-abbrev ext_in : List ℕ → ℕ → ℕ → Bool
+abbrev pub ext_in : List ℕ → ℕ → ℕ → Bool
 ext_in words T k = bit_of (get_or words T 0) k
 
 figure-is : (job : Job) (n : ℕ) (name : List ℕ) (names : List (List ℕ)) (stages : ℕ) (rows : List masks.Row) (words : List ℕ)

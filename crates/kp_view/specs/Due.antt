@@ -1,17 +1,17 @@
 -- What is specified: a status and a text for what is asked and the bytes of the source. The text of status 0 goes to standard output, and any other to
 -- standard error.
-use Rattle.std.specs.Prelude.{◌≡◌, ◌≢◌, ◌≤◌, ◌⊎◌, Bool, true, false, ℕ, zero, suc, List, [], ◌++◌, length, Ok, Err, Option, Result}
+use Rattle.std.specs.Prelude.{◌≡◌, ◌≢◌, ◌≤◌, ◌⊎◌, Bool, true, false, ℕ, zero, suc, ◌+◌, List, [], ◌++◌, length, Ok, Err, Option, Result}
 use Rattle.std.specs.Io.KnownBytes.{Consumes, Appends, IsAtEnd}
 use Rattle.kp_base.specs.{Bytes.AppendsPart, declared.refusal.Refusal.Refusal}
 use Rattle.kp_ast.specs.declared.tree.Job.{Job}
 use Rattle.kp_frontend.specs.Judging.{Judges}
-use Rattle.kp_view_words.specs.Words.{Asked, Order, Run, Task, bad_words, help, version, show, diagram, svg, page, paths, paths_svg, stalls, depth, named, names_for}
+use Rattle.kp_view_words.specs.Words.{Asked, Order, Run, Task, bad_words, help, version, show, diagram, window, svg, page, paths, paths_svg, stalls, depth, named, names_for}
 use Rattle.kp_view_words.specs.declared.task.{Memories.Memories, Memories.TheVariants.Inside, Memories.TheVariants.Outside}
 use Rattle.kp_view_words.specs.Texts.{help_text, usage_text, version_text}
 use Rattle.kp_pipeline.specs.Rows.{Row}
-use Rattle.kp_diagram_text.specs.{Charts.are_names, Figures.Figure, Text.diagram_text}
+use Rattle.kp_diagram_text.specs.{Charts.are_names, Figures.Figure, Text.diagram_text, Text.window_text}
 use Rattle.kp_diagram_svg.specs.Picture.{picture}
-use Rattle.kp_diagram_run.specs.{Figures.job_figure, Figures.job_rows, FigureClaims.ShowsRun}
+use Rattle.kp_diagram_run.specs.{Figures.job_figure, Figures.job_rows, FigureClaims.ShowsRun, Windows.job_window}
 use Rattle.kp_stalls_run.specs.{Claims.ShowCauses, Runs.job_stalls}
 use Rattle.kp_machine.specs.Machine.{inputs_from, pipe_of}
 use Rattle.kp_page.specs.{Claims.listed_last, States.states_text, Page.page as page_text}
@@ -40,6 +40,7 @@ are_inside Outside = false
 -- THE TEXT that a word writes about the job of an input. That of `depth` is of some netlist of the job, and any other is determined by the job.
 abbrev pub IsText : Order → List ℕ → Job → List ℕ → Type 0
 IsText (diagram run) input job text = text ≡ diagram_text (figure_drawn run job)
+IsText (window from run) input job text = text ≡ window_text from (job_window run.names from run.count job)
 IsText (svg run) input job text = text ≡ picture (figure_drawn run job) (rows_drawn run job)
 IsText (page run) input job text =
     text ≡ page_text (figure_drawn run job) (rows_drawn run job) input (paths_text job) (states_text job run.count)
@@ -54,10 +55,12 @@ abbrev pub ShowsStates : Job → ℕ → Type 0
 ShowsStates job n = (T t a : ℕ) → listed_last (pipe_of job (inputs_from job 0 n)).visible T t a ≡ (pipe_of job (inputs_from job 0 n)).visible T t a
 
 -- What that text shows. Of a diagram: the fetches, cells, marks and the account in it are those of the run, and the laws of the diagram hold of them.
+-- The figure of a window is a part of that of the run up to its last cycle (`job_window`), of which this holds.
 -- Of the table of paths: its cells say where the reads take their values from, in each state of each run. The arrows of its picture are these cells. A page
 -- has a diagram and the table, and shows the states. What the text of `depth` shows is said by `IsDepthText`.
 abbrev pub IsShown : Order → Job → Type 0
 IsShown (diagram run) job = ShowsRun job run.count (figure_drawn run job)
+IsShown (window from run) job = ShowsRun job (from + run.count) (job_figure run.names (from + run.count) job)
 IsShown (svg run) job = ShowsRun job run.count (figure_drawn run job)
 IsShown (page run) job = ShowsRun job run.count (figure_drawn run job) × ArePaths job × ShowsStates job run.count
 IsShown paths job = ArePaths job

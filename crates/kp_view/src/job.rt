@@ -14,6 +14,7 @@ use crate::paths::paths;
 use crate::paths_svg::paths_svg;
 use crate::stalls::stalls;
 use crate::svg::svg;
+use crate::window::window;
 use kp_base::{NoMemory, Refused, Sink};
 use kp_diagram_run::laws::a_figure_shows_the_run;
 use kp_diagram_text::are_names;
@@ -124,6 +125,7 @@ fn drawn<K: Sink>(
     the_lines_show_causes(job);
     match order {
         Order::Diagram(run) => diagram(alloc, run, job, out),
+        Order::Window(later) => window(alloc, later, job, out),
         Order::Svg(run) => svg(alloc, run, job, out),
         Order::Page(run) => page(alloc, run, input, job, out),
         Order::Paths => paths(alloc, job, out),

@@ -18,6 +18,7 @@ mod paths_svg;
 mod sentences;
 mod stalls;
 mod svg;
+mod window;
 
 ghost use Rattle.std.specs.Prelude.{◌≡◌, ◌≢◌, ◌⊎◌, List, ℕ, false, None, IfSome};
 ghost use Rattle.kp_base.specs.Causes.{Rose};

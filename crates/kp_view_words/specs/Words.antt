@@ -1,7 +1,7 @@
 -- What the words of a command line ask for.
-use Rattle.std.specs.Prelude.{◌==◌, ◌||◌, ◌&&◌, ◌-◌, not, ℕ, Bool, false, List, [], ◌∷◌, length, take, leb, ltb, nat_le, nat_lt, slice_get, if◌then◌else◌, codes, Option, Some, None, option_and_then, option_map}
+use Rattle.std.specs.Prelude.{◌==◌, ◌||◌, ◌&&◌, ◌-◌, ◌+◌, not, ℕ, Bool, false, List, [], ◌∷◌, length, drop, take, leb, ltb, nat_le, nat_lt, slice_get, if◌then◌else◌, codes, Option, Some, None, option_and_then, option_map}
 use Rattle.std.specs.{List.list_all, List.list_any, Option.option_map_or, Str.bytes_eq}
-use Rattle.kp_base.specs.Characters.{is_word}
+use Rattle.kp_base.specs.Characters.{is_digit, is_word, run_length}
 use Rattle.kp_bits.specs.Literals.{number_of}
 use Rattle.kp_command_line.specs.Words.{Text, begins_with_dash, has_dash}
 use Rattle.kp_view_words.specs.declared.{task.Memories.Memories, words.Topic.Topic, words.Word.Word}
@@ -17,6 +17,8 @@ pub record Run : Type 0 where
 -- What is to be written about a job: a word, with what it takes.
 pub data Order : Type 0 where
   diagram : Run → Order
+  -- a diagram from this cycle on
+  window : ℕ → Run → Order
   svg : Run → Order
   page : Run → Order
   paths : Order
@@ -38,6 +40,7 @@ pub data Asked : Type 0 where
 -- the names of the stages that are given
 abbrev pub names_for : Order → List Text
 names_for (diagram run) = run.names
+names_for (window from run) = run.names
 names_for (svg run) = run.names
 names_for (page run) = run.names
 names_for paths = []
@@ -51,6 +54,7 @@ run_named listed run = record { count = run.count; names = if length run.names =
 
 abbrev pub named : List Text → Order → Order
 named listed (diagram run) = diagram (run_named listed run)
+named listed (window from run) = window from (run_named listed run)
 named listed (svg run) = svg (run_named listed run)
 named listed (page run) = page (run_named listed run)
 named listed paths = paths
@@ -134,6 +138,41 @@ abbrev pub run_in : List Text → Option RunAsked
 run_in [] = None
 run_in (number ∷ rest) = option_and_then (λ count. run_with count rest) (count_of 1000 number)
 
+-- THE CYCLES OF A WINDOW: the first of them, and how many there are.
+pub record Span : Type 0 where
+  pub from : ℕ
+  pub count : ℕ
+
+-- from a cycle to another, of at most 1,000, which both belong to it
+abbrev pub span_between : ℕ → ℕ → Option Span
+span_between from to = if nat_le from to && nat_lt (to - from) 1000 then Some (record { from = from; count = to - from + 1 }) else None
+
+-- `..` and the number of the last cycle, after that of the first
+abbrev pub span_after : ℕ → Text → Option Span
+span_after from (a ∷ b ∷ last) = if a == 46 && b == 46 then option_and_then (λ to. span_between from to) (count_of 1000000000 last) else None
+span_after from _ = None
+
+-- `5000..5040`: numbers of at most 1,000,000,000
+abbrev pub span_of : Text → Option Span
+span_of word =
+    option_and_then (λ from. span_after from (drop (run_length is_digit word) word)) (count_of 1000000000 (take (run_length is_digit word) word))
+
+-- a run of a window; one from cycle 0 on is that of a number of cycles
+abbrev pub from_cycle : ℕ → Run → Order
+from_cycle from run = if from == 0 then diagram run else window from run
+
+abbrev pub diagram_of : ℕ → RunAsked → Task
+diagram_of from asked = record { order = from_cycle from asked.run; file = asked.file }
+
+abbrev pub diagram_by : Option ℕ → Text → List Text → Option Task
+diagram_by (Some count) word rest = option_map (diagram_of 0) (run_with count rest)
+diagram_by None word rest = option_and_then (λ span. option_map (diagram_of span.from) (run_with span.count rest)) (span_of word)
+
+-- the diagram of a number of at most 1,000 cycles, or of a window, and then names of the stages and a file
+abbrev pub diagram_with : List Text → Option Task
+diagram_with [] = None
+diagram_with (word ∷ rest) = diagram_by (count_of 1000 word) word rest
+
 -- what is to be written, with at most a file after it
 abbrev pub with_file : Order → List Text → Option Task
 with_file order rest = if nat_lt 1 (length rest) then None else Some (record { order = order; file = slice_get rest 0 })
@@ -145,7 +184,7 @@ stalls_with (number ∷ files) = option_and_then (λ count. with_file (stalls co
 
 -- what a word asks for, with these words after it: `same` nothing about a job alone
 abbrev pub task_with : Word → List Text → Option Task
-task_with words.Diagram rest = option_map (λ asked. record { order = diagram asked.run; file = asked.file }) (run_in rest)
+task_with words.Diagram rest = diagram_with rest
 task_with words.Svg rest = option_map (λ asked. record { order = svg asked.run; file = asked.file }) (run_in rest)
 task_with words.Page rest = option_map (λ asked. record { order = page asked.run; file = asked.file }) (run_in rest)
 task_with words.Paths rest = with_file paths rest

@@ -10,6 +10,6 @@ mod texts;
 mod words;
 
 pub use pair::Pair;
-pub use task::{Cycles, Memories, Order, Run, Task};
+pub use task::{Cycles, Later, Memories, Order, Run, Task};
 pub use texts::{help_of, usage_of, version};
 pub use words::{Request, Topic, Word};

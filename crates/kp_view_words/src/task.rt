@@ -14,6 +14,8 @@ pub struct Task<'w> {
 pub enum Order<'w> {
     /// The pipeline diagram as text.
     Diagram(Run<'w>),
+    /// The same from a later cycle on.
+    Window(Later<'w>),
     /// The same as a picture.
     Svg(Run<'w>),
     /// A run with the states of its cycles, as an HTML page.
@@ -52,5 +54,25 @@ pub struct Run<'w> {
     pub count: u32,
     /// The names of the stages, each of 1 to 8 letters, digits or `_`; or none. There may be more or fewer than stages.
     pub names: &'w [String],
+    pub ghost few: { count ≤ 1000 },
+}
+
+/// A run that is drawn from a later cycle on.
+#[derive(Clone, Copy)]
+pub struct Later<'w> {
+    /// The first cycle that is drawn, at most 1,000,000,000.
+    pub from: u32,
+    pub run: Run<'w>,
+    pub ghost early: { from ≤ 1000000000 },
+    pub ghost some: { 1 ≤ run.count },
+}
+
+// The cycles of a window: the first of them, and how many there are.
+#[derive(Clone, Copy)]
+pub(crate) struct Span {
+    pub from: u32,
+    pub count: u32,
+    pub ghost early: { from ≤ 1000000000 },
+    pub ghost some: { 1 ≤ count },
     pub ghost few: { count ≤ 1000 },
 }

@@ -22,7 +22,8 @@ pub const USAGE: &str = "usage: kpview diagram N [NAMES] [FILE]
 
 /// How `diagram` is called.
 pub const USAGE_DIAGRAM: &str = "usage: kpview diagram N [NAMES] [FILE]
-N is 0 to 1000; a name has 1 to 8 letters, digits or `_`
+N is 0 to 1000, or FROM..TO: the cycles FROM to TO, at most 1000 of them, where
+TO is at most 1000000000; a name has 1 to 8 letters, digits or `_`
 ";
 
 /// How `svg` is called.
@@ -88,7 +89,9 @@ cycles below them.
 
 usage: kpview diagram N [NAMES] [FILE]
 
-  N       the number of cycles, 0 to 1000
+  N       the number of cycles, 0 to 1000, or a window FROM..TO: the cycles FROM
+          to TO, at most 1000 of them, where TO is at most 1000000000. Its
+          account is that of these cycles
   NAMES   a name for each stage, of 1 to 8 letters, digits or `_`, as in
           IF ID EX ME WB; without names the stages are numbered
   FILE    the job; without it, standard input is read. A single word after N

@@ -1,19 +1,22 @@
 // The words of a command line, and what they ask for.
 ghost use Rattle.std.specs.Prelude.{◌≡◌, ◌&&◌, ltb, leb, ◌≤◌, IfOk, IfSome, map, string_bytes, option_map, length, false};
 ghost use Rattle.std.specs.List.{list_any, list_all};
-ghost use Rattle.kp_view_words.specs.{Asked.asked, Asked.file_asked, Asked.order_seen, Asked.run_seen, Asked.task_seen, inner.Asking.run_asked, inner.Matching.task_matched};
+ghost use Rattle.kp_view_words.specs.{Asked.asked, Asked.file_asked, Asked.order_seen, Asked.run_seen, Asked.task_seen, inner.Asking.run_asked, inner.Asking.span_seen, inner.Matching.task_matched};
 ghost use Rattle.kp_command_line.specs.Words.{has_dash, matched_seen};
 ghost use Rattle.kp_base.specs.Characters.{is_word};
-ghost use Rattle.kp_view_words.specs.Words.{asked_for, named, names_for, run_named, topic_of, topic_named, help_place, is_help_word, is_help_flag, is_version_flag, asks_help, task_of, task_named, task_with, stalls_with, with_file, flagged_task, asks_files, asks_picture, depth_with, run_in, run_with, word_named, count_of, names_in, file_in, is_file_after, is_name, is_path};
+ghost use Rattle.kp_view_words.specs.Words.{asked_for, diagram_of, diagram_with, from_cycle, named, names_for, run_named, topic_of, topic_named, help_place, is_help_word, is_help_flag, is_version_flag, asks_help, task_of, task_named, task_with, stalls_with, with_file, flagged_task, asks_files, asks_picture, depth_with, run_in, run_with, span_after, span_between, span_of, word_named, count_of, names_in, file_in, is_file_after, is_name, is_path};
 
-use crate::task::{Cycles, Memories, Order, Run, Task};
-use kp_base::{NoMemory, is_word};
+use crate::task::{Cycles, Later, Memories, Order, Run, Span, Task};
+use kp_base::{NoMemory, is_digit, is_word, run_length};
 use kp_bits::read_number;
 use kp_command_line::{Matched, has_dash, match_words};
 use std::alloc::Global;
 
 /// The greatest number of cycles that are drawn.
 const MOST_DRAWN: u32 = 1_000;
+
+/// The greatest cycle of a window.
+const MOST_CYCLE: u32 = 1_000_000_000;
 
 /// The greatest number of cycles that are listed.
 const MOST_LISTED: u32 = 100_000;
@@ -105,6 +108,7 @@ impl<'w> Order<'w> {
     {
         match self {
             Order::Diagram(run) | Order::Svg(run) | Order::Page(run) => run.names,
+            Order::Window(later) => later.run.names,
             Order::Paths | Order::PathsSvg | Order::Stalls(_) | Order::Depth(_) => &[],
         }
     }
@@ -115,6 +119,10 @@ impl<'w> Order<'w> {
     {
         match self {
             Order::Diagram(run) => Order::Diagram(run.named(listed)),
+            Order::Window(later) => Order::Window(Later {
+                from: later.from,
+                run: later.run.named(listed),
+            }),
             Order::Svg(run) => Order::Svg(run.named(listed)),
             Order::Page(run) => Order::Page(run.named(listed)),
             Order::Paths | Order::PathsSvg | Order::Stalls(_) | Order::Depth(_) => self,
@@ -124,7 +132,8 @@ impl<'w> Order<'w> {
 
 impl<'w> Run<'w> {
     fn named(self, listed: &'w [String]) -> Run<'w>
-        ensures { run_seen result ≡ run_named (map string_bytes listed.now) (run_seen self.entry) }
+        ensures named { run_seen result ≡ run_named (map string_bytes listed.now) (run_seen self.entry) }
+        ensures count { result.count ≡ self.entry.count }
     {
         if self.names.is_empty() {
             Run {
@@ -261,13 +270,7 @@ fn task_with<'w>(word: Word, rest: &'w [String]) -> Option<Task<'w>>
     ensures { option_map task_seen result ≡ task_with word (map string_bytes rest.now) }
 {
     match word {
-        Word::Diagram => {
-            let asked = run_in(rest)?;
-            Some(Task {
-                order: Order::Diagram(asked.run),
-                file: asked.file,
-            })
-        }
+        Word::Diagram => diagram_with(rest),
         Word::Svg => {
             let asked = run_in(rest)?;
             Some(Task {
@@ -286,6 +289,87 @@ fn task_with<'w>(word: Word, rest: &'w [String]) -> Option<Task<'w>>
         Word::Stalls => stalls_with(rest),
         Word::Depth => with_file(Order::Depth(Memories::Inside), rest),
         Word::Same => None,
+    }
+}
+
+// A diagram: a number of cycles or a window, and then names of stages and a file.
+fn diagram_with<'w>(rest: &'w [String]) -> Option<Task<'w>>
+    ensures { option_map task_seen result ≡ diagram_with (map string_bytes rest.now) }
+{
+    match rest {
+        [word, more @ ..] => match count_of(word.as_bytes(), MOST_DRAWN) {
+            Some(count) => {
+                let asked = run_with(count, more)?;
+                Some(Task {
+                    order: Order::Diagram(asked.run),
+                    file: asked.file,
+                })
+            }
+            None => window_with(span_of(word.as_bytes())?, more),
+        },
+        [] => None,
+    }
+}
+
+// The diagram of a window, with these words after it.
+fn window_with<'w>(span: Span, rest: &'w [String]) -> Option<Task<'w>>
+    ensures { option_map task_seen result ≡ option_map (diagram_of span.from) (run_with span.count (map string_bytes rest.now)) }
+{
+    let asked = run_with(span.count, rest)?;
+    Some(Task {
+        order: from_cycle(span.from, asked.run),
+        file: asked.file,
+    })
+}
+
+// The diagram of a run from this cycle on.
+fn from_cycle<'w>(from: u32, run: Run<'w>) -> Order<'w>
+    requires early { from ≤ 1000000000 }
+    requires some { 1 ≤ run.count }
+    ensures { order_seen result ≡ from_cycle from (run_seen run.entry) }
+{
+    if from == 0 {
+        Order::Diagram(run)
+    } else {
+        Order::Window(Later { from, run })
+    }
+}
+
+// The cycles that a word as `5000..5040` denotes.
+fn span_of(word: &[u8]) -> Option<Span>
+    ensures { option_map span_seen result ≡ span_of word.now }
+{
+    let digits = run_length(word, |byte| is_digit(byte));
+    let from = count_of(&word[..digits], MOST_CYCLE)?;
+    span_after(from, &word[digits..])
+}
+
+fn span_after(from: u32, rest: &[u8]) -> Option<Span>
+    requires { from ≤ 1000000000 }
+    ensures { option_map span_seen result ≡ span_after from rest.now }
+{
+    match rest {
+        [a, b, last @ ..] => if *a == b'.' && *b == b'.' {
+            span_between(from, count_of(last, MOST_CYCLE)?)
+        } else {
+            None
+        },
+        _ => None,
+    }
+}
+
+fn span_between(from: u32, to: u32) -> Option<Span>
+    requires from { from ≤ 1000000000 }
+    requires to { to ≤ 1000000000 }
+    ensures { option_map span_seen result ≡ span_between from to }
+{
+    if from <= to && to - from < 1_000 {
+        Some(Span {
+            from,
+            count: to - from + 1,
+        })
+    } else {
+        None
     }
 }
 
@@ -383,7 +467,8 @@ fn run_in<'w>(rest: &'w [String]) -> Option<RunAsked<'w>>
 // The run with this number of cycles, and these words after it.
 fn run_with<'w>(count: u32, rest: &'w [String]) -> Option<RunAsked<'w>>
     requires { count ≤ 1000 }
-    ensures { option_map run_asked result ≡ run_with count (map string_bytes rest.now) }
+    ensures asked { option_map run_asked result ≡ run_with count (map string_bytes rest.now) }
+    ensures count { IfSome result (λ asked. asked.run.count ≡ count) }
 {
     let names = names_in(rest);
     if are_names(names) {

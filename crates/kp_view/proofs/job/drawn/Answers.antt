@@ -1,6 +1,6 @@
-use Rattle.std.proofs.Common.{ap}
+use Rattle.std.proofs.Common.{◌+◌, ap}
 use Rattle.kp_machine.specs.Machine.{inputs_from, pipe_of}
-use Rattle.kp_view_words.specs.{Asked.order_seen, Asked.run_seen, Words.diagram, Words.svg, Words.page, Words.paths, Words.paths_svg, Words.stalls, Words.depth}
+use Rattle.kp_view_words.specs.{Asked.order_seen, Asked.run_seen, Words.diagram, Words.window, Words.svg, Words.page, Words.paths, Words.paths_svg, Words.stalls, Words.depth}
 use Rattle.kp_view.proofs.Ends.{drawn_by}
 use Rattle.kp_view.proofs.job.drawn.Goals as goal
 
@@ -9,6 +9,13 @@ returns-in-Diagram g c =
     let run = run_seen c.in-Diagram.run' in
     λ file. drawn_by g.K.Sink.held g.K.Sink.faults file (order_seen c.args.order.now) (diagram run) c.args.input.now c.args.job.now.design.job (ap order_seen c.in-Diagram.is)
     (c.a_figure_shows_the_run.ensures run.names run.count) _ _ _ c.diagram.ensures
+
+pub returns-in-Window : goal.returns-in-Window
+returns-in-Window g c = λ file.
+    let run = run_seen c.in-Window.later.run in
+    let from = c.in-Window.later.from in
+    drawn_by g.K.Sink.held g.K.Sink.faults file (order_seen c.args.order.now) (window from run) c.args.input.now c.args.job.now.design.job (ap order_seen c.in-Window.is)
+    (c.a_figure_shows_the_run.ensures run.names (from + run.count)) _ _ _ c.window.ensures
 
 pub returns-in-Svg : goal.returns-in-Svg
 returns-in-Svg g c =
