@@ -1,11 +1,15 @@
 -- What is said of names and widths.
-use Rattle.std.proofs.Common.{◌≡◌, ℕ, List, Option, None}
+use Rattle.std.proofs.Common.{◌≡◌, ℕ, List, Option, None, subst, sym}
 use Rattle.kp_base.specs.declared.finding.Finding.{Finding}
 use Rattle.kp_ast.specs.declared.tree.Job.{Job}
 use Rattle.kp_width.specs.{Faults.rule_of, declared.fault.WidthFault.WidthFault}
 use Rattle.kp_width.specs.declared.fault.WidthFault.TheVariants as faults
 use Rattle.kp_view_excerpt.specs.Tokens.{token_at}
-use Rattle.kp_view_help.specs.{Helps.IsHelpForWords, declared.help.Help.Help, declared.word.Word.Word}
+use Rattle.kp_view_expected.specs.declared.set.Expected.{Expected}
+use Rattle.kp_view_help.specs.{Helps.IsHelpForWords, Helps.HelpsAt, declared.help.Help.Help, declared.word.Word.Word, declared.found.FoundToken.FoundToken}
+use Rattle.kp_view_message.specs.Helps.{IsReadingHelp}
+use Rattle.kp_view_message.specs.declared.reading_fault.ReadingFault.{ReadingFault}
+use Rattle.kp_view_message.specs.declared.reading_fault.ReadingFault.TheVariants as reading
 use Rattle.kp_view_message.specs.Widths.{AreNameHelps, AreNumberHelps, IsWidthMessage, bits_in, widths_in}
 use Rattle.kp_view_message.specs.declared.{message.Message.Message, sentence.Sentence.Sentence}
 use Rattle.kp_view_message.specs.declared.message.Message.TheVariants as messages
@@ -17,3 +21,7 @@ said text job f m s name is widths spelled helps = (s, is, widths, (name, spelle
 pub words : (width : ℕ) (found : Option Help) (helps : Option Help × Option Help) → IsHelpForWords width found → helps ≡ (found, None)
     → AreNumberHelps (faults.DeclaredAddress width) helps
 words width found helps is same = (found, is, same)
+
+pub unexpected : (fault : ReadingFault) (found : FoundToken) (e : Expected) (width : Option ℕ) (result : Option Help) → fault ≡ reading.Unexpected found e width
+    → HelpsAt found e width result → IsReadingHelp fault result
+unexpected fault found e width result is helps = subst (λ (f : ReadingFault). IsReadingHelp f result) (sym is) helps
