@@ -1,35 +1,93 @@
--- What helps at a token that can't be there, and where a number of words is in the place of the width of their addresses.
-use Rattle.std.specs.Prelude.{ℕ, ◌≡◌, ◌≢◌, ◌<◌, ◌≤◌, ◌^◌, Option, None, MatchOption, codes}
-use Rattle.kp_lex.specs.declared.token.Mark.{Mark}
+-- What helps at a byte that no token begins with, at a token that can't be there, and where a number of words is in the place of the width of their addresses.
+use Rattle.std.specs.Prelude.{ℕ, ◌≡◌, ◌≢◌, ◌==◌, ◌<◌, ◌≤◌, ◌^◌, ◌↔◌, IsTrue, Bool, true, false, not, ◌&&◌, ◌||◌, if◌then◌else◌, List, Option, Some, None, MatchOption, codes}
+use Rattle.std.specs.Str.{bytes_eq}
+use Rattle.kp_lex.specs.declared.token.Keyword.TheVariants as keywords
 use Rattle.kp_lex.specs.declared.token.Mark.TheVariants as marks
 use Rattle.kp_view_expected.specs.{GoesOn.Lists, declared.set.Expected.Expected}
 use Rattle.kp_view_expected.specs.declared.token_class.TokenClass.TheVariants as classes
-use Rattle.kp_view_help.specs.declared.{word.Word.Word, found.FoundToken.FoundToken, help.Help.Help}
+use Rattle.kp_view_help.specs.declared.{word.Word.Word, found.FoundToken.FoundToken, help.Help.Help, allowed.Allowed.Allowed}
 use Rattle.kp_view_help.specs.declared.found.FoundToken.TheVariants as tokens
 use Rattle.kp_view_help.specs.declared.help.Help.TheVariants as help
 
--- this line where the condition holds, and else none
-abbrev pub HelpsWhere : Type 0 → Help → Option Help → Type 0
-HelpsWhere condition line result = MatchOption result (condition → ⊥) (λ h. condition × (h ≡ line))
+-- `!`, `>`, `#` and `/` of other languages; the first byte of a byte order mark, and of typographic quotes and dashes
+abbrev pub byte_help : ℕ → Option Help
+byte_help byte =
+    if byte == 33 then Some help.NotEqual
+    else if byte == 62 then Some help.Greater
+    else if byte == 35 || byte == 47 then Some help.Comment
+    else if byte == 226 then Some help.Typographic
+    else if byte == 239 then Some help.ByteOrderMark
+    else None
 
--- The mark may stand there, and an operator may not.
-abbrev pub Ends : Expected → Mark → Type 0
-Ends e mark = Lists e (classes.Mark mark) × (Lists e (classes.Mark marks.Plus) → ⊥)
+-- Help depends on these classes of tokens alone, among those that a place allows.
+abbrev pub Describes : Expected → Allowed → Type 0
+Describes e a =
+    (IsTrue a.value ↔ Lists e (classes.Mark marks.Tilde))
+    × (IsTrue a.operator ↔ Lists e (classes.Mark marks.Plus))
+    × (IsTrue a.literal ↔ Lists e classes.Literal)
+    × (IsTrue a.number ↔ Lists e classes.Number)
+    × (IsTrue a.name ↔ Lists e classes.Name)
+    × (IsTrue a.semicolon ↔ Lists e (classes.Mark marks.Semicolon))
+    × (IsTrue a.bracket ↔ Lists e (classes.Mark marks.CloseBracket))
+    × (IsTrue a.brace ↔ Lists e (classes.Mark marks.CloseBrace))
+    × (IsTrue a.at ↔ Lists e (classes.Keyword keywords.At))
+    × (IsTrue a.statement ↔ Lists e (classes.Keyword keywords.Let))
+    × (IsTrue a.stage ↔ Lists e (classes.Keyword keywords.Stage))
+    × (IsTrue a.end ↔ Lists e (classes.Keyword keywords.End))
 
--- `[` where a pipe's name in a result's address ends
-abbrev pub HelpsAtMark : Word → Expected → Option Help → Type 0
-HelpsAtMark w e result = HelpsWhere ((w.0.now ≡ codes "[") × Ends e marks.CloseBracket) help.AddressInPipe result
+-- in the place of a value: `<=`, `&&` and `||` have a second mark there
+abbrev pub value_help : List ℕ → Option Help
+value_help mark =
+    if bytes_eq mark (codes "=") then Some help.NotGreater
+    else if bytes_eq mark (codes "&") || bytes_eq mark (codes "|") then Some help.OneMark
+    else None
 
--- `when` where a result's declaration ends
-abbrev pub HelpsAtKeyword : Word → Expected → Option Help → Type 0
-HelpsAtKeyword w e result = HelpsWhere ((w.0.now ≡ codes "when") × Ends e marks.Semicolon) help.WhenBeforeAt result
+-- the marks that go on with a condition
+abbrev pub goes_on : List ℕ → Bool
+goes_on mark = bytes_eq mark (codes "==") || (bytes_eq mark (codes "<") || (bytes_eq mark (codes "&") || (bytes_eq mark (codes "|") || (bytes_eq mark (codes "^") || bytes_eq mark (codes "[")))))
 
--- the token, what may stand there, and the width of a value there
+abbrev pub mark_help : Allowed → Word → Option Help
+mark_help a w =
+    if a.value then value_help w.0.now
+    else if a.operator then (if bytes_eq w.0.now (codes "=") then Some help.Equal else None)
+    else if a.bracket && bytes_eq w.0.now (codes "[") then Some help.AddressInPipe
+    else if a.at && goes_on w.0.now then Some help.EnableInPipe
+    else if a.name && (bytes_eq w.0.now (codes "~") || bytes_eq w.0.now (codes "(")) then Some help.NameAlone
+    else None
+
+abbrev pub declares : List ℕ → Bool
+declares word =
+    bytes_eq word (codes "reg") || (bytes_eq word (codes "file") || (bytes_eq word (codes "pipe") || (bytes_eq word (codes "result")
+    || (bytes_eq word (codes "hint") || (bytes_eq word (codes "sample") || bytes_eq word (codes "fn"))))))
+
+abbrev pub begins_section : List ℕ → Bool
+begins_section word = bytes_eq word (codes "image") || (bytes_eq word (codes "stalls") || bytes_eq word (codes "inputs"))
+
+-- `when` where a statement ends, and where a declaration does; a declaration and a section in the place of others; and a keyword in the place of a name
+abbrev pub keyword_help : Allowed → Word → Option Help
+keyword_help a w =
+    if a.semicolon && bytes_eq w.0.now (codes "when") then Some (if a.operator then help.WhenOfSet else help.WhenBeforeAt)
+    else if (a.statement || a.end) && declares w.0.now then Some help.DeclaredFirst
+    else if (a.stage || a.end) && begins_section w.0.now then Some help.SectionsLast
+    else if a.name && not a.brace then Some (help.KeywordAsName w)
+    else None
+
+-- in the place of a literal, whose width may be declared; a literal is a value, or the start of a register or of a word
+abbrev pub number_help : Bool → Option ℕ → Word → Help
+number_help value (Some width) w = help.NumberAsValue w width
+number_help true None w = help.NumberInValue w
+number_help false None w = help.NumberAsWord w
+
+abbrev pub token_help : Allowed → Option ℕ → FoundToken → Option Help
+token_help a width (tokens.Number w) = if a.literal then Some (number_help a.value width w) else None
+token_help a width (tokens.Mark w) = mark_help a w
+token_help a width (tokens.Keyword w) = keyword_help a w
+token_help a width (tokens.Name w) = if a.number then Some (help.NameAsNumber w) else None
+token_help a width _ = None
+
+-- the token, what may be there, and the width of a value there
 abbrev pub HelpsAt : FoundToken → Expected → Option ℕ → Option Help → Type 0
-HelpsAt (tokens.Number w) e width result = HelpsWhere (Lists e classes.Literal) (help.NumberAsValue w width) result
-HelpsAt (tokens.Mark w) e width result = HelpsAtMark w e result
-HelpsAt (tokens.Keyword w) e width result = HelpsAtKeyword w e result
-HelpsAt _ e width result = result ≡ None
+HelpsAt found e width result = (a : Allowed) × Describes e a × (result ≡ token_help a width found)
 
 -- The width of addresses of so many words is named, if it is one from 5 to 16.
 abbrev pub IsHelpForWords : ℕ → Option Help → Type 0

@@ -1,26 +1,57 @@
 // What helps where a rule is broken.
-ghost use Rattle.std.specs.Prelude.{IsTrue, ◌↔◌};
-ghost use Rattle.kp_view_help.specs.Helps.{Ends, HelpsAt, HelpsAtKeyword, HelpsAtMark, IsHelpForWords};
+ghost use Rattle.kp_view_help.specs.Helps.{IsHelpForWords};
 
-use crate::found::FoundToken;
 use crate::phrase::{Term, Terms, write_phrase};
 use crate::word::Word;
-use kp_lex::Mark;
-use kp_view_expected::{Expected, TokenClass};
 use std::fmt;
 
 /// A line of help.
 #[derive(Clone, Copy)]
 pub enum Help<'t> {
+    /// `!` of other languages.
+    NotEqual,
+    /// `>` and `>=`.
+    Greater,
+    /// `<=`.
+    NotGreater,
+    /// `=` for `==`.
+    Equal,
+    /// `&&` and `||`.
+    OneMark,
+    /// `#` and `/`.
+    Comment,
+    Typographic,
+    ByteOrderMark,
     /// A number in the place of a literal, and the width that is declared for it.
-    NumberAsValue(Word<'t>, Option<u64>),
+    NumberAsValue(Word<'t>, u64),
+    /// The same in an expression.
+    NumberInValue(Word<'t>),
+    /// The same where a name before it has the width.
+    NumberAsWord(Word<'t>),
+    /// A name in the place of a number.
+    NameAsNumber(Word<'t>),
+    KeywordAsName(Word<'t>),
+    /// An expression in the place of a name.
+    NameAlone,
     /// `]` is wanted in a result's address.
     AddressInPipe,
+    /// An expression after `when` of a result.
+    EnableInPipe,
     /// `when` comes after `at`.
     WhenBeforeAt,
+    /// `when` of a statement that has none.
+    WhenOfSet,
+    /// A declaration after the stages have begun.
+    DeclaredFirst,
+    SectionsLast,
     PipeIsPut,
     MoveUp,
+    OwnDefinition,
+    /// The declared name that differs from a name in the case of letters alone.
+    OtherCase(Word<'t>),
     KnownThere(usize),
+    /// The pipe that holds the value.
+    HeldBy(Word<'t>),
     ThroughPipe {
         name: Word<'t>,
         stage: usize,
@@ -75,48 +106,6 @@ pub enum Help<'t> {
 }
 
 impl<'t> Help<'t> {
-    /// What helps at a token that can't be there. The width is that of a value there, where it is declared right before.
-    pub fn at_token(
-        found: FoundToken<'t>,
-        expected: Expected,
-        width: Option<u64>,
-    ) -> Option<Help<'t>>
-        ensures { HelpsAt found.entry expected width result }
-    {
-        match found {
-            FoundToken::Number(word) => {
-                if expected.has(TokenClass::Literal) {
-                    Some(Help::NumberAsValue(word, width))
-                } else {
-                    None
-                }
-            }
-            FoundToken::Mark(word) => Help::at_mark(word, expected),
-            FoundToken::Keyword(word) => Help::at_keyword(word, expected),
-            _ => None,
-        }
-    }
-
-    fn at_mark(word: Word<'t>, expected: Expected) -> Option<Help<'t>>
-        ensures { HelpsAtMark word.entry expected result }
-    {
-        if word.0 == b"[".as_slice() && ends(expected, Mark::CloseBracket) {
-            Some(Help::AddressInPipe)
-        } else {
-            None
-        }
-    }
-
-    fn at_keyword(word: Word<'t>, expected: Expected) -> Option<Help<'t>>
-        ensures { HelpsAtKeyword word.entry expected result }
-    {
-        if word.0 == b"when".as_slice() && ends(expected, Mark::Semicolon) {
-            Some(Help::WhenBeforeAt)
-        } else {
-            None
-        }
-    }
-
     /// What helps where the number of words is in the place of the width of their addresses.
     pub fn words(value: u64) -> Option<Help<'t>>
         ensures { IsHelpForWords value result }
@@ -128,25 +117,47 @@ impl<'t> Help<'t> {
         }
         None
     }
-}
 
-// Whether a text goes on with the mark, and doesn't with an operator.
-fn ends(expected: Expected, mark: Mark) -> bool
-    ensures { IsTrue result ↔ Ends expected mark }
-{
-    expected.has(TokenClass::Mark(mark)) && !expected.has(TokenClass::Mark(Mark::Plus))
-}
-
-impl<'t> Help<'t> {
     // The line, up to the numbers of lines that some end with.
     fn text(&self) -> &'static str {
         match self {
+            Help::NotEqual => "for `a != b` write `~(a == b)`, and for `!x` of 1 bit `~x`",
+            Help::Greater => "for `a > b` write `b < a`, and for `a >= b` write `~(a < b)`",
+            Help::NotGreater => "the comparisons are `==` and `<`: for `a <= b` write `~(b < a)`",
+            Help::Equal => "values are compared by `==`",
+            Help::OneMark =>
+                "a condition has 1 bit: for `a && b` write `a & b`, and for `a || b` write `a | b`",
+            Help::Comment => "a comment begins with `//` and ends with its line",
+            Help::Typographic =>
+                "a typographic quote, dash or arrow begins with it: write `'`, `-` or `->`",
+            Help::ByteOrderMark =>
+                "a byte order mark at the beginning of a file begins with it: save the file as UTF-8 without one",
             Help::NumberAsValue(_, _) => "a value is written with its width: for {}, `{}'d{}`",
+            Help::NumberInValue(_) =>
+                "a value is written with its width: `w'd{}` for w bits; n copies of a bit b are `sext(b, n)`",
+            Help::NumberAsWord(_) =>
+                "a value is written with its width: `w'd{}`, where w is the declared width",
+            Help::NameAsNumber(_) =>
+                "a number is written in digits; bit {} of a value a is `(a >> {})[0]`, and a word of a file M is read by a statement first: `read x = M[{}];`",
+            Help::KeywordAsName(_) => "`{}` is a word of the language, and no name: choose another",
+            Help::NameAlone =>
+                "only a name can be here: the enable of a result is a pipe of 1 bit that an earlier stage `put`s, and `let` names the value of an expression",
             Help::AddressInPipe =>
                 "a result is written at the address in a pipe: declare `pipe AD : w;`, `put` it in an earlier stage, and write `[AD]`",
+            Help::EnableInPipe =>
+                "an enable is the name of a pipe: declare `pipe E : 1;`, `put` the condition into it in an earlier stage, and write `when E`",
             Help::WhenBeforeAt => "`when` stands before `at`: `-> X when W at 3;`",
+            Help::WhenOfSet =>
+                "only `set` and `read` have a condition: elsewhere choose between two values, `c ? a : b`",
+            Help::DeclaredFirst => "declarations come before `stage 0`",
+            Help::SectionsLast =>
+                "`image`, `stalls` and `inputs` come after the last stage, in this order",
             Help::PipeIsPut => "`read` and `let` name a new value; a pipe gets its value by `put`",
             Help::MoveUp => "a name is declared before it is used: move the declaration up",
+            Help::OwnDefinition =>
+                "a definition can't use the name that it defines: another name is meant, or its declaration is missing",
+            Help::OtherCase(_) => "`{}` is declared: capital and small letters differ",
+            Help::HeldBy(_) => "the pipe `{}` holds it: use `{}`",
             Help::KnownThere(_) =>
                 "a name that `read` or `let` defines is known only in its own stage, here stage {}",
             Help::ThroughPipe { width: Some(_), .. } =>
@@ -204,7 +215,13 @@ impl<'t> Help<'t> {
     // The terms of the line. A term for which it has no place isn't written.
     fn terms(&self) -> Terms<'t> {
         match self {
-            Help::ReadRegister(name)
+            Help::NumberInValue(name)
+            | Help::NumberAsWord(name)
+            | Help::NameAsNumber(name)
+            | Help::KeywordAsName(name)
+            | Help::OtherCase(name)
+            | Help::HeldBy(name)
+            | Help::ReadRegister(name)
             | Help::ReadFile(name)
             | Help::WritePut(name)
             | Help::WriteSet(name)
@@ -216,7 +233,10 @@ impl<'t> Help<'t> {
             | Help::OneAim(name)
             | Help::OneSet(name)
             | Help::OneResult(name)
-            | Help::SetOnlyIn { name, .. } => Terms::Two(Term::Word(*name), Term::Word(*name)),
+            | Help::SetOnlyIn { name, .. } => {
+                let word = Term::Word(*name);
+                Terms::Three(word, word, word)
+            }
             Help::KnownThere(stage) | Help::EmptyStage(stage) | Help::SameStage(stage) => {
                 Terms::Two(Term::Number(*stage as u64), Term::Text("{ }"))
             }
@@ -228,8 +248,7 @@ impl<'t> Help<'t> {
     fn other_terms(&self) -> Terms<'t> {
         match self {
             Help::NumberAsValue(word, width) => {
-                let width = width.unwrap_or(8);
-                Terms::Three(Term::Bits(width), Term::Number(width), Term::Word(*word))
+                Terms::Three(Term::Bits(*width), Term::Number(*width), Term::Word(*word))
             }
             Help::ThroughPipe { name, stage, width } => through_pipe(*name, *stage, *width),
             Help::Literal(width, value) => of_literal(*width, *value),

@@ -3,6 +3,7 @@
 //! None of them owns anything: names are slices of the source text or of its tree.
 #![tactic(auto)]
 
+mod allowed;
 mod found;
 mod help;
 mod kind;

@@ -2,7 +2,7 @@
 use Rattle.std.specs.Prelude.{ℕ, ◌≡◌, List, [], ◌∷◌, ◌==◌, if◌then◌else◌, Option, Some, None}
 use Rattle.kp_bits.specs.declared.literal.Literal.{Literal}
 use Rattle.kp_image.specs.declared.fault.SectionFault.{SectionFault}
-use Rattle.kp_view_help.specs.Helps.{HelpsAt}
+use Rattle.kp_view_help.specs.Helps.{byte_help, HelpsAt}
 use Rattle.kp_view_help.specs.declared.{help.Help.Help, word.Word.Word}
 use Rattle.kp_view_help.specs.declared.help.Help.TheVariants as help
 use Rattle.kp_view_message.specs.declared.reading_fault.ReadingFault.{ReadingFault}
@@ -16,8 +16,9 @@ use Rattle.kp_view_message.specs.declared.message.Message.TheVariants as message
 use Rattle.kp_view_message.specs.declared.warning.Warning.TheVariants as warnings
 use Rattle.kp_view_message.specs.Widths.{fit}
 
--- at an unexpected token what kp_view_help says of it
+-- at a byte that begins no token, and at an unexpected token, what kp_view_help says of it
 abbrev pub IsReadingHelp : ReadingFault → Option Help → Type 0
+IsReadingHelp (reading.NoToken byte) result = result ≡ byte_help byte
 IsReadingHelp (reading.Unexpected found expected width) result = HelpsAt found expected width result
 IsReadingHelp reading.TooDeep result = result ≡ Some help.NamePart
 IsReadingHelp _ result = result ≡ None

@@ -1,5 +1,6 @@
 -- What helps where a rule of names is violated (E5, E6 and E7).
-use Rattle.std.specs.Prelude.{ℕ, Bool, true, false, Option, Some, None, ◌==◌, nat_lt, if◌then◌else◌, position}
+use Rattle.std.specs.Prelude.{ℕ, ◌≡◌, Bool, true, false, List, Option, Some, None, option_map, ◌==◌, nat_lt, if◌then◌else◌, position}
+use Rattle.kp_base.specs.declared.place.Place.{Place}
 use Rattle.kp_ast.specs.declared.{tree.Job.Job, widths.NameKind.NameKind, widths.Scope.Scope}
 use Rattle.kp_ast.specs.declared.widths.NameKind.TheVariants as named
 use Rattle.kp_ast.specs.declared.widths.Scope.TheVariants as scopes
@@ -10,7 +11,7 @@ use Rattle.kp_view_help.specs.declared.help.Help.TheVariants as help
 use Rattle.kp_view_help.specs.declared.kind.Kind.TheVariants as kinds
 use Rattle.kp_view_help.specs.declared.kind.Wanted.TheVariants as wanted
 use Rattle.kp_view_help.specs.Texts.{kind_of}
-use Rattle.kp_view_message.specs.Sites.{binds_in, declares}
+use Rattle.kp_view_message.specs.Sites.{binds_in, declares, holder, is_own, other_case}
 
 -- a pipe whose name a statement binds
 abbrev pub again_help : NameKind → Scope → Option Help
@@ -21,20 +22,47 @@ again_help _ _ = None
 abbrev pub through_pipe : Word → ℕ → Option ℕ → ℕ → Option Help
 through_pipe n here width there = if nat_lt there here then Some (help.ThroughPipe n there width) else None
 
+-- the line with the word that has these bytes, and else another line
+abbrev pub with_word : (Word → Help) → Option Help → Option Word → Option Help
+with_word line other (Some w) = Some (line w)
+with_word line other None = other
+
+abbrev pub bytes_of : Word → List ℕ
+bytes_of w = w.0.now
+
+-- a value of this other stage: a pipe that holds it, and else a new one
+abbrev pub AreElsewhereHelps : List ℕ → Word → Job → ℕ → Option ℕ → ℕ → Option Help × Option Help → Type 0
+AreElsewhereHelps text n job here width there helps =
+    (pipe : Option Word) × (option_map bytes_of pipe ≡ holder text job n.0.now here there)
+    × (helps ≡ (Some (help.KnownThere there), with_word help.HeldBy (through_pipe n here width there) pipe))
+
 -- a name that isn't in scope in a stage, and this stage is the first that binds it
-abbrev pub stage_helps : Word → ℕ → Option ℕ → Option ℕ → Option Help × Option Help
-stage_helps n here width None = (None, None)
-stage_helps n here width (Some there) =
-    if there == here then (Some help.MoveUp, None) else (Some (help.KnownThere there), through_pipe n here width there)
+abbrev pub AreBoundHelps : List ℕ → Word → Job → ℕ → Option ℕ → ℕ → Bool → Option Help × Option Help → Type 0
+AreBoundHelps text n job here width there true helps = helps ≡ (Some help.MoveUp, None)
+AreBoundHelps text n job here width there false helps = AreElsewhereHelps text n job here width there helps
+
+abbrev pub AreStageHelps : List ℕ → Word → Job → ℕ → Option ℕ → Option ℕ → Option Help × Option Help → Type 0
+AreStageHelps text n job here width None helps = helps ≡ (None, None)
+AreStageHelps text n job here width (Some there) helps = AreBoundHelps text n job here width there (there == here) helps
 
 -- a name that isn't in scope here, and this declaration is the first of it
-abbrev pub declared_helps : Word → Job → Scope → Option ℕ → Option ℕ → Option Help × Option Help
-declared_helps n job here width (Some number) = (Some help.MoveUp, None)
-declared_helps n job (scopes.Stage here) width None = stage_helps n here width (position (binds_in n.0.now) job.blocks)
-declared_helps n job _ width None = (None, None)
+abbrev pub AreLaterHelps : List ℕ → Word → Job → Scope → Option ℕ → Option ℕ → Option Help × Option Help → Type 0
+AreLaterHelps text n job here width (Some number) helps = helps ≡ (Some help.MoveUp, None)
+AreLaterHelps text n job (scopes.Stage here) width None helps = AreStageHelps text n job here width (position (binds_in n.0.now) job.blocks) helps
+AreLaterHelps text n job _ width None helps = helps ≡ (None, None)
 
-abbrev pub scope_helps : Word → Job → Scope → Option ℕ → Option Help × Option Help
-scope_helps n job here width = declared_helps n job here width (position (declares n.0.now) job.decls)
+-- a name in its own definition: a declared name that differs in the case of letters alone is meant
+abbrev pub AreOwnHelps : Word → Job → Option Help × Option Help → Type 0
+AreOwnHelps n job helps =
+    (other : Option Word) × (option_map bytes_of other ≡ other_case n.0.now job)
+    × (helps ≡ (with_word help.OtherCase (Some help.OwnDefinition) other, None))
+
+abbrev pub AreHelpsIf : List ℕ → Bool → Word → Job → Scope → Option ℕ → Option Help × Option Help → Type 0
+AreHelpsIf text true n job here width helps = AreOwnHelps n job helps
+AreHelpsIf text false n job here width helps = AreLaterHelps text n job here width (position (declares n.0.now) job.decls) helps
+
+abbrev pub AreScopeHelps : List ℕ → Word → Job → Place → Scope → Option ℕ → Option Help × Option Help → Type 0
+AreScopeHelps text n job at here width helps = AreHelpsIf text (is_own n.0.now at job here) n job here width helps
 
 -- what is wanted in a position: in a function a value is a parameter
 abbrev pub wanted_in : Position → Scope → Wanted

@@ -10,7 +10,7 @@ use Rattle.kp_view_help.specs.{Helps.IsHelpForWords, declared.help.Help.Help, de
 use Rattle.kp_view_help.specs.declared.help.Help.TheVariants as help
 use Rattle.kp_view_help.specs.declared.phrase.Term.TheVariants as term
 use Rattle.kp_view_help.specs.declared.phrase.Terms.TheVariants as terms
-use Rattle.kp_view_message.specs.{Sites.literal_at, Names.again_help, Names.kind_help, Names.scope_helps}
+use Rattle.kp_view_message.specs.{Sites.literal_at, Names.again_help, Names.kind_help, Names.AreScopeHelps}
 use Rattle.kp_view_message.specs.declared.{message.Message.Message, sentence.Sentence.Sentence}
 use Rattle.kp_view_message.specs.declared.message.Message.TheVariants as messages
 
@@ -60,7 +60,7 @@ AreWidthHelps text at fault helps = AreNumberHelps fault helps
 -- with the name at the place
 abbrev pub AreNameHelps : List ℕ → Job → Place → Spelled → WidthFault → Option Help × Option Help → Type 0
 AreNameHelps text job at name (faults.DeclaredAgain found from here) helps = helps ≡ (again_help found here, None)
-AreNameHelps text job at name (faults.NotInScope here bound) helps = helps ≡ scope_helps name job here bound
+AreNameHelps text job at name (faults.NotInScope here bound) helps = AreScopeHelps text name job at here bound helps
 AreNameHelps text job at name (faults.WrongKind found from wanted here) helps = helps ≡ (kind_help name found wanted here, None)
 AreNameHelps text job at name fault helps = AreWidthHelps text at fault helps
 

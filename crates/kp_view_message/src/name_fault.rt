@@ -2,11 +2,12 @@
 ghost use Rattle.std.specs.Prelude.{◌≡◌, [], None, Some, position};
 ghost use Rattle.kp_view_help.specs.declared.help.Help.TheVariants as help;
 ghost use Rattle.kp_view_message.specs.{Sites.binds_in, Widths.bits_in, inner.Places.places};
-ghost use Rattle.kp_view_message.specs.Names.{again_help, instead, kind_help, needs_address, scope_helps, stage_helps, through_pipe, wanted_in};
+ghost use Rattle.kp_view_message.specs.Names.{again_help, AreElsewhereHelps, AreOwnHelps, AreScopeHelps, AreStageHelps, instead, kind_help, needs_address, through_pipe, wanted_in};
 
 use crate::sentence::Sentence;
 use crate::site::{
-    bound_name, bound_stage, declared, first_declared, function_named, in_scope, line_of, local,
+    Site, bound_name, bound_stage, declared, first_declared, function_named, holder, in_scope,
+    is_own, line_of, local, other_case,
 };
 use kp_ast::{Job, NameKind, Scope, StmtKind};
 use kp_view_help::{Help, Kind, Term, Terms, Wanted, Word};
@@ -44,30 +45,52 @@ fn again_help<'t>(found: NameKind, here: Scope) -> Option<Help<'t>>
     }
 }
 
-/// A name that isn't in scope: where it is declared, if it is anywhere.
+/// A name that isn't in scope at this site: where it is declared, if it is anywhere.
 pub(crate) fn not_in_scope<'t>(
-    job: &'t Job,
+    site: Site<'t>,
     name: Word<'t>,
     here: Scope,
     width: Option<u8>,
 ) -> Sentence<'t>
-    ensures helps { result.helps ≡ scope_helps name.entry job.now here width }
+    ensures helps { AreScopeHelps site.entry.text.now name.entry site.entry.job.now site.entry.place here width result.helps }
     ensures widths { bits_in result.terms ≡ [] }
 {
+    let job = site.job;
+    if is_own(site, name, here) {
+        return own_definition(job, name);
+    }
     if let Some(number) = first_declared(job, name) {
         return declared_below(name, line_of(declared(job, number)));
     }
     match here {
-        Scope::Stage(here) => not_in_stage(job, name, here as usize, width),
+        Scope::Stage(here) => not_in_stage(site, name, here as usize, width),
         _ => undeclared(name),
     }
 }
 
-// The same for a name that isn't declared before the stages.
-fn not_in_stage<'t>(job: &'t Job, name: Word<'t>, here: usize, width: Option<u8>) -> Sentence<'t>
-    ensures helps { result.helps ≡ stage_helps name.entry here width (position (binds_in name.entry.0.now) job.now.blocks) }
+// A name in its own definition.
+#[tactic(auto, using(crate::proofs::Said::own))]
+fn own_definition<'t>(job: &'t Job, name: Word<'t>) -> Sentence<'t>
+    ensures helps { AreOwnHelps name.entry job.now result.helps }
     ensures widths { bits_in result.terms ≡ [] }
 {
+    let meant = match other_case(job, name) {
+        Some(other) => Some(Help::OtherCase(other)),
+        None => Some(Help::OwnDefinition),
+    };
+    Sentence::new(
+        "`{}` isn't known in its own definition",
+        Terms::One(Term::Word(name)),
+    )
+    .with(meant, None)
+}
+
+// The same for a name that isn't declared before the stages.
+fn not_in_stage<'t>(site: Site<'t>, name: Word<'t>, here: usize, width: Option<u8>) -> Sentence<'t>
+    ensures helps { AreStageHelps site.entry.text.now name.entry site.entry.job.now here width (position (binds_in name.entry.0.now) site.entry.job.now.blocks) result.helps }
+    ensures widths { bits_in result.terms ≡ [] }
+{
+    let job = site.job;
     let Some(stage) = bound_stage(job, name) else {
         return undeclared(name);
     };
@@ -81,10 +104,26 @@ fn not_in_stage<'t>(job: &'t Job, name: Word<'t>, here: usize, width: Option<u8>
         Term::Number(stage as u64),
         Term::Number(line),
     );
-    Sentence::new(elsewhere(stmt), terms).with(
-        Some(Help::KnownThere(stage)),
-        through_pipe(name, here, width, stage),
-    )
+    let (first, second) = elsewhere_helps(site, name, here, width, stage);
+    Sentence::new(elsewhere(stmt), terms).with(first, second)
+}
+
+// What helps where another stage binds the name: a pipe that holds it, and else a new one.
+#[tactic(auto, using(crate::proofs::Said::held))]
+fn elsewhere_helps<'t>(
+    site: Site<'t>,
+    name: Word<'t>,
+    here: usize,
+    width: Option<u8>,
+    stage: usize,
+) -> (Option<Help<'t>>, Option<Help<'t>>)
+    ensures { AreElsewhereHelps site.entry.text.now name.entry site.entry.job.now here width stage result }
+{
+    let second = match holder(site, name, here, stage) {
+        Some(pipe) => Some(Help::HeldBy(pipe)),
+        None => through_pipe(name, here, width, stage),
+    };
+    (Some(Help::KnownThere(stage)), second)
 }
 
 fn undeclared<'t>(name: Word<'t>) -> Sentence<'t>

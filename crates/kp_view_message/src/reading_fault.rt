@@ -44,6 +44,7 @@ impl<'t> ReadingFault<'t> {
         ensures { IsReadingHelp self.now result }
     {
         match self {
+            ReadingFault::NoToken(byte) => Help::at_byte(*byte),
             ReadingFault::Unexpected {
                 found,
                 expected,

@@ -1,9 +1,12 @@
 // What sentences take from the text and from its tree.
-ghost use Rattle.std.specs.Prelude.{◌≡◌, position};
+ghost use Rattle.std.specs.Prelude.{◌≡◌, find, option_map, position};
+ghost use Rattle.std.specs.List.{list_any};
+ghost use Rattle.kp_width.specs.Declarations.{name_of};
 ghost use Rattle.kp_view_excerpt.specs.Tokens.{token_at};
-ghost use Rattle.kp_view_message.specs.Sites.{binds, binds_in, declares, literal_at};
+ghost use Rattle.kp_view_message.specs.Names.{bytes_of};
+ghost use Rattle.kp_view_message.specs.Sites.{binds, binds_before, binds_here, binds_in, declares, differs_in_case, holder, is_named_before, is_own, literal_at, other_case, pipe_in, puts, stmts_in};
 
-use kp_ast::{Block, Decl, Job, NameKind, Named, Param, Scope, StmtKind};
+use kp_ast::{Block, Decl, Job, NameKind, Named, Param, Scope, Stmt, StmtKind};
 use kp_base::Place;
 use kp_bits::{Literal, read_literal};
 use kp_view_excerpt::token_at;
@@ -141,6 +144,124 @@ fn binds(stmt: &StmtKind, name: Word<'_>) -> bool
     match stmt {
         StmtKind::Read(read) => read.name.name.bytes() == name.0,
         StmtKind::Let(named, _) => named.name.bytes() == name.0,
+        _ => false,
+    }
+}
+
+/// Whether a name that isn't in scope at a site is declared before it, or bound before it in the same stage: the site is in this definition.
+pub(crate) fn is_own(site: Site<'_>, name: Word<'_>, here: Scope) -> bool
+    ensures { result ≡ is_own name.entry.0.now site.entry.place site.entry.job.now here }
+{
+    declares_before(site.job.decls.as_slice(), name, site.place)
+        || binds_here(site.job, name, site.place, here)
+}
+
+fn declares_before(decls: &[Decl], name: Word<'_>, place: Place) -> bool
+    ensures { result ≡ list_any (λ d. is_named_before name.entry.0.now place (name_of d)) decls.now }
+{
+    decls
+        .iter()
+        .any(|decl| is_named_before(declared_name(decl), name, place))
+}
+
+fn binds_here(job: &Job, name: Word<'_>, place: Place, here: Scope) -> bool
+    ensures { result ≡ binds_here name.entry.0.now place job.now here }
+{
+    match here {
+        Scope::Stage(stage) => any_binds_before(stmts_in(job, stage as usize), name, place),
+        _ => false,
+    }
+}
+
+fn any_binds_before(stmts: &[Stmt], name: Word<'_>, place: Place) -> bool
+    ensures { result ≡ list_any (λ s. binds_before name.entry.0.now place s.kind) stmts.now }
+{
+    stmts
+        .iter()
+        .any(|stmt| binds_before(&stmt.kind, name, place))
+}
+
+fn binds_before(stmt: &StmtKind, name: Word<'_>, place: Place) -> bool
+    ensures { result ≡ binds_before name.entry.0.now place stmt.now }
+{
+    match stmt {
+        StmtKind::Read(read) => is_named_before(&read.name, name, place),
+        StmtKind::Let(named, _) => is_named_before(named, name, place),
+        _ => false,
+    }
+}
+
+fn is_named_before(named: &Named, name: Word<'_>, place: Place) -> bool
+    ensures { result ≡ is_named_before name.entry.0.now place named.now }
+{
+    let Place { line, col } = named.at;
+    named.name.bytes() == name.0 && (line < place.line || line == place.line && col < place.col)
+}
+
+fn stmts_in(job: &Job, stage: usize) -> &[Stmt]
+    ensures { result.now ≡ stmts_in job.now stage }
+{
+    match job.blocks.as_slice().get(stage) {
+        Some(block) => block.stmts.as_slice(),
+        None => &[],
+    }
+}
+
+/// The first declared name that differs from this one in the case of letters alone.
+pub(crate) fn other_case<'t>(job: &'t Job, name: Word<'_>) -> Option<Word<'t>>
+    ensures { option_map bytes_of result ≡ other_case name.entry.0.now job.now }
+{
+    let decl = job.decls.as_slice().iter().find(|decl| differs_in_case(
+        declared_name(decl).name.bytes(),
+        name.0,
+    ))?;
+    Some(Word::of(&declared_name(decl).name))
+}
+
+fn differs_in_case(a: &[u8], b: &[u8]) -> bool
+    ensures { result ≡ differs_in_case a.now b.now }
+{
+    a.eq_ignore_ascii_case(b) && a != b
+}
+
+/// The pipe into which this earlier stage puts the value of a name.
+pub(crate) fn holder<'t>(
+    site: Site<'t>,
+    name: Word<'_>,
+    here: usize,
+    stage: usize,
+) -> Option<Word<'t>>
+    ensures { option_map bytes_of result ≡ holder site.entry.text.now site.entry.job.now name.entry.0.now here stage }
+{
+    if stage < here {
+        pipe_in(first_put(site.text, stmts_in(site.job, stage), name))
+    } else {
+        None
+    }
+}
+
+// The first statement that puts the value of a name.
+fn first_put<'t>(text: &[u8], stmts: &'t [Stmt], name: Word<'_>) -> Option<&'t Stmt>
+    ensures { option_map (λ s. s.now) result ≡ find (λ s. puts text.now name.entry.0.now s.kind) stmts.now }
+{
+    stmts.iter().find(|stmt| puts(text, &stmt.kind, name))
+}
+
+fn pipe_in<'t>(stmt: Option<&'t Stmt>) -> Option<Word<'t>>
+    ensures { option_map bytes_of result ≡ pipe_in (option_map (λ s. s.now) stmt.entry) }
+{
+    match &stmt?.kind {
+        StmtKind::Put(pipe, _) => Some(Word::of(&pipe.name)),
+        _ => None,
+    }
+}
+
+// Whether a statement puts a value whose outermost token is this name.
+fn puts(text: &[u8], stmt: &StmtKind, name: Word<'_>) -> bool
+    ensures { result ≡ puts text.now name.entry.0.now stmt.now }
+{
+    match stmt {
+        StmtKind::Put(_, value) => token_at(text, value.place) == name.0,
         _ => false,
     }
 }

@@ -37,7 +37,7 @@ fn name_sentence<'t>(site: Site<'t>, name: Word<'t>, fault: WidthFault) -> Sente
         WidthFault::DeclaredAgain { found, from, here } => {
             declared_again(job, name, found, from, here)
         }
-        WidthFault::NotInScope { here, bound } => not_in_scope(job, name, here, bound),
+        WidthFault::NotInScope { here, bound } => not_in_scope(site, name, here, bound),
         WidthFault::WrongKind {
             found,
             from,

@@ -1,0 +1,189 @@
+// What helps at a token that can't be there.
+ghost use Rattle.std.specs.Prelude.{◌≡◌, ◌||◌};
+ghost use Rattle.kp_view_help.specs.Helps.{begins_section, byte_help, declares, Describes, goes_on, HelpsAt, keyword_help, mark_help, number_help, token_help, value_help};
+
+use crate::found::FoundToken;
+use crate::help::Help;
+use crate::word::Word;
+use kp_lex::{Keyword, Mark};
+use kp_view_expected::{Expected, TokenClass};
+
+/// Which tokens may be at a place, of those on which help depends.
+#[derive(Clone, Copy)]
+pub(crate) struct Allowed {
+    /// `~`, with which a value begins.
+    value: bool,
+    /// `+`, which goes on with a value.
+    operator: bool,
+    literal: bool,
+    number: bool,
+    name: bool,
+    semicolon: bool,
+    /// `]`
+    bracket: bool,
+    /// `}`
+    brace: bool,
+    at: bool,
+    /// `let`, with which a statement begins.
+    statement: bool,
+    stage: bool,
+    end: bool,
+}
+
+impl Allowed {
+    fn of(expected: Expected) -> Allowed
+        ensures { Describes expected result }
+    {
+        Allowed {
+            value: expected.has(TokenClass::Mark(Mark::Tilde)),
+            operator: expected.has(TokenClass::Mark(Mark::Plus)),
+            literal: expected.has(TokenClass::Literal),
+            number: expected.has(TokenClass::Number),
+            name: expected.has(TokenClass::Name),
+            semicolon: expected.has(TokenClass::Mark(Mark::Semicolon)),
+            bracket: expected.has(TokenClass::Mark(Mark::CloseBracket)),
+            brace: expected.has(TokenClass::Mark(Mark::CloseBrace)),
+            at: expected.has(TokenClass::Keyword(Keyword::At)),
+            statement: expected.has(TokenClass::Keyword(Keyword::Let)),
+            stage: expected.has(TokenClass::Keyword(Keyword::Stage)),
+            end: expected.has(TokenClass::Keyword(Keyword::End)),
+        }
+    }
+
+    fn help<'t>(self, found: FoundToken<'t>, width: Option<u64>) -> Option<Help<'t>>
+        ensures { result ≡ token_help self width found.entry }
+    {
+        match found {
+            FoundToken::Number(word) if self.literal => Some(self.number_help(word, width)),
+            FoundToken::Mark(word) => self.mark_help(word),
+            FoundToken::Keyword(word) => self.keyword_help(word),
+            FoundToken::Name(word) if self.number => Some(Help::NameAsNumber(word)),
+            _ => None,
+        }
+    }
+
+    fn number_help<'t>(self, word: Word<'t>, width: Option<u64>) -> Help<'t>
+        ensures { result ≡ number_help self.value width word.entry }
+    {
+        match width {
+            Some(width) => Help::NumberAsValue(word, width),
+            None if self.value => Help::NumberInValue(word),
+            None => Help::NumberAsWord(word),
+        }
+    }
+
+    fn mark_help<'t>(self, word: Word<'t>) -> Option<Help<'t>>
+        ensures { result ≡ mark_help self word.entry }
+    {
+        let mark = word.0;
+        if self.value {
+            value_help(mark)
+        } else if self.operator {
+            if mark == b"=".as_slice() {
+                Some(Help::Equal)
+            } else {
+                None
+            }
+        } else if self.bracket && mark == b"[".as_slice() {
+            Some(Help::AddressInPipe)
+        } else if self.at && goes_on(mark) {
+            Some(Help::EnableInPipe)
+        } else if self.name && (mark == b"~".as_slice() || mark == b"(".as_slice()) {
+            Some(Help::NameAlone)
+        } else {
+            None
+        }
+    }
+
+    fn keyword_help<'t>(self, word: Word<'t>) -> Option<Help<'t>>
+        ensures { result ≡ keyword_help self word.entry }
+    {
+        let keyword = word.0;
+        if self.semicolon && keyword == b"when".as_slice() {
+            Some(if self.operator {
+                Help::WhenOfSet
+            } else {
+                Help::WhenBeforeAt
+            })
+        } else if (self.statement || self.end) && declares(keyword) {
+            Some(Help::DeclaredFirst)
+        } else if (self.stage || self.end) && begins_section(keyword) {
+            Some(Help::SectionsLast)
+        } else if self.name && !self.brace {
+            Some(Help::KeywordAsName(word))
+        } else {
+            None
+        }
+    }
+}
+
+// In the place of a value.
+fn value_help<'t>(mark: &[u8]) -> Option<Help<'t>>
+    ensures { result ≡ value_help mark.now }
+{
+    if mark == b"=".as_slice() {
+        Some(Help::NotGreater)
+    } else if mark == b"&".as_slice() || mark == b"|".as_slice() {
+        Some(Help::OneMark)
+    } else {
+        None
+    }
+}
+
+// Whether the mark goes on with a condition.
+fn goes_on(mark: &[u8]) -> bool
+    ensures { result ≡ goes_on mark.now }
+{
+    mark == b"==".as_slice()
+        || mark == b"<".as_slice()
+        || mark == b"&".as_slice()
+        || mark == b"|".as_slice()
+        || mark == b"^".as_slice()
+        || mark == b"[".as_slice()
+}
+
+fn declares(word: &[u8]) -> bool
+    ensures { result ≡ declares word.now }
+{
+    word == b"reg".as_slice()
+        || word == b"file".as_slice()
+        || word == b"pipe".as_slice()
+        || word == b"result".as_slice()
+        || word == b"hint".as_slice()
+        || word == b"sample".as_slice()
+        || word == b"fn".as_slice()
+}
+
+fn begins_section(word: &[u8]) -> bool
+    ensures { result ≡ begins_section word.now }
+{
+    word == b"image".as_slice() || word == b"stalls".as_slice() || word == b"inputs".as_slice()
+}
+
+impl<'t> Help<'t> {
+    /// What helps at a byte that no token begins with.
+    pub fn at_byte(byte: u8) -> Option<Help<'t>>
+        ensures { result ≡ byte_help byte }
+    {
+        match byte {
+            b'!' => Some(Help::NotEqual),
+            b'>' => Some(Help::Greater),
+            b'#' | b'/' => Some(Help::Comment),
+            226 => Some(Help::Typographic),
+            239 => Some(Help::ByteOrderMark),
+            _ => None,
+        }
+    }
+
+    /// What helps at a token that can't be there. The width is that of a value there, where it is declared right before.
+    #[tactic(auto, using(crate::proofs::Allows::at_token))]
+    pub fn at_token(
+        found: FoundToken<'t>,
+        expected: Expected,
+        width: Option<u64>,
+    ) -> Option<Help<'t>>
+        ensures { HelpsAt found.entry expected width result }
+    {
+        Allowed::of(expected).help(found, width)
+    }
+}
