@@ -11,7 +11,7 @@ use Rattle.kp_tool.specs.ConstantTime.{HasSameRecord}
 -- The reset is raised in two states of a netlist of a job, at power-up or in runs, and the same inputs follow. If the states have the same memory, the two
 -- runs are the same, row by row and value by value, whatever else differs (`memory`): the registers at power-up have no effect. And whatever the
 -- memories are, without guesses and samples the runs have the same rows if all instructions have the same records in them (`time`): the memory
--- decides in which cycle an instruction is in which stage by conditions, addresses and enables alone.
+-- decides in which cycle an instruction is in which stage by conditions, addresses, enables and setting stages alone.
 pub record RestartsAlike (net : Net) (job : Job) : Type 0 where
   pub memory : (a b : State) (i j : Input) (ins : List Input) → HasMemory net a → HasMemory net b → a.files ≡ b.files → i.reset ≡ true → j.reset ≡ true
       → AreQuiet ins → ShowsAlike job (trace_from job net (state_after net i a) ins) (trace_from job net (state_after net j b) ins)
