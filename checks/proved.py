@@ -11,7 +11,7 @@ import sys
 TOP = os.path.dirname(os.path.dirname(os.path.abspath(__file__)))
 PAGE = f"{TOP}/docs/PROVED.md"
 # The top calls of the programs.
-CALLS = {"kp_tool": "tool", "kp_view": "view", "kp_view_same": "same_sources", "kp_view_explain": "explain_source", "kp_core": "run_core"}
+CALLS = {"kp_tool": "tool", "kp_view": "view", "kp_view_same": "same_sources", "kp_view_explain": "explain_source", "kp_core": "run_core", "kp_runner": "run_job"}
 HEAD = """# What is proved, crate by crate
 
 This page is made from the comments of the sources, by `python3 checks/proved.py --write`. `README.md` has the main promises, and `BELIEVE.md` the
