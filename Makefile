@@ -1,5 +1,5 @@
-# make          proves and builds the programs kp, kpview and kpcore where a source is newer: some 30 minutes on four processors from nothing
-# make kp       the first alone, crates/kp/out/kp; make kpview and make kpcore the others, crates/kpview/out/kpview and crates/kpcore/out/kpcore
+# make          proves and builds the programs kp, kpview, kpcore and kprun where a source is newer: some 30 minutes on four processors from nothing
+# make kp       the first alone, crates/kp/out/kp; make kpview, make kpcore and make kprun the others, as crates/kpview/out/kpview
 # make check    the gate: all proofs, the edits that proofs must reject, and all stored runs, as .ci/run does
 # make checks   the checks beside the gate: commands of the manual, other tools on the Verilog, refused memory, two builds of the programs ..; a line for each
 # make bench    the measurements of time and memory in benches/, in a table; OLD=PROGRAM names the program kp of another version, to compare with
@@ -11,7 +11,7 @@
 # make clean    removes what was built and proved here
 # make help     prints these lines
 
-programs = kp kpview kpcore
+programs = kp kpview kpcore kprun
 scripts  = yosys2kp kpasm kpvary kpcut
 lock     = out/build.lock
 
@@ -45,8 +45,8 @@ endif
 check:
 	@.ci/run
 
-# KP, KPVIEW and KPCORE name other programs than those that are built here.
-checks: $(if $(KP),,kp) $(if $(KPVIEW),,kpview) $(if $(KPCORE),,kpcore)
+# KP, KPVIEW, KPCORE and KPRUN name other programs than those that are built here.
+checks: $(if $(KP),,kp) $(if $(KPVIEW),,kpview) $(if $(KPCORE),,kpcore) $(if $(KPRUN),,kprun)
 	@checks/each $(all_checks)
 
 bench: $(if $(KP),,kp)
@@ -56,13 +56,14 @@ bench: $(if $(KP),,kp)
 pictures: $(if $(KPVIEW),,kpview)
 	@bash checks/pictures.sh write
 
-# PREFIX is an absolute path. DESTDIR is a folder in which it is installed as if it were the root, for packages. KP_BINARY, KPVIEW_BINARY and
-# KPCORE_BINARY name other files than the programs that are built here.
+# PREFIX is an absolute path. DESTDIR is a folder in which it is installed as if it were the root, for packages. KP_BINARY, KPVIEW_BINARY,
+# KPCORE_BINARY and KPRUN_BINARY name other files than the programs that are built here.
 PREFIX        = /usr/local
 DESTDIR       =
 KP_BINARY     = crates/kp/out/kp
 KPVIEW_BINARY = crates/kpview/out/kpview
 KPCORE_BINARY = crates/kpcore/out/kpcore
+KPRUN_BINARY = crates/kprun/out/kprun
 
 version = $(shell cat VERSION)
 root    = $(DESTDIR)$(PREFIX)
@@ -75,7 +76,7 @@ vscode  = $(notdir $(wildcard editors/vscode/*))
 files   = share/man/man5/kp.5 $(foreach it,$(programs),bin/$(it) share/man/man1/$(it).1 share/bash-completion/completions/$(it) \
           share/zsh/site-functions/_$(it) share/fish/vendor_completions.d/$(it).fish) $(addprefix bin/,$(scripts)) $(addprefix share/vim/vimfiles/,$(vim))
 absolute = $(if $(filter /%,$(PREFIX)),,$(error PREFIX has to be an absolute path, and is `$(PREFIX)`))
-needs = $(absolute)$(foreach it,$(KP_BINARY) $(KPVIEW_BINARY) $(KPCORE_BINARY),$(if $(wildcard $(it)),,$(error $(it) isn't there: run make first, which builds it)))
+needs = $(absolute)$(foreach it,$(KP_BINARY) $(KPVIEW_BINARY) $(KPCORE_BINARY) $(KPRUN_BINARY),$(if $(wildcard $(it)),,$(error $(it) isn't there: run make first, which builds it)))
 trees   = find docs examples tools \( -name out -o -name __pycache__ \) -prune -o -type f -print
 
 # bin/kp is the script kp of this folder, which runs the program libexec/kp/kp. share/kp has links to the programs, so that the commands of the documents run
@@ -88,7 +89,8 @@ install:
 	install -m 755 "$(KP_BINARY)" "$(root)/libexec/kp/kp" && \
 	install -m 755 "$(KPVIEW_BINARY)" "$(root)/bin/kpview" && \
 	install -m 755 "$(KPCORE_BINARY)" "$(root)/bin/kpcore" && \
-	for it in kp.1 kp.5 kpview.1 kpcore.1; do \
+	install -m 755 "$(KPRUN_BINARY)" "$(root)/bin/kprun" && \
+	for it in kp.1 kp.5 kpview.1 kpcore.1 kprun.1; do \
 	    page="$(root)/share/man/man$${it##*.}/$$it" && \
 	    sed -e 's|@VERSION@|$(version)|g' -e 's|@PREFIX@|$(PREFIX)|g' man/$$it > "$$page" && chmod 644 "$$page" || exit 1; \
 	done && \
@@ -110,6 +112,7 @@ install:
 	ln -sf ../../bin/kp "$(root)/share/kp/kp" && \
 	ln -sf ../../bin/kpview "$(root)/share/kp/kpview" && \
 	ln -sf ../../bin/kpcore "$(root)/share/kp/kpcore" && \
+	ln -sf ../../bin/kprun "$(root)/share/kp/kprun" && \
 	for it in $(scripts); do ln -sf ../share/kp/tools/$$it "$(root)/bin/$$it" || exit 1; done
 
 # Folders that others use too are removed below DESTDIR alone, where they are empty.
@@ -124,7 +127,7 @@ uninstall:
 # Two calls write the same bytes: names are sorted, and owners, modes and times are fixed.
 SOURCE_DATE_EPOCH ?= 1767225600
 packed = kp-$(version)-linux-x86_64
-made   = $(MAKE) -s --no-print-directory install KP_BINARY="$(KP_BINARY)" KPVIEW_BINARY="$(KPVIEW_BINARY)" KPCORE_BINARY="$(KPCORE_BINARY)"
+made   = $(MAKE) -s --no-print-directory install KP_BINARY="$(KP_BINARY)" KPVIEW_BINARY="$(KPVIEW_BINARY)" KPCORE_BINARY="$(KPCORE_BINARY)" KPRUN_BINARY="$(KPRUN_BINARY)"
 dist:
 	$(needs)
 	@rm -rf out/dist && mkdir -p out/dist/root

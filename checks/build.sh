@@ -18,7 +18,7 @@ KP=${KP:-:}
 . "$(dirname "$0")/common.sh"
 need rt
 cd "$top" || exit 70
-programs=${PROGRAMS:-kp kpview kpcore}
+programs=${PROGRAMS:-kp kpview kpcore kprun}
 for it in $programs; do
     [ -f "crates/$it/src/main.rt" ] || { echo "PROGRAMS has \`$it\`, which is no program of crates/"; exit 70; }
 done

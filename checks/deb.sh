@@ -1,7 +1,7 @@
 #!/bin/bash
 # What `make deb` does: bash checks/deb.sh
 #
-# Two calls write the same package, though the second has another umask and older files. dpkg installs it in an empty folder, where kp, kpview and kpcore run, with
+# Two calls write the same package, though the second has another umask and older files. dpkg installs it in an empty folder, where kp, kpview, kpcore and kprun run, with
 # the output and the status that they have here, and removes it with all its files. Each file has its sum, and belongs to root. Lintian, where it is installed, finds
 # no error. Where a program isn't built, a stub is packed; KP, KPVIEW and KPCORE name other programs. Where dpkg-deb is missing the check is skipped. The last line
 # is `N checked, M wrong`, and the status is 0 where M is 0.
@@ -22,6 +22,7 @@ program() {
 kp=$(program kp "$kp")
 kpview=$(program kpview "${KPVIEW:-crates/kpview/out/kpview}")
 kpcore=$(program kpcore "${KPCORE:-crates/kpcore/out/kpcore}")
+kprun=$(program kprun "${KPRUN:-crates/kprun/out/kprun}")
 
 # The same bytes twice
 name=kp_$(cat VERSION)_amd64.deb
@@ -30,7 +31,7 @@ for it in 1 2; do
     (
         cd "$work/tree$it" || exit
         [ "$it" = 1 ] || { umask 077; find . -exec touch -h -d '2 days ago' {} +; }
-        env -u MAKEFLAGS -u MAKELEVEL make -s --no-print-directory deb DEBEMAIL=kp@example.org KP_BINARY="$kp" KPVIEW_BINARY="$kpview" KPCORE_BINARY="$kpcore"
+        env -u MAKEFLAGS -u MAKELEVEL make -s --no-print-directory deb DEBEMAIL=kp@example.org KP_BINARY="$kp" KPVIEW_BINARY="$kpview" KPCORE_BINARY="$kpcore" KPRUN_BINARY="$kprun"
     ) > "$work/made" 2>&1 < /dev/null || sed 's/^/make: /' "$work/made"
 done
 cmp "$work"/tree[12]/out/deb/"$name" > "$work/said" 2>&1
@@ -51,7 +52,7 @@ in_folder --install "$package"
     [ "$(cd "$root" && find usr -type f | wc -l)" -eq "$(wc -l < "$root/var/lib/dpkg/info/kp.md5sums")" ] || echo "not each file has a sum"
 } > "$work/differs" 2>&1
 quiet install dpkg "$work/differs"
-for it in kp kpview kpcore; do
+for it in kp kpview kpcore kprun; do
     given=$kp
     [ "$it" = kp ] || given=${!it}
     for words in '' --version 'check'; do
@@ -65,7 +66,7 @@ for it in kp kpview kpcore; do
     done
 done
 if [ "$("$root/usr/share/kp/kp" --version)" = "kp $(cat VERSION)" ]; then says kp --version ok; else says kp --version 'is another'; fi
-for it in kp.1 kp.5 kpview.1 kpcore.1; do gzip -dc "$root/usr/share/man/man${it##*.}/$it.gz" | grep -q "version $(cat VERSION)" || echo "$it.gz has no version"; done > "$work/differs"
+for it in kp.1 kp.5 kpview.1 kpcore.1 kprun.1; do gzip -dc "$root/usr/share/man/man${it##*.}/$it.gz" | grep -q "version $(cat VERSION)" || echo "$it.gz has no version"; done > "$work/differs"
 quiet pages gzip "$work/differs"
 in_folder --purge kp
 find "$root" -path "$root/var/lib/dpkg" -prune -o ! -type d -print > "$work/differs"

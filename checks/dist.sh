@@ -6,7 +6,7 @@
 # Two calls of `make dist` write the same bytes, though the second has another umask and older files; names are sorted, and the owner is 0. VERSION is
 # the newest heading of CHANGELOG.md. The commands in the manual page and the completions are those that `kp` accepts; the keywords and rules in the
 # manual pages and the editor files are those of docs/. Shells, mandoc and man, where they are installed, accept their files without a message. Where no
-# program is built, a stub is installed. bin/kp is the script `kp` of this folder and runs the program. KP, KPVIEW and KPCORE name other programs. The last line is `N checked, M wrong`, and the status is 0 where M is 0.
+# program is built, a stub is installed. bin/kp is the script `kp` of this folder and runs the program. KP, KPVIEW, KPCORE and KPRUN name other programs. The last line is `N checked, M wrong`, and the status is 0 where M is 0.
 [ -n "${KP:-}" ] || [ -x "$(dirname "$0")/../crates/kp/out/kp" ] || KP=:
 . "$(dirname "$0")/common.sh"
 if [ "$kp" = : ]; then
@@ -29,6 +29,13 @@ if ! [ -x "$kpcore" ]; then
     kpcore=$work/core
 fi
 kpcore=$(cd "$(dirname "$(command -v "$kpcore")")" && pwd)/$(basename "$kpcore")
+kprun=${KPRUN:-$top/crates/kprun/out/kprun}
+if ! [ -x "$kprun" ]; then
+    printf '#!/bin/sh\nexit 1\n' > "$work/run"
+    chmod 755 "$work/run"
+    kprun=$work/run
+fi
+kprun=$(cd "$(dirname "$(command -v "$kprun")")" && pwd)/$(basename "$kprun")
 cd "$top" || exit 70
 language=docs/LANGUAGE.md
 
@@ -45,7 +52,7 @@ same() {
 
 # made TARGET WORD..: runs make as a user does, and puts what it printed into a file
 made() {
-    env -u MAKEFLAGS -u MAKELEVEL make -s --no-print-directory "$@" KP_BINARY="$kp" KPVIEW_BINARY="$kpview" KPCORE_BINARY="$kpcore" > "$work/made" 2>&1 < /dev/null ||
+    env -u MAKEFLAGS -u MAKELEVEL make -s --no-print-directory "$@" KP_BINARY="$kp" KPVIEW_BINARY="$kpview" KPCORE_BINARY="$kpcore" KPRUN_BINARY="$kprun" > "$work/made" 2>&1 < /dev/null ||
         echo "make $1 failed" >> "$work/made"
 }
 
@@ -67,13 +74,15 @@ quiet again make "$work/made"
     cmp "$kpview" "$at/share/kp/kpview"
     cmp "$kpcore" "$at/bin/kpcore"
     cmp "$kpcore" "$at/share/kp/kpcore"
+    cmp "$kprun" "$at/bin/kprun"
+    cmp "$kprun" "$at/share/kp/kprun"
     for it in $(git ls-files docs 2> /dev/null || find docs -type f); do cmp "$it" "$at/share/doc/kp/$it"; done
     for it in $(git ls-files examples tools 2> /dev/null || find examples tools -type f); do
         cmp "$it" "$at/share/kp/$it"
         [ -x "$it" ] && ! [ -x "$at/share/kp/$it" ] && echo "$it can't be executed"
     done
     for it in README.md CHANGELOG.md CONTRIBUTING.md VERSION; do cmp "$it" "$at/share/doc/kp/$it"; done
-    for it in kp kpview kpcore; do
+    for it in kp kpview kpcore kprun; do
         cmp completions/$it.bash "$at/share/bash-completion/completions/$it"
         cmp completions/_$it "$at/share/zsh/site-functions/_$it"
         cmp completions/$it.fish "$at/share/fish/vendor_completions.d/$it.fish"
@@ -83,7 +92,7 @@ quiet again make "$work/made"
     cmp VERSION "$at/share/kp/VERSION"
     grep -n '@[A-Z]*@' "$at"/share/man/man?/kp*.?
     grep -L "version $(cat VERSION)" "$at"/share/man/man?/kp*.? | sed 's/$/: has no version/'
-    for it in kp kpview kpcore; do
+    for it in kp kpview kpcore kprun; do
         grep -q /opt/some/share "$at/share/man/man1/$it.1" || echo "$it.1 doesn't name the prefix"
     done
     for it in yosys2kp kpasm kpvary kpcut; do
@@ -114,8 +123,8 @@ rejects() {
         says "$what" make "$(head -n 1 "$work/said")"
     fi
 }
-rejects unbuilt 'run make' install DESTDIR="$root" KP_BINARY="$work/none" KPVIEW_BINARY="$kpview" KPCORE_BINARY="$kpcore"
-rejects prefix absolute install DESTDIR="$root/" PREFIX=opt KP_BINARY="$kp" KPVIEW_BINARY="$kpview" KPCORE_BINARY="$kpcore"
+rejects unbuilt 'run make' install DESTDIR="$root" KP_BINARY="$work/none" KPVIEW_BINARY="$kpview" KPCORE_BINARY="$kpcore" KPRUN_BINARY="$kprun"
+rejects prefix absolute install DESTDIR="$root/" PREFIX=opt KP_BINARY="$kp" KPVIEW_BINARY="$kpview" KPCORE_BINARY="$kpcore" KPRUN_BINARY="$kprun"
 
 # The same bytes twice
 name=kp-$(cat VERSION)-linux-x86_64
@@ -134,7 +143,7 @@ quiet dist make "$work/said"
 quiet SHA256SUMS sha256sum "$work/said"
 tar -tzf "$work/tree1/out/dist/$archive" > "$work/names"
 {
-    for it in bin/kp libexec/kp/kp bin/kpview bin/kpcore; do grep -qx "$name/$it" "$work/names" || echo "has no $it"; done
+    for it in bin/kp libexec/kp/kp bin/kpview bin/kpcore bin/kprun; do grep -qx "$name/$it" "$work/names" || echo "has no $it"; done
     mkdir "$work/unpacked" && tar -xzf "$work/tree1/out/dist/$archive" -C "$work/unpacked"
     [ "$("$work/unpacked/$name/share/kp/kp" --version)" = "kp $(cat VERSION)" ] || echo "share/kp/kp --version prints another version"
     "$work/unpacked/$name/bin/kp" 2> /dev/null | cmp - "$work/one"
@@ -164,13 +173,13 @@ same rules kp.1 "$(sed -n 's/^\.It \([AV][0-9]*\)$/\1/p' man/kp.1)" \
 # What other tools say of the files
 if has mandoc; then mandoc -T lint man/*.1 man/*.5 "$work"/pages/*.1 "$work/pages/kp.5" > "$work/said" 2>&1; quiet pages mandoc "$work/said"; fi
 if has man && man --version 2> /dev/null | grep -q '^man '; then
-    for it in kp.1 kp.5 kpview.1 kpcore.1; do LC_ALL=C.UTF-8 man --warnings -l "$work/pages/$it" 2>&1 > /dev/null; done > "$work/said"
+    for it in kp.1 kp.5 kpview.1 kpcore.1 kprun.1; do LC_ALL=C.UTF-8 man --warnings -l "$work/pages/$it" 2>&1 > /dev/null; done > "$work/said"
     quiet pages man "$work/said"
 fi
-for it in kp kpview kpcore; do bash -n completions/$it.bash; done > "$work/said" 2>&1
+for it in kp kpview kpcore kprun; do bash -n completions/$it.bash; done > "$work/said" 2>&1
 quiet completion bash "$work/said"
-if has zsh; then for it in kp kpview kpcore; do zsh -n completions/_$it; done > "$work/said" 2>&1; quiet completion zsh "$work/said"; fi
-if has fish; then for it in kp kpview kpcore; do fish --no-execute completions/$it.fish; done > "$work/said" 2>&1; quiet completion fish "$work/said"; fi
+if has zsh; then for it in kp kpview kpcore kprun; do zsh -n completions/_$it; done > "$work/said" 2>&1; quiet completion zsh "$work/said"; fi
+if has fish; then for it in kp kpview kpcore kprun; do fish --no-execute completions/$it.fish; done > "$work/said" 2>&1; quiet completion fish "$work/said"; fi
 if has python3; then for it in editors/vscode/*.json; do python3 -m json.tool "$it" 2>&1 > /dev/null; done > "$work/said"; quiet vscode python3 "$work/said"; fi
-if has shellcheck; then shellcheck -S error kp kpview kpcore try .ci/deb > "$work/said" 2>&1; quiet scripts shellcheck "$work/said"; fi
+if has shellcheck; then shellcheck -S error kp kpview kpcore kprun try .ci/deb > "$work/said" 2>&1; quiet scripts shellcheck "$work/said"; fi
 summary

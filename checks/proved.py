@@ -13,7 +13,7 @@ import sys
 TOP = os.path.dirname(os.path.dirname(os.path.abspath(__file__)))
 PAGE = f"{TOP}/docs/PROVED.md"
 # The top calls of the programs.
-CALLS = {"kp_tool": "tool", "kp_view": "view", "kp_view_same": "same_sources", "kp_view_explain": "explain_source", "kp_core": "run_core"}
+CALLS = {"kp_tool": "tool", "kp_view": "view", "kp_view_same": "same_sources", "kp_view_explain": "explain_source", "kp_core": "run_core", "kp_runner": "run_job"}
 # The other crates whose laws users rely on: what is printed, shown and compared is said in their terms.
 DETAILED = """kp_pipeline kp_implements kp_isa kp_same kp_diagram kp_diagram_run kp_stalls kp_stalls_run kp_paths kp_depth kp_page kp_timing kp_debug
 kp_vcd kp_equiv kp_vlog kp_wires kp_core_ports kp_lint""".split()

@@ -1,0 +1,4 @@
+mod Outcomes
+mod Asking
+mod Lines
+mod Options

@@ -1,0 +1,4 @@
+-- For private contracts and proofs only: a reader need not trust it.
+pub mod Keeping
+pub mod Saying
+pub mod Reading
