@@ -31,7 +31,7 @@ abbrev pub in_range : ℕ → ℕ → List ℕ → Bool
 in_range low high run = is_at_most (magnitude run) (if is_negative run then low else high)
 
 -- minus a number, in two's complement
-abbrev pub negated : ℕ → ℕ → ℕ
+abbrev pub negated : (width number : ℕ) → ℕ
 negated width n = (2 ^ width - n % 2 ^ width) % 2 ^ width
 
 -- a number in this many bits: itself modulo 2 to the width

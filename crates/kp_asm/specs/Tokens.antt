@@ -68,7 +68,7 @@ more_of (fronts.Token kind more) = more
 more_of fronts.Broken = 0
 
 -- rule A of this number, violated at this offset
-abbrev pub broken : List ℕ → ℕ → ℕ → Refusal
+abbrev pub broken : List ℕ → (number offset : ℕ) → Refusal
 broken text number offset = a_rule number (place_after (take offset text))
 
 -- a token with this offset, kind and length

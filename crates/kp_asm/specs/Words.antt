@@ -4,23 +4,23 @@ use Rattle.kp_asm.specs.{Numbers.register, Numbers.number, declared.mnemonic.Mne
 use Rattle.kp_asm.specs.declared.mnemonic.Mnemonic.TheVariants as mnemonics
 
 -- opcode 0 in bits 31 to 26, RS1 in 25 to 21, RS2 in 20 to 16, RD in 15 to 11, the function in 5 to 0
-abbrev pub r_form : ℕ → ℕ → ℕ → ℕ → ℕ
+abbrev pub r_form : (function rd rs1 rs2 : ℕ) → ℕ
 r_form function rd rs1 rs2 = rs1 * 2 ^ 21 + rs2 * 2 ^ 16 + rd * 2 ^ 11 + function
 
 -- the opcode in bits 31 to 26, RS1 in 25 to 21, RD in 20 to 16, the immediate in 15 to 0
-abbrev pub i_form : ℕ → ℕ → ℕ → ℕ → ℕ
+abbrev pub i_form : (opcode rd rs1 immediate : ℕ) → ℕ
 i_form opcode rd rs1 immediate = opcode * 2 ^ 26 + rs1 * 2 ^ 21 + rd * 2 ^ 16 + immediate
 
 -- the opcode in bits 31 to 26, the immediate in 25 to 0
-abbrev pub j_form : ℕ → ℕ → ℕ
+abbrev pub j_form : (opcode immediate : ℕ) → ℕ
 j_form opcode immediate = opcode * 2 ^ 26 + immediate
 
 -- the address of a label minus that of the next instruction, in this many bits
-abbrev pub distance : ℕ → ℕ → ℕ → ℕ
+abbrev pub distance : (width label address : ℕ) → ℕ
 distance width label address = (label + 2 ^ width - (address + 4) % 2 ^ width) % 2 ^ width
 
 -- From the operands in order, the address of the label if one is used, and the address of the instruction.
-abbrev pub word_of : Mnemonic → List ℕ → List ℕ → List ℕ → ℕ → ℕ → ℕ
+abbrev pub word_of : Mnemonic → List ℕ → List ℕ → List ℕ → (label address : ℕ) → ℕ
 word_of mnemonics.Add rd ra rb label address = r_form 0x20 (register rd) (register ra) (register rb)
 word_of mnemonics.Sub rd ra rb label address = r_form 0x22 (register rd) (register ra) (register rb)
 word_of mnemonics.And rd ra rb label address = r_form 0x24 (register rd) (register ra) (register rb)

@@ -24,7 +24,7 @@ is_numeral base [] = false
 is_numeral base (c ∷ cs) = is_digit c base && list_all (λ d. is_digit d base || is_underscore d) cs
 
 -- the number denoted once one more byte follows n; `_` is skipped
-abbrev pub numeral_next : ℕ → ℕ → ℕ → ℕ
+abbrev pub numeral_next : (base before byte : ℕ) → ℕ
 numeral_next base n c = if is_underscore c then n else n * base + digit_value c
 
 -- the number that digits denote in the base

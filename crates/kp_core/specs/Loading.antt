@@ -7,6 +7,7 @@ use Rattle.kp_ast.specs.declared.tree.Job.{Job}
 use Rattle.kp_machine.specs.{Slots.targets_of, Slots.is_register, Words.target}
 use Rattle.kp_net.specs.Netlist.{Net, Input, State, state_after}
 use Rattle.kp_implements.specs.Naming.{file_of}
+use Rattle.kp_pipeline.specs.Machine.{State as MachineState}
 
 -- a word that is put into a file, which is the target of this number
 pub record Load : Type 0 where
@@ -45,11 +46,11 @@ abbrev pub after_cycles : Net → Job → State → List Cycle → State
 after_cycles net job st cs = fold (after_cycle net job) st cs
 
 -- THE VALUES OF THE TARGETS after the same: each word is the last one that was put in there
-abbrev pub with_load : (ℕ → ℕ → ℕ) → Load → ℕ → ℕ → ℕ
+abbrev pub with_load : MachineState → Load → MachineState
 with_load v l t a = if l.target == t && l.address == a then l.value else v t a
 
-abbrev pub with_loads : (ℕ → ℕ → ℕ) → List Load → ℕ → ℕ → ℕ
+abbrev pub with_loads : MachineState → List Load → MachineState
 with_loads v ls = fold with_load v ls
 
-abbrev pub all_loaded : (ℕ → ℕ → ℕ) → List Cycle → ℕ → ℕ → ℕ
+abbrev pub all_loaded : MachineState → List Cycle → MachineState
 all_loaded v cs = fold (λ w c. with_loads w c.loads) v cs

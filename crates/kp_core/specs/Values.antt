@@ -1,6 +1,7 @@
 -- WHAT A PORT SHOWS IN A CYCLE: the value that its line in the module gives it, over the state of the netlist and the inputs of the cycle.
 use Rattle.std.specs.Prelude.{◌≡◌, ℕ, ◌-◌, ◌<◌, ◌≤◌, true, List, get_or}
 use Rattle.kp_ast.specs.declared.tree.Job.{Job}
+use Rattle.kp_pipeline.specs.Machine.{State as MachineState}
 use Rattle.kp_pipeline.specs.{Pipeline.Inputs, Pipeline.pipeline_start, Rows.one_if, Rows.pipe, Rows.counts, Rows.state_after as pipeline_after}
 use Rattle.kp_pipeline.specs.{Sequential.instruction_before, RightPath.Moment, RightPath.HasRightGuesses}
 use Rattle.kp_machine.specs.Machine.{machine_of, start_hints}
@@ -27,22 +28,22 @@ abbrev pub state_in : Net → State → List Input → ℕ → State
 state_in net s ins T = get_or (states_from net s ins) T no_state
 
 -- The pipelined machine after as many cycles, where the run began with the values v: its state, and the numbers of the instructions in its stages.
-abbrev pub moment_in : Job → (ℕ → ℕ → ℕ) → List Inputs → ℕ → Moment
+abbrev pub moment_in : Job → MachineState → List Inputs → (cycles : ℕ) → Moment
 moment_in job v ins T = record {
   state = pipeline_after (machine_of job) (pipeline_start v (start_hints job)) ins T;
   count = counts (machine_of job).stages (pipe (machine_of job) v (start_hints job) ins).rows T;
 }
 
 -- Stage k is full then.
-abbrev pub IsFull : Job → (ℕ → ℕ → ℕ) → List Inputs → ℕ → ℕ → Type 0
+abbrev pub IsFull : Job → MachineState → List Inputs → (cycles stage : ℕ) → Type 0
 IsFull job v ins T k = ((moment_in job v ins T).state.stage k).full ≡ true
 
 -- No guess that is pending in stage k or in a later one is wrong.
-abbrev pub NoneWrong : Job → Net → State → (ℕ → ℕ → ℕ) → List Input → ℕ → ℕ → Type 0
+abbrev pub NoneWrong : Job → Net → State → MachineState → List Input → (cycles stage : ℕ) → Type 0
 NoneWrong job net s v ins T k =
     (j : ℕ) → k ≤ j → j < job.stages.value → HasRightGuesses (machine_of job) v (taken_in job net s ins) (moment_in job v (inputs_seen job ins) T) j
 
 -- The pipe x of the instruction of the sequential machine that is in stage k after T cycles, by the rows of the netlist.
-abbrev pub pipe_of_instruction : Job → Net → State → (ℕ → ℕ → ℕ) → List Input → ℕ → ℕ → ℕ → ℕ
+abbrev pub pipe_of_instruction : Job → Net → State → MachineState → List Input → (cycles pipe stage : ℕ) → ℕ
 pipe_of_instruction job net s v ins T x k =
     (instruction_before (machine_of job) v (taken_in job net s ins) (counts job.stages.value (trace_from job net s ins).rows T k) k).pipes x

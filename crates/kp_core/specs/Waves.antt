@@ -1,6 +1,7 @@
 -- NAMES FOR WAVEFORMS, AND COMMENTS: what a module with them is, and what each wire that they name has in a run.
 use Rattle.std.specs.Prelude.{◌≡◌, ℕ, List, All}
 use Rattle.kp_ast.specs.declared.tree.Job.{Job}
+use Rattle.kp_pipeline.specs.Machine.{State as MachineState}
 use Rattle.kp_pipeline.specs.{Trimming.trimmed}
 use Rattle.kp_net.specs.{Netlist.Net, Netlist.Input, Netlist.State, Netlist.cells_of, Nodes.at}
 use Rattle.kp_implements.specs.Traces.{input_seen, inputs_seen}
@@ -27,6 +28,6 @@ pub record IsPipeWithComments (job : Job) (text : List ℕ) : Type 0 where
   pub added : text ≡ with_added commented ports lines
 
 -- in the cycle after T others of a run, each wire has its signal in the state of the pipelined machine, in which a pipe is 0 past its last use
-abbrev pub AllHave : Job → Net → State → (ℕ → ℕ → ℕ) → List Input → Input → ℕ → List Wire → Type 0
+abbrev pub AllHave : Job → Net → State → MachineState → List Input → Input → (cycles : ℕ) → List Wire → Type 0
 AllHave job net s v ins i T wires = All (λ (w : Wire).
     Has job (trimmed (is_alive job) (moment_in job v (inputs_seen job ins) T).state) (input_seen job i) w.stage w.signal (at (cells_of i (state_in net s ins T)) net.nodes w.node.0)) wires

@@ -28,7 +28,7 @@ pub record Grows (old new : List Bool) : Type 0 where
   pub kept : (j : ℕ) → IsMarked old j → IsMarked new j
 
 -- one of the first k of these numbers
-abbrev pub Among : List ℕ → ℕ → ℕ → Type 0
+abbrev pub Among : List ℕ → (first number : ℕ) → Type 0
 Among ts k j = (q : ℕ) × (q < k) × (get_or ts q 0 ≡ j)
 
 -- the first h nodes are the first h registers, in their order
@@ -36,7 +36,7 @@ abbrev pub Leads : Net → ℕ → Type 0
 Leads net h = (j : ℕ) → j < h → (get_or net.nodes j no_node).kind ≡ Reg j
 
 -- one of the first h nodes, or of the first k of these numbers
-abbrev pub IsKnown : ℕ → List ℕ → ℕ → ℕ → Type 0
+abbrev pub IsKnown : ℕ → List ℕ → (first number : ℕ) → Type 0
 IsKnown h ts k j = (j < h) ⊎ Among ts k j
 
 -- all are nodes, and the operands of each come before it or are among the first h nodes

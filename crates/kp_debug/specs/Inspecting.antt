@@ -16,12 +16,12 @@ abbrev pub has_value : Trace → ℕ → Word → ℕ → Bool
 has_value trace t v cycle = trace.visible cycle t 0 == v.value
 
 -- the first cycle in which the condition is true, of this one and n more, or the last of them
-abbrev pub first_from : (ℕ → Bool) → ℕ → ℕ → ℕ
+abbrev pub first_from : (ℕ → Bool) → (from count : ℕ) → ℕ
 first_from holds cycle zero = cycle
 first_from holds cycle (suc n) = if holds cycle then cycle else first_from holds (cycle + 1) n
 
 -- n cycles on, at most to the end of the run
-abbrev pub ahead : Trace → ℕ → ℕ → ℕ
+abbrev pub ahead : Trace → (cycle count : ℕ) → ℕ
 ahead trace cycle n = min (cycle + n) (length trace.rows)
 
 abbrev pub reached : Trace → ℕ → Command → ℕ

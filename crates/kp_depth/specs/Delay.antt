@@ -72,10 +72,10 @@ abbrev pub less_delay : ℕ → Bool → ℕ
 less_delay w constant = logarithm w - (if constant then 100 else 0)
 
 -- a shift of w bits by an amount of v bits, of which `free` aren't constant
-abbrev pub shift_delay : ℕ → Bool → ℕ → ℕ → ℕ
+abbrev pub shift_delay : ℕ → Bool → (bits free : ℕ) → ℕ
 shift_delay w constant v free = if constant then 70 * min v (steps w) else 115 * min free (steps w)
 
-abbrev pub binary_delay : BinOp → ℕ → ℕ → Bool → Bool → ℕ → ℕ → ℕ
+abbrev pub binary_delay : BinOp → (operands width : ℕ) → Bool → Bool → (bits free : ℕ) → ℕ
 binary_delay BinOp.And n w left right v free = gate_delay n (left || right)
 binary_delay BinOp.Or n w left right v free = gate_delay n (left || right)
 binary_delay BinOp.Xor n w left right v free = gate_delay n (left || right)

@@ -38,10 +38,10 @@ held_in (Pending g k) = k
 held_in (Guess g k) = k
 held_in _ = 0
 
-abbrev pub held_bits : Job → Net → ℕ → ℕ → ℕ
+abbrev pub held_bits : Job → Net → (stage register : ℕ) → ℕ
 held_bits job net k r = if held_in (key_at job r) == k then (get_or net.parts.regs r no_reg).start.width else 0
 
-abbrev pub bits_below : Job → Net → ℕ → ℕ → ℕ
+abbrev pub bits_below : Job → Net → (stage registers : ℕ) → ℕ
 bits_below job net k zero = 0
 bits_below job net k (suc r) = bits_below job net k r + held_bits job net k r
 

@@ -116,7 +116,7 @@ longest_head = codes ", longest path "
 abbrev pub columns_text : ℕ → List ℕ
 columns_text longest = longest_head ++ (hundredths longest ++ table_head)
 
-abbrev pub head_text : List ℕ → ℕ → ℕ → List ℕ
+abbrev pub head_text : List ℕ → (stages longest : ℕ) → List ℕ
 head_text name stages longest = title_text name stages ++ columns_text longest
 
 -- THE TEXT.

@@ -31,12 +31,12 @@ HasCell T k [] = ⊥
 HasCell T k (c ∷ cells) = ((c.cycle ≡ T) × (c.stage ≡ k)) ⊎ HasCell T k cells
 
 -- Some line of instruction i has a cell in this cycle and stage.
-abbrev pub Shows : List Fetch → ℕ → ℕ → ℕ → Type 0
+abbrev pub Shows : List Fetch → (instruction cycle stage : ℕ) → Type 0
 Shows [] i T k = ⊥
 Shows (f ∷ fetches) i T k = ((f.number ≡ i) × HasCell T k f.cells) ⊎ Shows fetches i T k
 
 -- In cycle T stage k of n is full and has instruction i.
-abbrev pub Holds : ℕ → List Row → ℕ → ℕ → ℕ → Type 0
+abbrev pub Holds : ℕ → List Row → (instruction cycle stage : ℕ) → Type 0
 Holds n rows i T k = (k < n) × (is_full rows T k ≡ true) × (counts n rows T k ≡ i)
 
 -- The reason for a mark, in the machine's own terms: the parts of the stall are a stall from outside, one of the next stage,

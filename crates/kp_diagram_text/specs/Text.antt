@@ -20,27 +20,27 @@ longest names zero = 0
 longest names (suc n) = max (longest names n) (length (stage_name names n))
 
 -- THE WIDTH of a column: a name with its mark, or the number of a cycle, and a space before it.
-abbrev pub column : List (List ℕ) → ℕ → ℕ → ℕ
+abbrev pub column : List (List ℕ) → (stages cycles : ℕ) → ℕ
 column names n count = max (longest names n + 2) (length (decimal count) + 1)
 
 abbrev pub counted : ℕ → List ℕ → List ℕ → List ℕ
 counted count one more = if count == 1 then one else more
 
 -- `mini5: 5 stages, 26 cycles`
-unfoldable pub size_text : List ℕ → ℕ → ℕ → List ℕ
+unfoldable pub size_text : List ℕ → (stages cycles : ℕ) → List ℕ
 size_text name n count =
     name ++ codes ": " ++ decimal n ++ codes " stages, " ++ decimal count ++ counted count (codes " cycle") (codes " cycles")
 
 -- and the head of the column of numbers
-unfoldable pub title : List ℕ → ℕ → ℕ → List ℕ
+unfoldable pub title : List ℕ → (stages cycles : ℕ) → List ℕ
 title name n count = size_text name n count ++ codes "\n\ninstruction "
 
 -- the numbers of `count` cycles from cycle T on
-abbrev pub cycle_numbers : ℕ → ℕ → ℕ → List ℕ
+abbrev pub cycle_numbers : (width from count : ℕ) → List ℕ
 cycle_numbers width T zero = []
 cycle_numbers width T (suc count) = in_column width (decimal T) ++ cycle_numbers width (T + 1) count
 
-abbrev pub head : List ℕ → ℕ → ℕ → ℕ → List ℕ
+abbrev pub head : List ℕ → (stages cycles width : ℕ) → List ℕ
 head name n count width = title name n count ++ (cycle_numbers width 0 count ++ codes "\n")
 
 -- THE MARKS: `*` waits for a value, `-` waits for the stage ahead, `!` is held from outside, `x` is squashed.
@@ -58,7 +58,7 @@ abbrev pub cells_text : ℕ → List (List ℕ) → List Cell → List ℕ
 cells_text width names cells = flat_map (cell_text width names) cells
 
 -- the number of an instruction that enters in cycle T, up to the column of that cycle
-abbrev pub line_start : ℕ → ℕ → ℕ → List ℕ
+abbrev pub line_start : (width number cycle : ℕ) → List ℕ
 line_start width number T = in_column 11 (decimal number) ++ (codes " " ++ spaces (T * width))
 
 abbrev pub line_at : ℕ → List (List ℕ) → ℕ → ℕ → List Cell → List ℕ
@@ -80,7 +80,7 @@ unfoldable pub legend : List ℕ
 legend = codes "\n* waits for a value   - waits for the stage ahead   ! held from outside   x squashed\n\n"
 
 -- THE ACCOUNT. Cycles per instruction, in hundredths, rounded.
-abbrev pub hundredths : ℕ → ℕ → ℕ
+abbrev pub hundredths : (cycles retired : ℕ) → ℕ
 hundredths count retired = (200 * count + retired) / (2 * retired)
 
 -- `1.53`
@@ -122,7 +122,7 @@ diagram_text f =
     ++ (lines_text width f.names f.fetches ++ (legend ++ account_text f.cycles f.account))
 
 -- `mini5: 5 stages, cycles 5 to 18`, and the head of the column of numbers
-unfoldable pub window_title : List ℕ → ℕ → ℕ → ℕ → List ℕ
+unfoldable pub window_title : List ℕ → (stages from count : ℕ) → List ℕ
 window_title name n from count =
     name ++ (codes ": " ++ (decimal n ++ (codes " stages, cycles " ++ (decimal from ++ (codes " to " ++ (decimal (from + count - 1) ++ codes "\n\ninstruction "))))))
 

@@ -99,7 +99,7 @@ unless (Some fault) names = Err fault
 unless None names = names
 
 -- THE NAMES of the stages that the directives of a text up to an offset give, or none; or the first rule that they violate.
-unfoldable pub stage_names : List ℕ → ℕ → ℕ → Result (List (List ℕ)) DirectiveFault
+unfoldable pub stage_names : List ℕ → (end stages : ℕ) → Result (List (List ℕ)) DirectiveFault
 stage_names text end stages =
     unless (broken_in (directives_of text end)) (names_after text stages (directive_of verbs.Stages (directives_of text end)))
 

@@ -10,7 +10,7 @@ no_state = record { regs = []; files = [] }
 abbrev pub reg_value : State → ℕ → ℕ
 reg_value st r = get_or st.regs r 0
 
-abbrev pub file_word : State → ℕ → ℕ → ℕ
+abbrev pub file_word : State → (file address : ℕ) → ℕ
 file_word st f x = get_or (get_or st.files f []) x 0
 
 -- the state after the first T cycles

@@ -5,7 +5,7 @@ use Rattle.kp_bits.specs.Word.{Word, word}
 use Rattle.kp_image.specs.{declared.inputs.Given.Given, Cycles.is_in}
 
 -- the value after these entries, given the one before: the last entry for the cycle counts
-abbrev pub given_over : List Given → ℕ → ℕ → ℕ
+abbrev pub given_over : List Given → (cycle before : ℕ) → ℕ
 given_over [] cycle v = v
 given_over (g ∷ gs) cycle v = given_over gs cycle (if is_in g.cycles cycle then g.value else v)
 

@@ -2,6 +2,7 @@
 use Rattle.std.specs.Prelude.{◌≡◌, ℕ, ◌<◌, ◌^◌, true, List, [], length, get_or, if◌then◌else◌}
 use Rattle.kp_ast.specs.declared.tree.Job.{Job}
 use Rattle.kp_stage.specs.Start.{start_of}
+use Rattle.kp_pipeline.specs.Machine.{State as MachineState}
 use Rattle.kp_pipeline.specs.Rows.{Trace, pipe}
 use Rattle.kp_machine.specs.{Slots.is_register, Machine.machine_of, Machine.state_of, Machine.start_hints, Words.target}
 use Rattle.kp_net.specs.{Netlist.Net, Netlist.Input, Netlist.State, Netlist.state_after, Netlist.states_from, Netlist.rows_from, Netlist.last_of, Parts.no_file}
@@ -16,7 +17,7 @@ trace_from job net st ins = record {
 }
 
 -- THE STATE AFTER A RESET of the values of registers and files: each register has its start value again, and the words of a file are unchanged.
-abbrev pub left_by_reset : Job → (ℕ → ℕ → ℕ) → ℕ → ℕ → ℕ
+abbrev pub left_by_reset : Job → MachineState → MachineState
 left_by_reset job s t a = if is_register (target job t) then state_of job (start_of job) t a else s t a
 
 -- In a state each file has a word for each of its addresses, with its width. The registers are arbitrary.

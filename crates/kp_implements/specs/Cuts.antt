@@ -2,6 +2,7 @@
 use Rattle.std.specs.Prelude.{ℕ, zero, suc, ◌+◌, List, [], ◌∷◌, Bool, drop}
 use Rattle.kp_ast.specs.declared.tree.Job.{Job}
 use Rattle.kp_stage.specs.Start.{start_of}
+use Rattle.kp_pipeline.specs.Machine.{State}
 use Rattle.kp_pipeline.specs.Rows.{Trace, one_if}
 use Rattle.kp_machine.specs.Machine.{state_of}
 use Rattle.kp_net.specs.Netlist.{Input}
@@ -17,7 +18,7 @@ to_reset [] = 0
 to_reset (i ∷ ins) = counted_on i.reset (to_reset ins)
 
 -- The values with which the run that starts at cycle n starts: the job's start values for cycle 0, else the state after a reset in the cycle before.
-abbrev pub begins_with : Job → Trace → ℕ → ℕ → ℕ → ℕ
+abbrev pub begins_with : Job → Trace → (cycle : ℕ) → State
 begins_with job trace zero = state_of job (start_of job)
 begins_with job trace (suc n) = left_by_reset job (trace.visible n)
 

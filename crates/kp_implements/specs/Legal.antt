@@ -8,7 +8,7 @@ use Rattle.kp_pipeline.specs.Machine.{State}
 
 -- The required value of target t at address a after T cycles of such a run with these inputs and rows: its value in
 -- the sequential machine that starts with s, after as many instructions as have passed its write stage.
-unfoldable pub value_from : Job → State → List Inputs → List Row → ℕ → ℕ → ℕ → ℕ
+unfoldable pub value_from : Job → State → List Inputs → List Row → (cycles : ℕ) → State
 value_from job s ins rows T t a = seq (machine_of job) s (taken (machine_of job) ins rows) (passes job rows T t) t a
 
 -- LEGAL: after any number of cycles each register, and each word of a file, has that value.

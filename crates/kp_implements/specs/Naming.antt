@@ -4,6 +4,7 @@ use Rattle.std.specs.List.{filter}
 use Rattle.kp_ast.specs.declared.tree.Job.{Job}
 use Rattle.kp_machine.specs.{Slots.Slot, Slots.targets_of, Slots.samples_of, Slots.is_register, Words.target}
 use Rattle.kp_net.specs.{declared.netlist.Port.Port, Netlist.Net, Netlist.State, Names.same}
+use Rattle.kp_pipeline.specs.Machine.{State as MachineState}
 
 -- The module of a job J is m_J. A register R is r_R, a file F is f_F, and the port of a sample Q is s_Q.
 abbrev pub module_name : Job → List ℕ
@@ -56,5 +57,5 @@ abbrev pub value_of : Net → State → Slot → ℕ → ℕ
 value_of net st s a =
     if is_register s then get_or st.regs (register_of net s) 0 else get_or (get_or st.files (file_of net s) []) a 0
 
-unfoldable pub value_shown : Job → Net → State → ℕ → ℕ → ℕ
+unfoldable pub value_shown : Job → Net → State → MachineState
 value_shown job net st t a = value_of net st (target job t) a

@@ -11,7 +11,7 @@ use Rattle.kp_described.specs.Sections.{IsWith, HasSections}
 use Rattle.kp_pipeline.specs.Machine.{State}
 
 -- the values of registers and files at the start of a job, with what its image section puts there
-abbrev pub start_state : Job → ℕ → ℕ → ℕ
+abbrev pub start_state : Job → State
 start_state job = state_of job (start_of job)
 
 -- each value is one of its register's or file's width

@@ -2,7 +2,7 @@
 use Rattle.std.specs.Prelude.{ℕ, ◌+◌, ◌-◌, ◌/◌, ◌%◌, ◌^◌, Bool, true, false, not, nat_lt, if◌then◌else◌}
 
 -- the bits of a number from position hi down to position lo
-abbrev pub bits : ℕ → ℕ → ℕ → ℕ
+abbrev pub bits : (number high low : ℕ) → ℕ
 bits n hi lo = n / 2 ^ lo % 2 ^ (hi + 1 - lo)
 
 -- the fields of an instruction
@@ -27,7 +27,7 @@ abbrev pub low : ℕ → ℕ
 low n = n % 2 ^ 32
 
 -- a number of n bits in two's complement, in 32 bits
-abbrev pub extended : ℕ → ℕ → ℕ
+abbrev pub extended : (bits number : ℕ) → ℕ
 extended n x = if nat_lt x (2 ^ (n - 1)) then x else x + (2 ^ 32 - 2 ^ n)
 
 -- whether a is below b, both in two's complement

@@ -12,10 +12,10 @@ abbrev pub upper : ℕ → ℕ
 upper n = bits n 63 32
 
 -- The quotient is rounded down, and by 0 it is the greatest number. The remainder by 0 is the dividend.
-abbrev pub quotient : ℕ → ℕ → ℕ
+abbrev pub quotient : (dividend divisor : ℕ) → ℕ
 quotient a b = if b == 0 then 2 ^ 32 - 1 else a / b
 
-abbrev pub remainder : ℕ → ℕ → ℕ
+abbrev pub remainder : (dividend divisor : ℕ) → ℕ
 remainder a b = if b == 0 then a else a % b
 
 -- the absolute value of a number in two's complement, and the number with the other sign
@@ -31,10 +31,10 @@ signs_differ a b = if is_negative a then not (is_negative b) else is_negative b
 
 -- In two's complement the quotient is rounded towards 0, and by 0 it is -1. The remainder has the sign of the dividend, and by 0 it is the dividend.
 -- The least number by -1 overflows: the quotient is the least number, and the remainder is 0.
-abbrev pub signed_quotient : ℕ → ℕ → ℕ
+abbrev pub signed_quotient : (dividend divisor : ℕ) → ℕ
 signed_quotient a b = if b == 0 then 2 ^ 32 - 1 else if signs_differ a b then opposite (size a / size b) else size a / size b
 
-abbrev pub signed_remainder : ℕ → ℕ → ℕ
+abbrev pub signed_remainder : (dividend divisor : ℕ) → ℕ
 signed_remainder a b = if b == 0 then a else if is_negative a then opposite (size a % size b) else size a % size b
 
 -- THE TABLE. Instruction i leads from the state c to the state after it.

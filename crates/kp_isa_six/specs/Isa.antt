@@ -11,7 +11,7 @@ pub record Cpu : Type 0 where
   pub mem : ℕ → ℕ
 
 -- the bits of a number from position hi down to position lo
-abbrev pub bits : ℕ → ℕ → ℕ → ℕ
+abbrev pub bits : (number high low : ℕ) → ℕ
 bits n hi lo = n / 2 ^ lo % 2 ^ (hi + 1 - lo)
 
 -- the fields of an instruction: its code, and its constant or address

@@ -9,7 +9,7 @@ use Rattle.kp_plain.specs.Plain.{p, named, num, lit_of, Term, lit, var, inv, bin
 abbrev pub n : ℕ → ℕ → String → Named
 n line col name = named (p line col) (codes name)
 
-abbrev pub k : ℕ → ℕ → ℕ → Num
+abbrev pub k : (line col value : ℕ) → Num
 k line col value = num (p line col) value
 
 abbrev pub v : ℕ → ℕ → String → Term

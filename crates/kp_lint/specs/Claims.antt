@@ -22,7 +22,7 @@ IsBetweenStages job =
     × ((instruction_at job s q k (length (stmts_in (slice_get job.blocks k)))).results t ≡ (before_stage (machine_of job) s q (suc k)).results t)
 
 -- Statement j of stage k sets the result of target t in this instruction: it is unset before the statement and set after it.
-abbrev pub Sets : Job → State → (ℕ → ℕ) → ℕ → ℕ → ℕ → Type 0
+abbrev pub Sets : Job → State → (ℕ → ℕ) → (stage statement target : ℕ) → Type 0
 Sets job s q k j t =
     ((instruction_at job s q k j).results t ≡ None)
     × ((v : ℕ) × ((instruction_at job s q k (j + 1)).results t ≡ Some v))

@@ -101,7 +101,7 @@ abbrev pub set_after : Bool → ℕ → Option PlacedSet → Place → Answer
 set_after vain i None at = None
 set_after vain i (Some first) at = warn_if vain (lints.SetInVain i first.stage first.place.line) at
 
-abbrev pub of_set : ℕ → ℕ → ℕ → Place → List PlacedSet → Answer
+abbrev pub of_set : (stage statement first : ℕ) → Place → List PlacedSet → Answer
 of_set k j i at sets = set_after (is_among k j (in_vain sets)) i (first_sure sets) at
 
 -- W7: the address or the enable of a result whose target is read can be computed in an earlier stage

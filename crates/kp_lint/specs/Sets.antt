@@ -6,13 +6,13 @@ use Rattle.kp_ast.specs.declared.tree.StmtKind.TheVariants as stmts
 use Rattle.kp_lint.specs.declared.sets.PlacedSet.{PlacedSet}
 
 -- statement j of stage k, where it sets the result of this name
-abbrev pub set_here : List ℕ → ℕ → ℕ → Place → StmtKind → List PlacedSet
+abbrev pub set_here : List ℕ → (stage statement : ℕ) → Place → StmtKind → List PlacedSet
 set_here result k j at (stmts.Set n e when) =
     if is_same_name n.name result then record { stage = k; index = j; place = at; sure = is_none when } ∷ [] else []
 set_here result k j at _ = []
 
 -- the sets in these statements of stage k, from number j on
-abbrev pub sets_in : List ℕ → ℕ → ℕ → List Stmt → List PlacedSet
+abbrev pub sets_in : List ℕ → (stage first : ℕ) → List Stmt → List PlacedSet
 sets_in result k j [] = []
 sets_in result k j (s ∷ ss) = set_here result k j s.at s.kind ++ sets_in result k (j + 1) ss
 

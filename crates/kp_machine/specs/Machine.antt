@@ -9,7 +9,7 @@ use Rattle.kp_stage.specs.declared.start.Start.{Start}
 use Rattle.kp_pipeline.specs.{Machine.Machine, Machine.Tree, Pipeline.Inputs, Rows.Trace, Rows.pipe, Rows.taken, Sequential.seq}
 use Rattle.kp_machine.specs.Slots.{Slot, targets_of, pipes_of, hints_of, sample_stages, number_of, is_register, result_to}
 use Rattle.kp_machine.specs.Trees.{entered, tree_of}
-use Rattle.kp_pipeline.specs.Machine.{Samples}
+use Rattle.kp_pipeline.specs.Machine.{Samples, State}
 
 -- What stage k does, given the values of the samples and of the pipes.
 unfoldable pub stage_tree : Job → ℕ → (ℕ → ℕ) → (ℕ → ℕ) → Tree
@@ -109,7 +109,7 @@ target_words targets state t (Some s) =
     else file_words (slice_get state.files (files_before targets t))
 
 -- The value of target number t at an address in such a state, or 0 if there is no such word.
-unfoldable pub state_of : Job → Start → ℕ → ℕ → ℕ
+unfoldable pub state_of : Job → Start → State
 state_of job state t a =
     let targets = targets_of job.decls in
     slice_index (target_words targets state t (slice_get targets t)) a
@@ -137,7 +137,7 @@ inputs_from job cycle zero = []
 inputs_from job cycle (suc n) = inputs_at job cycle ∷ inputs_from job (suc cycle) n
 
 -- The state of the sequential machine of a job after i instructions, where instruction j has the sample values `given j`.
-abbrev pub sequential : Job → Samples → ℕ → ℕ → ℕ → ℕ
+abbrev pub sequential : Job → Samples → (instructions : ℕ) → State
 sequential job given i = seq (machine_of job) (state_of job (start_of job)) given i
 
 -- The run of the pipelined machine of a job with these inputs.
@@ -146,5 +146,5 @@ pipe_of job inputs = pipe (machine_of job) (state_of job (start_of job)) (start_
 
 -- The sample values that its instructions take in that run, `taken_of job inputs i x` for instruction i and sample x:
 -- the value that the sample has in the cycle in which the instruction leaves the sample's stage.
-abbrev pub taken_of : Job → List Inputs → ℕ → ℕ → ℕ
+abbrev pub taken_of : Job → List Inputs → Samples
 taken_of job inputs = taken (machine_of job) inputs (pipe_of job inputs).rows

@@ -4,7 +4,7 @@ use Rattle.kp_bits.specs.Word.{Word}
 use Rattle.kp_ast.specs.declared.tree.Job.{Job}
 use Rattle.kp_pipeline.specs.Sequential.{exec}
 use Rattle.kp_machine.specs.{Machine.machine_of, Machine.values_in, Slots.Slot, Slots.targets_of}
-use Rattle.kp_pipeline.specs.Machine.{State}
+use Rattle.kp_pipeline.specs.Machine.{State, Samples}
 
 -- the default for a target that doesn't exist
 abbrev pub no_slot : Slot
@@ -19,7 +19,7 @@ pub record HasWord (job : Job) (t a : ℕ) : Type 0 where
   pub address : a < 2 ^ (get_or (targets_of job.decls) t no_slot).address
 
 -- the words of all targets as a state: the value of each target at each address, and 0 if there is none
-abbrev pub state_in : List (List ℕ) → ℕ → ℕ → ℕ
+abbrev pub state_in : List (List ℕ) → State
 state_in words t a = slice_index (get_or words t []) a
 
 -- the state after one instruction with an input vector
@@ -32,5 +32,5 @@ after_rows job s [] = s
 after_rows job s (row ∷ rows) = after_rows job (after_one job s row) rows
 
 -- the values of the samples in a list of input vectors, and 0 past its end
-abbrev pub given_by : List (List Word) → ℕ → ℕ → ℕ
+abbrev pub given_by : List (List Word) → Samples
 given_by rows i = values_in (get_or rows i [])

@@ -11,7 +11,7 @@ pub record Cells : Type 0 where
   pub ext : ℕ
   pub sample : ℕ → ℕ
   pub reg : ℕ → ℕ
-  pub word : ℕ → ℕ → ℕ
+  pub word : (file address : ℕ) → ℕ
 
 -- the words of nodes, by their indices
 abbrev pub Words : Type 0

@@ -15,7 +15,7 @@ unfoldable pub wide : List Node → ℕ → ℕ
 wide ns i = (get_or ns i no_node).width
 
 -- the width k of an operation, given the widths a and b of its operands
-abbrev pub BinaryOk : BinOp → ℕ → ℕ → ℕ → Type 0
+abbrev pub BinaryOk : BinOp → (width left right : ℕ) → Type 0
 BinaryOk BinOp.And k a b = (a ≡ k) × (b ≡ k)
 BinaryOk BinOp.Or k a b = (a ≡ k) × (b ≡ k)
 BinaryOk BinOp.Xor k a b = (a ≡ k) × (b ≡ k)

@@ -74,7 +74,7 @@ pub record ReadsYet (ts : List Lexeme) (n c m : ℕ) (after : List Value) (c' i 
   pub limit : c' ≤ 64
   pub shrinks : length (drop j ts) + 1 ≤ length (drop i ts)
 
-abbrev pub Fails : List Lexeme → ℕ → ℕ → ℕ → Fault → Type 0
+abbrev pub Fails : List Lexeme → (nonterminal count index : ℕ) → Fault → Type 0
 Fails ts n c i = Faults ts (λ o. (s : List Sym) (cs : List ℕ) (vs : List Value) → Goes (Nonterminal n ∷ s) (at (c ∷ cs) vs) (drop i ts) o)
 
 -- The same for expressions in a bracket with commas between them, and the token of the class that closes it: a comma resets what has been counted in the bracket.
@@ -89,7 +89,7 @@ pub record ListsYet (ts : List Lexeme) (es : List Expr) (d i j : ℕ) : Type 0 w
       → ((f : ℕ) → Goes (Nonterminal PARTS ∷ s) (at (f ∷ c ∷ cs) (exprs es ∷ vs)) (drop j ts) o) → Goes (Nonterminal EXPRS ∷ s) (at (d ∷ c ∷ cs) vs) (drop i ts) o
   pub shrinks : length (drop j ts) + 1 ≤ length (drop i ts)
 
-abbrev pub FailsList : List Lexeme → ℕ → ℕ → ℕ → Fault → Type 0
+abbrev pub FailsList : List Lexeme → (bracket depth index : ℕ) → Fault → Type 0
 FailsList ts k d i = Faults ts (λ o. (s : List Sym) (c : ℕ) (cs : List ℕ) (vs : List Value) → d ≡ c + 1 → Goes (Nonterminal EXPRS ∷ Terminal k closes ∷ s) (at (d ∷ c ∷ cs) vs) (drop i ts) o)
 
 -- The complete text, from its first token on, leads to this outcome.

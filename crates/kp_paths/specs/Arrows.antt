@@ -23,7 +23,7 @@ abbrev pub arrow_of : ℕ → Cell → List Arrow
 arrow_of j c = if is_shown c then record { stage = j; cell = c } ∷ [] else []
 
 -- the arrows of a read in stage k, from `count` stages from j on
-abbrev pub arrows_from : Job → ReadStmt → ℕ → ℕ → ℕ → List Arrow
+abbrev pub arrows_from : Job → ReadStmt → (stage from count : ℕ) → List Arrow
 arrows_from job r k j zero = []
 arrows_from job r k j (suc count) = arrow_of j (cell_at job r k j) ++ arrows_from job r k (j + 1) count
 

@@ -10,7 +10,7 @@ unmet guessed = if guessed then Guess else Wait
 
 -- THE CELL of stage j for a read of target t in stage k. `some`: a set of the target's result is in a stage up to j. `sure`: so is one without a
 -- condition.
-abbrev pub cell_of : Machine → Bool → ℕ → ℕ → ℕ → (some sure : Bool) → Cell
+abbrev pub cell_of : Machine → Bool → (target stage other : ℕ) → (some sure : Bool) → Cell
 cell_of m guessed t k j some sure =
     if j == k then Reads
     else (if not (nat_lt k j && is_candidate m j t) then Empty

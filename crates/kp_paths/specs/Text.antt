@@ -50,7 +50,7 @@ cell_word Guess = codes "guess"
 cell_word Maybe = codes "maybe"
 cell_word Bypass = codes "bypass"
 
-abbrev pub cells_text : Job → ReadStmt → ℕ → ℕ → ℕ → List ℕ
+abbrev pub cells_text : Job → ReadStmt → (stage from count : ℕ) → List ℕ
 cells_text job r k j zero = []
 cells_text job r k j (suc count) = at_right 7 (cell_word (cell_at job r k j)) ++ cells_text job r k (j + 1) count
 
@@ -58,7 +58,7 @@ abbrev pub note : Job → ReadStmt → List ℕ
 note job r = if is_some (result_for job (target_read job r)) then [] else codes "   never written"
 
 -- THE ROW of a read in stage k: its label, its line, its stage, its cells
-unfoldable pub place_text : ℕ → ℕ → ℕ → List ℕ
+unfoldable pub place_text : (pad line stage : ℕ) → List ℕ
 place_text pad line k = spaces pad ++ (at_right 6 (decimal line) ++ (codes "  stage " ++ at_left 2 (decimal k)))
 
 abbrev pub row_text : Job → ℕ → ℕ → ReadStmt → List ℕ

@@ -9,7 +9,7 @@ use Rattle.kp_pipeline.specs.Machine.{State}
 abbrev pub nothing : ℕ → Option ℕ
 nothing x = None
 
-abbrev pub only : ℕ → ℕ → ℕ → Option ℕ
+abbrev pub only : (argument value other : ℕ) → Option ℕ
 only x v y = cond (eqb y x) (Some v) None
 
 -- One value for target 0, and another for all others.
@@ -46,16 +46,16 @@ abbrev pub digit : ℕ → Bool
 digit zero = false
 digit (suc n) = true
 
-abbrev pub row3 : ℕ → ℕ → ℕ → ℕ → ℕ → ℕ → ℕ → Row
+abbrev pub row3 : (a b c d e f back : ℕ) → Row
 row3 a b c d e f back =
     record { full = digit a ∷ digit b ∷ digit c ∷ []; ue = digit d ∷ digit e ∷ digit f ∷ []; back = back }
 
-abbrev pub row4 : ℕ → ℕ → ℕ → ℕ → ℕ → ℕ → ℕ → ℕ → ℕ → Row
+abbrev pub row4 : (a b c d e f g h back : ℕ) → Row
 row4 a b c d e f g h back =
     record { full = digit a ∷ digit b ∷ digit c ∷ digit d ∷ []; ue = digit e ∷ digit f ∷ digit g ∷ digit h ∷ []; back = back }
 
 -- The number of the instruction in each of the n stages from k on, after T rows.
-abbrev pub counted : ℕ → List Row → ℕ → ℕ → ℕ → List ℕ
+abbrev pub counted : ℕ → List Row → (cycles count from : ℕ) → List ℕ
 counted n rows T zero k = []
 counted n rows T (suc d) k = counts n rows T k ∷ counted n rows T d (suc k)
 
@@ -129,7 +129,7 @@ near = record {
   last_guessed = 0;
 }
 
-abbrev pub near_start : ℕ → ℕ → ℕ
+abbrev pub near_start : State
 near_start t a = cond (eqb a 1) 10 0
 
 abbrev pub near_rows : List Row
@@ -193,7 +193,7 @@ ghw4 = record {
   last_guessed = 3;
 }
 
-abbrev pub ghw4_start : ℕ → ℕ → ℕ
+abbrev pub ghw4_start : State
 ghw4_start t a = by_target 5 0 t
 
 abbrev pub ghw4_rows : List Row
@@ -262,10 +262,10 @@ early = record {
   last_guessed = 4;
 }
 
-abbrev pub zeros : ℕ → ℕ → ℕ
+abbrev pub zeros : State
 zeros t a = 0
 
-abbrev pub ones : ℕ → ℕ → ℕ
+abbrev pub ones : State
 ones t a = 1
 
 abbrev pub no_hints : ℕ → ℕ

@@ -6,11 +6,11 @@ use Rattle.kp_pipeline.specs.Pipeline.{PipelineState, Inputs, hits, candidate_hi
 
 -- Stage j is the nearest hit of a read of target t at address a in stage k: the lowest stage above k that is a
 -- candidate and hits.
-abbrev pub IsNearestHit : Machine → PipelineState → ℕ → ℕ → ℕ → ℕ → Type 0
+abbrev pub IsNearestHit : Machine → PipelineState → (reader target address writer : ℕ) → Type 0
 IsNearestHit m st k t a j =
     (k < j) × (j < m.stages) × (candidate_hits m st j t a ≡ true) × ((i : ℕ) → k < i → i < j → candidate_hits m st i t a ≡ false)
 
-abbrev pub HasNoHit : Machine → PipelineState → ℕ → ℕ → ℕ → Type 0
+abbrev pub HasNoHit : Machine → PipelineState → (reader target address : ℕ) → Type 0
 HasNoHit m st k t a = (j : ℕ) → k < j → j < m.stages → candidate_hits m st j t a ≡ false
 
 -- Stage r is the greatest stage that mismatches.
@@ -29,7 +29,7 @@ select [] none = none
 select (c ∷ cs) none = cond c.hit c.value (select cs none)
 
 -- The d stages after stage k.
-abbrev pub candidates : Machine → PipelineState → Inputs → ℕ → ℕ → ℕ → ℕ → List Candidate
+abbrev pub candidates : Machine → PipelineState → Inputs → (target address count stage : ℕ) → List Candidate
 candidates m st inputs t a zero k = []
 candidates m st inputs t a (suc d) k =
     record { hit = hits m st (suc k) t a; value = forwarded m st inputs (suc k) t } ∷ candidates m st inputs t a d (suc k)

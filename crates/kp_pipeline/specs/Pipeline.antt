@@ -37,11 +37,11 @@ abbrev pub intent_known : Machine → ℕ → ℕ → Bool
 intent_known m k t = leb (m.known_from t) k
 
 -- It hits at address a if it is full, and its intent isn't known yet, or is to write there.
-abbrev pub hits : Machine → PipelineState → ℕ → ℕ → ℕ → Bool
+abbrev pub hits : Machine → PipelineState → (stage target address : ℕ) → Bool
 hits m st k t a =
     (st.stage k).full && (not (intent_known m k t) || intends m (st.stage k).instruction t a)
 
-abbrev pub candidate_hits : Machine → PipelineState → ℕ → ℕ → ℕ → Bool
+abbrev pub candidate_hits : Machine → PipelineState → (stage target address : ℕ) → Bool
 candidate_hits m st k t a = is_candidate m k t && hits m st k t a
 
 -- The value that a hit forwards, if it is available. A stored valid result is always forwarded; a fresh one, set in
@@ -146,7 +146,7 @@ next_stage m st inputs (suc k) = record {
 }
 
 -- A target latches its result under the update enable of its write stage: the stored one, else the one set now, else 0.
-unfoldable pub next_visible : Machine → PipelineState → Inputs → ℕ → ℕ → ℕ
+unfoldable pub next_visible : Machine → PipelineState → Inputs → State
 next_visible m st inputs t a =
     cond (ue m st inputs (m.write_stage t) && is_written m (st.stage (m.write_stage t)).instruction t a)
     (unwrap_or ((after_stage (st.stage (m.write_stage t)).instruction (outcome m st inputs (m.write_stage t))).results t) 0)

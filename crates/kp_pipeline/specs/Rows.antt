@@ -1,6 +1,6 @@
 use Rattle.std.specs.Prelude.{ℕ, zero, suc, ◌+◌, ◌-◌, min, Bool, true, false, cond, ◌&&◌, eqb, leb, List, [], ◌∷◌}
 use Rattle.kp_pipeline.specs.{Machine.Machine, Pipeline.PipelineState, Pipeline.Inputs, Pipeline.back, Pipeline.ue, Pipeline.cycle, Pipeline.pipeline_start}
-use Rattle.kp_pipeline.specs.Machine.{State}
+use Rattle.kp_pipeline.specs.Machine.{State, Samples}
 
 -- THE OUTPUTS OF A RUN: a row for each cycle, and the counts that are computed from rows alone.
 
@@ -37,7 +37,7 @@ rows_from m st (i ∷ ins) = row m st i ∷ rows_from m (cycle m st i) ins
 -- A trace: its rows, and the visible values after the first T cycles, by T, target and address.
 pub record Trace : Type 0 where
   pub rows : List Row
-  pub visible : ℕ → ℕ → ℕ → ℕ
+  pub visible : (cycles : ℕ) → State
 
 -- The run of the pipeline over a list of inputs, from the start state and hints.
 abbrev pub pipe : Machine → State → (ℕ → ℕ) → List Inputs → Trace
@@ -51,7 +51,7 @@ one_if true = 1
 one_if false = 0
 
 -- How many of the first T rows update stage k.
-abbrev pub passed : List Row → ℕ → ℕ → ℕ
+abbrev pub passed : List Row → (stage cycles : ℕ) → ℕ
 passed rows k zero = 0
 passed [] k (suc T) = 0
 passed (r ∷ rows) k (suc T) = one_if (bit r.ue k) + passed rows k T
@@ -67,18 +67,18 @@ abbrev pub count_after : ℕ → Row → (ℕ → ℕ) → ℕ → ℕ
 count_after n r count k =
     cond (leb (min r.back n) k) (cond (bit r.ue k) (count_moved count k) (count k)) (count (min r.back n - 1))
 
-abbrev pub counts_from : ℕ → (ℕ → ℕ) → List Row → ℕ → ℕ → ℕ
+abbrev pub counts_from : ℕ → (ℕ → ℕ) → List Row → (cycles stage : ℕ) → ℕ
 counts_from n count rows zero = count
 counts_from n count [] (suc T) = count
 counts_from n count (r ∷ rows) (suc T) = counts_from n (count_after n r count) rows T
 
 -- The counts after the first T rows, by stage.
-abbrev pub counts : ℕ → List Row → ℕ → ℕ → ℕ
+abbrev pub counts : ℕ → List Row → (cycles stage : ℕ) → ℕ
 counts n rows T = counts_from n (λ k. 0) rows T
 
 -- THE SAMPLE VALUES THAT INSTRUCTIONS TAKE: instruction i takes a sample's value in the cycle in which it leaves the
 -- sample's stage, or 0 if there is no such cycle. `updates` counts the update enables of earlier cycles, by stage.
-abbrev pub taken_from : Machine → (ℕ → ℕ) → List Inputs → List Row → ℕ → ℕ → ℕ
+abbrev pub taken_from : Machine → (ℕ → ℕ) → List Inputs → List Row → Samples
 taken_from m updates [] rows i x = 0
 taken_from m updates (j ∷ ins) [] i x = 0
 taken_from m updates (j ∷ ins) (r ∷ rows) i x =
@@ -86,5 +86,5 @@ taken_from m updates (j ∷ ins) (r ∷ rows) i x =
     (taken_from m (λ k. one_if (bit r.ue k) + updates k) ins rows i x)
 
 -- The value of sample x that instruction i takes in a run with these inputs and rows.
-abbrev pub taken : Machine → List Inputs → List Row → ℕ → ℕ → ℕ
+abbrev pub taken : Machine → List Inputs → List Row → Samples
 taken m ins rows = taken_from m (λ k. 0) ins rows

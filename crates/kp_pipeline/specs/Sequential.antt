@@ -32,7 +32,7 @@ after_read (Some v) go = go v
 after_read None go = record (go 0) { hazard = true }
 
 -- A guessed read without a value continues with the guess, which becomes pending.
-abbrev pub after_guess : Option ℕ → ℕ → ℕ → (ℕ → StageOutcome) → StageOutcome
+abbrev pub after_guess : Option ℕ → (register guess : ℕ) → (ℕ → StageOutcome) → StageOutcome
 after_guess (Some v) t guess go = go v
 after_guess None t guess go = record (go guess) { guesses = record { register = t; value = guess } ∷ (go guess).guesses }
 
@@ -66,7 +66,7 @@ abbrev pub is_written : Machine → Instruction → ℕ → ℕ → Bool
 is_written m c t a = m.has_result t && intends m c t a
 
 -- The state after one instruction: what it writes has its result, or 0 if no set was enabled, and all else is unchanged.
-abbrev pub exec : Machine → State → (ℕ → ℕ) → ℕ → ℕ → ℕ
+abbrev pub exec : Machine → State → (ℕ → ℕ) → State
 exec m s q t a =
     cond (is_written m (before_stage m s q m.stages) t a) (unwrap_or ((before_stage m s q m.stages).results t) 0) (s t a)
 

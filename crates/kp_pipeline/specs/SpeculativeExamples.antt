@@ -4,7 +4,7 @@ use Rattle.kp_pipeline.specs.Examples.{digit, ends, idle, late3, nothing, only, 
 
 -- SMALL MACHINES with their runs worked out by hand, as in kp_pipeline.
 
-abbrev pub row5 : ℕ → ℕ → ℕ → ℕ → ℕ → ℕ → ℕ → ℕ → ℕ → ℕ → Row
+abbrev pub row5 : (a b c d e f g h i j : ℕ) → Row
 row5 a b c d e f g h i j = record {
   full = digit a ∷ digit b ∷ digit c ∷ digit d ∷ digit e ∷ [];
   ue = digit f ∷ digit g ∷ digit h ∷ digit i ∷ digit j ∷ [];

@@ -16,7 +16,7 @@ unfoldable pub setting_stage : Machine → State → (ℕ → ℕ) → ℕ → �
 setting_stage m s q t = first_stage (λ k. is_some ((before_stage m s q (suc k)).results t)) m.stages 0 (m.write_stage t)
 
 -- Stage k may write target t at address a: its intent isn't known there, or its instruction writes it.
-abbrev pub may_write : Machine → State → Samples → ℕ → Option ℕ → ℕ → ℕ → Bool
+abbrev pub may_write : Machine → State → Samples → ℕ → Option ℕ → (target address : ℕ) → Bool
 may_write m s given k None t a = false
 may_write m s given k (Some i) t a = not (intent_known m k t) || is_written m (instruction_before m s given i m.stages) t a
 
@@ -73,7 +73,7 @@ next_hold m s given hold inputs (suc k) =
     cond (moves_on m s given hold inputs k) (hold k) (cond (blocked m s given hold inputs (suc k)) (hold (suc k)) None)
 
 -- The value that the instruction in stage k aims at a hint, if it aims one, given the present hints.
-abbrev pub aim_given : Machine → State → Samples → Inputs → (ℕ → ℕ) → Option ℕ → ℕ → ℕ → Option ℕ
+abbrev pub aim_given : Machine → State → Samples → Inputs → (ℕ → ℕ) → Option ℕ → (stage hint : ℕ) → Option ℕ
 aim_given m s given inputs hints None k x = None
 aim_given m s given inputs hints (Some i) k x =
     (run (λ t a. Some (seq m s given i t a)) hints (m.body k inputs.samples (instruction_before m s given i k).pipes)).aims x
@@ -102,11 +102,11 @@ abbrev pub is_held : Option ℕ → ℕ → Bool
 is_held None i = false
 is_held (Some j) i = eqb j i
 
-abbrev pub taken_now : Machine → Samples → Holds → Inputs → ℕ → ℕ → ℕ
+abbrev pub taken_now : Machine → Samples → Holds → Inputs → Samples
 taken_now m took hold inputs i x = cond (is_held (hold (m.sample_stage x)) i) (inputs.samples x) (took i x)
 
 -- After the cycle the instructions that left the sample's stage have taken it.
-abbrev pub next_taken : Machine → State → Samples → Holds → Inputs → ℕ → ℕ → ℕ
+abbrev pub next_taken : Machine → State → Samples → Holds → Inputs → Samples
 next_taken m s took hold inputs i x =
     cond (moves_on m s (taken_now m took hold inputs) hold inputs (m.sample_stage x) && is_held (hold (m.sample_stage x)) i)
     (inputs.samples x) (took i x)

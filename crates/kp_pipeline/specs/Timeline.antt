@@ -1,5 +1,5 @@
 use Rattle.std.specs.Prelude.{ℕ, zero, suc, ◌-◌, ◌<◌, ◌≤◌, Bool, true, false, cond, not, ◌&&◌, ◌||◌, eqb, ltb, List, [], ◌∷◌, Option, Some, None, is_some}
-use Rattle.kp_pipeline.specs.Machine.{Tree, Done, Ask, Guess, Machine, Holds, State}
+use Rattle.kp_pipeline.specs.Machine.{Tree, Done, Ask, Guess, Machine, Holds, State, Samples}
 use Rattle.kp_pipeline.specs.Sequential.{before_stage, instruction_before, is_written, seq}
 use Rattle.kp_pipeline.specs.{Pipeline.Inputs, Pipeline.intent_known, Pipeline.is_candidate, Rows.Row, Rows.bits}
 
@@ -7,11 +7,11 @@ use Rattle.kp_pipeline.specs.{Pipeline.Inputs, Pipeline.intent_known, Pipeline.i
 -- instruction numbers and values of the sequential machine alone. It has no valid bits and no carried values. `hold
 -- k` is the number of the instruction in stage k, or None.
 
-abbrev pub no_samples : ℕ → ℕ → ℕ
+abbrev pub no_samples : Samples
 no_samples i x = 0
 
 -- The first of n stages from k on that passes, or d.
-abbrev pub first_stage : (ℕ → Bool) → ℕ → ℕ → ℕ → ℕ
+abbrev pub first_stage : (ℕ → Bool) → (count from otherwise : ℕ) → ℕ
 first_stage p zero k d = d
 first_stage p (suc n) k d = cond (p k) k (first_stage p n (suc k) d)
 
@@ -31,7 +31,7 @@ some_unmet ready s (Ask t a rest) = not (ready t a) || some_unmet ready s (rest 
 some_unmet ready s (Guess t guess rest) = some_unmet ready s (rest (s t 0))
 
 -- Stage k may write target t at address a: its intent isn't known there, or its instruction writes it.
-abbrev pub may_write : Machine → State → ℕ → Option ℕ → ℕ → ℕ → Bool
+abbrev pub may_write : Machine → State → ℕ → Option ℕ → (target address : ℕ) → Bool
 may_write m s k None t a = false
 may_write m s k (Some i) t a = not (intent_known m k t) || is_written m (instruction_before m s no_samples i m.stages) t a
 

@@ -6,10 +6,11 @@ use Rattle.kp_ast.specs.declared.tree.Decl.TheVariants as decls
 use Rattle.kp_machine.specs.Machine.{sequential, values_in}
 use Rattle.kp_stage.specs.Start.{input}
 use Rattle.kp_report.specs.Texts.{after_line, register_line, word_line}
+use Rattle.kp_pipeline.specs.Machine.{State as MachineState}
 
 -- the values of targets, which are numbered from 0 in the order of declaration, at their addresses
 abbrev pub State : Type 0
-State = ℕ → ℕ → ℕ
+State = MachineState
 
 -- for each target the number of instructions that its value reflects, if that is printed
 abbrev pub Behind : Type 0
@@ -19,7 +20,7 @@ abbrev pub no_counts : Behind
 no_counts t = None
 
 -- a word of a file has a line where it isn't 0
-abbrev pub line_of_word : List ℕ → ℕ → Option ℕ → ℕ → ℕ → List ℕ
+abbrev pub line_of_word : List ℕ → ℕ → Option ℕ → (address value : ℕ) → List ℕ
 line_of_word name width behind address v = if v == 0 then [] else word_line name address (word width v) behind
 
 -- the lines of the given number of words, from an address on

@@ -20,7 +20,7 @@ abbrev pub row_taken : List Taken → ℕ → List Word
 row_taken columns i = map (λ c. word_taken c i) columns
 
 -- the words of sample x in the cycles of these rows in which stage k updates, where the first row has number `cycle`
-abbrev pub words_taken : (ℕ → List Word) → ℕ → ℕ → ℕ → List Row → List Word
+abbrev pub words_taken : (ℕ → List Word) → (sample stage cycle : ℕ) → List Row → List Word
 words_taken given x k cycle [] = []
 words_taken given x k cycle (r ∷ rows) =
     if bit r.ue k then get_or (given cycle) x no_word ∷ words_taken given x k (suc cycle) rows else words_taken given x k (suc cycle) rows

@@ -14,10 +14,10 @@ use Rattle.kp_until.specs.declared.part.Index.TheVariants.{Whole, One, Between, 
 use Rattle.kp_until_run.specs.declared.missed.Missed.{Missed, TheVariants.Word, TheVariants.Retired, TheVariants.Cycles}
 
 -- `halt: retired 15 in 24 cycles, 1.60 cycles per instruction`
-unfoldable pub counts_text : List ℕ → ℕ → ℕ → List ℕ
+unfoldable pub counts_text : List ℕ → (retired cycles : ℕ) → List ℕ
 counts_text name retired cycles = joined (name ∷ codes ": retired " ∷ decimal retired ∷ codes " in " ∷ decimal cycles ∷ codes " cycles" ∷ [])
 
-abbrev pub end_line : List ℕ → ℕ → ℕ → List ℕ
+abbrev pub end_line : List ℕ → (retired cycles : ℕ) → List ℕ
 end_line name retired cycles = counts_text name retired cycles ++ (rate_text cycles retired ++ codes "\n")
 
 -- the line of a word of a file, if it is kept
@@ -81,7 +81,7 @@ missed_text job retired cycles (Cycles b) = count_differing (codes "cycles") cyc
 unfoldable pub met_text : ℕ → List ℕ
 met_text lines = if lines == 0 then [] else codes "expected " ++ (decimal lines ++ codes ": all met\n")
 
-abbrev pub verdict_text : Job → ℕ → ℕ → ℕ → Option Missed → List ℕ
+abbrev pub verdict_text : Job → (lines retired cycles : ℕ) → Option Missed → List ℕ
 verdict_text job lines retired cycles (Some missed) = missed_text job retired cycles missed
 verdict_text job lines retired cycles None = met_text lines
 

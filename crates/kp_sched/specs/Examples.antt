@@ -4,7 +4,7 @@ use Rattle.kp_base.specs.declared.row.Row.{Row}
 use Rattle.kp_pipeline.specs.Rows.{counts}
 use Rattle.kp_sched.specs.Rows.{rows_seen}
 
-abbrev pub masks : ℕ → ℕ → ℕ → Row
+abbrev pub masks : (full ue back : ℕ) → Row
 masks full ue back = record { full = full; ue = ue; back = back }
 
 -- The numbers of the instructions in the three stages after n of these rows.

@@ -6,7 +6,7 @@ use Rattle.kp_seq_plan.specs.declared.code.Code.{Code, TheOpen.Code-F, TheFolds.
 use Rattle.kp_seq_plan.specs.declared.code.Code.TheOpen as level
 
 -- a binary operator on numbers of 64 bits, of which those of this width matter
-abbrev pub applied : BinOp → ℕ → ℕ → ℕ → ℕ → ℕ
+abbrev pub applied : BinOp → (left right width mask : ℕ) → ℕ
 applied BinOp.And a b width mask = bit_and a b
 applied BinOp.Or a b width mask = bit_or a b
 applied BinOp.Xor a b width mask = bit_xor a b
@@ -19,7 +19,7 @@ applied BinOp.Shl a b width mask = if nat_lt b width then bit_and (a * 2 ^ bit_a
 applied BinOp.Shr a b width mask = if nat_lt b width then a / 2 ^ bit_and b 63 else 0
 
 -- whether a number is in a set of numbers below 64: the bit of the set at this number
-abbrev pub member : ℕ → ℕ → ℕ
+abbrev pub member : (set number : ℕ) → ℕ
 member set n = if nat_lt n 64 then bit_at set n else 0
 
 -- one level: the value of a code, given those of its parts, for these values by index

@@ -38,11 +38,11 @@ abbrev pub where_same : {X : Type 0} → List ℕ → List ℕ → X → Option 
 where_same a b x = if is_same_name a b then Some x else None
 
 -- a put and an aim
-abbrev pub put_at : List ℕ → ℕ → ℕ → StmtKind → Option At
+abbrev pub put_at : List ℕ → (stage statement : ℕ) → StmtKind → Option At
 put_at name k j (stmts.Put n e) = where_same name n.name (record { stage = k; index = j })
 put_at name k j _ = None
 
-abbrev pub puts_in : List ℕ → ℕ → ℕ → List Stmt → List (Option At)
+abbrev pub puts_in : List ℕ → (stage first : ℕ) → List Stmt → List (Option At)
 puts_in name k j [] = []
 puts_in name k j (s ∷ ss) = put_at name k j s.kind ∷ puts_in name k (j + 1) ss
 
@@ -50,11 +50,11 @@ abbrev pub puts_of : List ℕ → ℕ → List Block → List (Option At)
 puts_of name k [] = []
 puts_of name k (b ∷ bs) = first (puts_in name k 0 b.stmts) ∷ puts_of name (k + 1) bs
 
-abbrev pub aim_at : List ℕ → ℕ → ℕ → StmtKind → Option At
+abbrev pub aim_at : List ℕ → (stage statement : ℕ) → StmtKind → Option At
 aim_at name k j (stmts.Aim n e) = where_same name n.name (record { stage = k; index = j })
 aim_at name k j _ = None
 
-abbrev pub aims_in : List ℕ → ℕ → ℕ → List Stmt → List (Option At)
+abbrev pub aims_in : List ℕ → (stage first : ℕ) → List Stmt → List (Option At)
 aims_in name k j [] = []
 aims_in name k j (s ∷ ss) = aim_at name k j s.kind ∷ aims_in name k (j + 1) ss
 

@@ -29,7 +29,7 @@ given_by e name a =
     else None
 
 -- the value of a word, from its value before these entries: the last entry that writes it counts
-abbrev pub laid_over : List Image → List ℕ → ℕ → ℕ → ℕ
+abbrev pub laid_over : List Image → List ℕ → (address before : ℕ) → ℕ
 laid_over [] name a v = v
 laid_over (e ∷ es) name a v = laid_over es name a (unwrap_or (given_by e name a) v)
 
@@ -39,7 +39,7 @@ start_regs es (decls.Reg n width start ∷ ds) = word width.value (laid_over es 
 start_regs es (_ ∷ ds) = start_regs es ds
 
 -- the n words of a file from an address on
-abbrev pub words_from : List Image → List ℕ → ℕ → ℕ → List ℕ
+abbrev pub words_from : List Image → List ℕ → (address count : ℕ) → List ℕ
 words_from es name a zero = []
 words_from es name a (suc n) = laid_over es name a 0 ∷ words_from es name (a + 1) n
 
@@ -105,7 +105,7 @@ abbrev pub gives_at : Inputs → ℕ → Bool
 gives_at e cycle = is_among e.from.value e.to.value (number_or e.step 1) cycle
 
 -- the value of a sample in a cycle, from its value before these entries: the last entry that sets it counts
-abbrev pub input_over : List Inputs → List ℕ → ℕ → ℕ → ℕ
+abbrev pub input_over : List Inputs → List ℕ → (cycle before : ℕ) → ℕ
 input_over [] name cycle v = v
 input_over (e ∷ es) name cycle v =
     input_over es name cycle (if is_same_name e.name.name name && gives_at e cycle then e.value.literal.value else v)

@@ -19,7 +19,7 @@ abbrev pub is_ready : Writer → Seen → ℕ → Bool
 is_ready w x j = reports.is_ready w x.report.recorded j x.stage.moves
 
 -- the nearest of d stages from j on that may write
-abbrev pub nearest : List Seen → Writer → ℕ → ℕ → ℕ → Option ℕ
+abbrev pub nearest : List Seen → Writer → (address count from : ℕ) → Option ℕ
 nearest occupants w a zero j = None
 nearest occupants w a (suc d) j = if is_source occupants w a j then Some j else nearest occupants w a d (suc j)
 
@@ -37,7 +37,7 @@ wait_at occupants w i a (Some j) =
     else Some (record { read = i; address = a; writer = (at occupants j).stage.number; stage = j; had = had_by w (at occupants j) j })
 
 -- read number i of stage k, of a target at address a: a target that isn't written never makes wait
-abbrev pub wait_by : Sited → List Seen → ℕ → ℕ → ℕ → Option Writer → Option Wait
+abbrev pub wait_by : Sited → List Seen → (stage instruction address : ℕ) → Option Writer → Option Wait
 wait_by s occupants k i a None = None
 wait_by s occupants k i a (Some w) = wait_at occupants w i a (nearest_above s occupants w a k)
 

@@ -22,7 +22,7 @@ abbrev pub read_site : Job → ℕ → Site
 read_site job i = get_or (sited job).reads i no_site
 
 -- Stage j may write target t at address a, by the timeline: it isn't past the write stage, and its intent isn't known there, or its instruction writes there.
-abbrev pub is_writer : Job → Samples → Moment → ℕ → ℕ → ℕ → Bool
+abbrev pub is_writer : Job → Samples → Moment → (target address stage : ℕ) → Bool
 is_writer job given now t a j =
     is_candidate (machine_of job) j t && timeline.may_write (machine_of job) (state_of job (start_of job)) given j (held now j) t a
 
@@ -58,5 +58,5 @@ run_rows job hints ins = (pipe (machine_of job) (state_of job (start_of job)) hi
 abbrev pub run_moment : Job → (ℕ → ℕ) → List Inputs → ℕ → Moment
 run_moment job hints ins T = moment_at (machine_of job) (first_moment (state_of job (start_of job)) hints) ins T
 
-abbrev pub run_given : Job → (ℕ → ℕ) → List Inputs → ℕ → ℕ → ℕ
+abbrev pub run_given : Job → (ℕ → ℕ) → List Inputs → Samples
 run_given job hints ins = taken (machine_of job) ins (run_rows job hints ins)

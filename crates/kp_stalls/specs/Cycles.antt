@@ -36,7 +36,7 @@ stages_from f (suc d) k = f k ∷ stages_from f d (suc k)
 
 -- The lines from cycle T on: `ext T k` says whether stage k is stalled from outside, `settled T k i` whether the samples of stage k have the values that
 -- instruction i takes, `reports i` is what the sequential machine reports of instruction i, and `count` has the numbers in the stages.
-abbrev pub lines_from : Sited → (ℕ → ℕ → Bool) → (ℕ → ℕ → ℕ → Bool) → (ℕ → Report) → ℕ → (ℕ → ℕ) → List Row → List Line
+abbrev pub lines_from : Sited → (ℕ → ℕ → Bool) → ((cycle stage instruction : ℕ) → Bool) → (ℕ → Report) → ℕ → (ℕ → ℕ) → List Row → List Line
 lines_from s ext settled reports T count [] = []
 lines_from s ext settled reports T count (r ∷ rows) =
     lines_down s T (occupants_of reports (stages_from (stage_of s.stages (ext T) (settled T) count r rows) s.stages 0)) s.stages

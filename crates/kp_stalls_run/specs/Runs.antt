@@ -28,7 +28,7 @@ abbrev pub settled : Job → Samples → (T k i : ℕ) → Bool
 settled job given T k i = settles_to job given T k i (length (sample_stages job.decls))
 
 -- The sample values that the instructions take in a run of n cycles under the job's own stall words and samples.
-abbrev pub given_in : ℕ → Job → ℕ → ℕ → ℕ
+abbrev pub given_in : (cycles : ℕ) → Job → Samples
 given_in n job = taken_of job (inputs_from job 0 n)
 
 -- The lines of that run, without the values that were guessed.

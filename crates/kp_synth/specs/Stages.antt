@@ -17,7 +17,7 @@ own_room job k = costs_of job (stmts_at job k) + (length (pipes_of job.decls) + 
 abbrev pub stage_room : Job → ℕ → ℕ
 stage_room job k = own_room job k + (20 * length (targets_of job.decls) + 1)
 
-abbrev pub stages_room : Job → ℕ → ℕ → ℕ
+abbrev pub stages_room : Job → (from count : ℕ) → ℕ
 stages_room job k zero = 0
 stages_room job k (suc d) = stage_room job k + stages_room job (suc k) d
 

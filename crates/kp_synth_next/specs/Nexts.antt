@@ -47,7 +47,7 @@ NextIs job p outs n c st i (Guess g k) = (j : ℕ) → k ≡ suc j
 NextIs job p outs n c st i (Hint h) = at c p.nodes n.0 ≡ (cycle (machine_of job) st i).hints h
 
 -- The word of a file after a cycle, by its write port.
-abbrev pub port_word : Cells → Held → Option WritePort → ℕ → ℕ → ℕ
+abbrev pub port_word : Cells → Held → Option WritePort → (address before : ℕ) → ℕ
 port_word c p None a v = v
 port_word c p (Some port) a v = cond (on c p.nodes port.enable.0 && (at c p.nodes port.address.0 == a)) (at c p.nodes port.value.0) v
 

@@ -3,6 +3,7 @@ use Rattle.std.specs.Prelude.{◌≡◌, ℕ, zero, suc, ◌-◌, ◌<◌, ◌�
 use Rattle.std.specs.List.{filter}
 use Rattle.kp_base.specs.declared.row.Row.{Row as NetRow}
 use Rattle.kp_ast.specs.declared.tree.Job.{Job}
+use Rattle.kp_pipeline.specs.Machine.{State as MachineState}
 use Rattle.kp_pipeline.specs.{Pipeline.pipeline_start, Rows.Row, Rows.Trace, Rows.bits, Rows.pipe, Rows.state_after as pipeline_after, Trimming.trimmed}
 use Rattle.kp_stage.specs.Start.{start_of}
 use Rattle.kp_machine.specs.Slots.{Slot, targets_of, is_register, samples_of}
@@ -47,7 +48,7 @@ pub record NamedBy (net : Net) (job : Job) : Type 0 where
   pub samples : map port_slot net.parts.samples ≡ map (named_with (codes "s_")) (samples_of job.decls)
 
 -- The word of a target at an address in a state of the netlist.
-abbrev pub shown_word : Job → State → ℕ → ℕ → ℕ
+abbrev pub shown_word : Job → State → MachineState
 shown_word job s t a =
     if is_register (target_at job t) then get_or s.regs (registers_before (targets_of job.decls) t) 0
     else get_or (get_or s.files (files_before (targets_of job.decls) t) []) a 0
@@ -67,7 +68,7 @@ pub record ShowsOver (net : Net) (job : Job) (ins : List Input) : Type 0 where
       → shown_word job (get_or (run net ins).states T no_state) t a ≡ (pipe_of job (map (inputs_of job) ins)).visible T t a
 
 -- THE STATE AFTER A RESET of the targets: a register has its start value again, and the words of a file are unchanged.
-abbrev pub left_by_reset : Job → (ℕ → ℕ → ℕ) → ℕ → ℕ → ℕ
+abbrev pub left_by_reset : Job → MachineState → MachineState
 left_by_reset job s t a = if is_register (target_at job t) then state_of job (start_of job) t a else s t a
 
 -- The pipeline that starts with the state after a reset in a state of the netlist.
@@ -90,7 +91,7 @@ pub record ShowsAnew (net : Net) (job : Job) (s : State) (i : Input) (ins : List
 
 -- ITS REGISTERS HOLD THE PIPELINE over these inputs, from a state of the netlist on: in the state after any number of cycles, whatever comes in then,
 -- they hold the state of the pipeline, which starts with these values of the targets, after as many cycles. A pipe is 0 past its last use.
-pub record HoldsFrom (net : Net) (job : Job) (s : State) (v : ℕ → ℕ → ℕ) (ins : List Input) : Type 0 where
+pub record HoldsFrom (net : Net) (job : Job) (s : State) (v : MachineState) (ins : List Input) : Type 0 where
   pub keys : length net.parts.regs ≡ length (keys_of job)
   pub holds : (T : ℕ) (i : Input) → T ≤ length ins
       → Holds job (cells_of i (get_or (states_from net s ins) T no_state))

@@ -2,6 +2,7 @@
 use Rattle.std.specs.Prelude.{◌≡◌, ℕ, suc, ◌<◌, ◌^◌, ◌%◌, ◌/◌, List, [], ◌∷◌, length, get_or, Option, Some, None, Bool, true, false, ◌&&◌, ◌||◌, ◌==◌, if◌then◌else◌}
 use Rattle.std.specs.List.{list_any}
 use Rattle.kp_ast.specs.declared.tree.Job.{Job}
+use Rattle.kp_pipeline.specs.Machine.{State}
 use Rattle.kp_pipeline.specs.{Sequential.PendingGuess, Pipeline.PipelineState, Pipeline.Inputs, Pipeline.stage_zero}
 use Rattle.kp_machine.specs.{Slots.targets_of, Slots.pipes_of, Slots.hints_of, Slots.samples_of, Slots.is_register, Machine.files_before}
 use Rattle.kp_net.specs.{Nodes.Cells, Netlist.Input}
@@ -20,7 +21,7 @@ optional true v = Some v
 optional false v = None
 
 -- A target's own word at an address. A register is a target with one word, and a file has its number among the files.
-unfoldable pub own_word : Job → Cells → ℕ → ℕ → ℕ
+unfoldable pub own_word : Job → Cells → State
 own_word job c t a =
     if is_register (target_at job t) then kept_in job c (Visible t)
     else c.word (files_before (targets_of job.decls) t) a % 2 ^ (target_at job t).width

@@ -14,7 +14,7 @@ AskInside p None = Unit {0}
 AskInside p (Some a) = a.0 < length p.nodes
 
 -- THE VALUE OF A READ, whether or not its condition holds: its truth, or the replacement if the truth is missing
-abbrev pub given : Bool → Option ℕ → ℕ → ℕ
+abbrev pub given : Bool → (truth : Option ℕ) → (miss : ℕ) → ℕ
 given when truth miss = if when then unwrap_or truth miss else 0
 
 -- whether the truth of a read whose condition holds is missing

@@ -26,7 +26,7 @@ set_after name k (b ∷ bs) = if has_set name b.stmts then k + 1 else set_after 
 abbrev pub uses_name : List ℕ → List Stmt → Bool
 uses_name name ss = list_any (λ (s : Stmt). list_any (uses name) (exprs_in s.kind)) ss
 
-abbrev pub last_use_in : List ℕ → ℕ → ℕ → List Block → ℕ
+abbrev pub last_use_in : List ℕ → (last stage : ℕ) → List Block → ℕ
 last_use_in name last k [] = last
 last_use_in name last k (b ∷ bs) = last_use_in name (if uses_name name b.stmts then k else last) (k + 1) bs
 

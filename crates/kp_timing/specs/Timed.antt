@@ -3,6 +3,7 @@ use Rattle.std.specs.Prelude.{◌≡◌, ℕ, ◌+◌, ◌<◌, ◌≤◌, List,
 use Rattle.kp_base.specs.declared.row.Row.{Row}
 use Rattle.kp_ast.specs.declared.tree.Job.{Job}
 use Rattle.kp_stage.specs.{declared.start.Start.Start, Counts.summary_of}
+use Rattle.kp_pipeline.specs.Machine.{State}
 use Rattle.kp_pipeline.specs.{Pipeline.Inputs, Rows.bits, Timeline.waits, Timeline.moves_on, Timeline.next_hold, Timeline.start_hold}
 use Rattle.kp_machine.specs.Machine.{machine_of, state_of}
 use Rattle.kp_sched.specs.Rows.{bit_of, row_seen}
@@ -20,7 +21,7 @@ abbrev pub hold_of : Timed → ℕ → Option ℕ
 hold_of t k = get_or t.hold k None
 
 -- the state of the sequential machine before instruction 0
-abbrev pub begins : Timed → ℕ → ℕ → ℕ
+abbrev pub begins : Timed → State
 begins t = state_of t.job t.start
 
 -- a job without guesses and without samples

@@ -15,9 +15,10 @@ use Rattle.kp_watch.specs.Watching.{IsFirstDifference}
 use Rattle.kp_vcd.specs.{Dumps.own_run, Dumps.vcd_dump, Reading.verdict}
 use Rattle.kp_report.specs.{Texts.accepted_line, States.text_after, Runs.run_text, Runs.counts_behind}
 use Rattle.kp_tool.specs.{Due.DueFor, Read.ReadsVerilog, Refused.Breaks, Refused.own_rule, Watched.differing_text}
+use Rattle.kp_pipeline.specs.Machine.{State}
 
 -- the state that `seq N` prints: that of the sequential machine after N instructions, of which instruction i has the samples of cycle i
-abbrev pub sequential_state : Job → ℕ → ℕ → ℕ → ℕ
+abbrev pub sequential_state : Job → (instructions : ℕ) → State
 sequential_state job count = sequential job (λ i. values_in (samples_at job i)) count
 
 -- `sim N` AND `seq P`. After its rows, the text of `sim n` has values, each with `after P`. If the register or file has a result, P is the entry of the

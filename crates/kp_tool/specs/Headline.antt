@@ -6,6 +6,7 @@ use Rattle.std.specs.Prelude.{◌≡◌, ◌↔◌, ◌≤◌, ℕ, true, List, 
 use Rattle.kp_bits.specs.Word.{Word}
 use Rattle.kp_ast.specs.declared.tree.Job.{Job}
 use Rattle.kp_stage.specs.{Counts.summary_of, Start.start_of}
+use Rattle.kp_pipeline.specs.Machine.{State as MachineState}
 use Rattle.kp_pipeline.specs.{Claims.Moves, Claims.HighestStays, Pipeline.Inputs, Pipeline.pipeline_start, Rows.Trace, Rows.rows_from, Rows.taken}
 use Rattle.kp_pipeline.specs.Timeline.{no_samples, start_hold, timeline_rows}
 use Rattle.kp_pipeline.specs.SpeculativeTimeline.{timeline_rows as path_rows, timeline_rows_taking}
@@ -41,7 +42,7 @@ IsMoving job ins trace =
 -- are those of the timeline (`right`); so they always are if the job has no guesses, and then each sample value is recorded in the cycle in which it
 -- is read (`plain`). If it has no samples either, they are those of the timeline that is computed from instruction numbers and values of the sequential
 -- machine alone (`timeline`). Whatever is guessed, they are the rows of the pipelined machine: `full`, `ue` and `back` of each cycle (`rows`). `From`: from a state s of registers and files, with the start values of the hints; otherwise from the job's start.
-pub record HasNoNeedlessStallFrom (job : Job) (s : ℕ → ℕ → ℕ) (ins : List Inputs) (trace : Trace) : Type 0 where
+pub record HasNoNeedlessStallFrom (job : Job) (s : MachineState) (ins : List Inputs) (trace : Trace) : Type 0 where
   pub waits : WaitsOnlyWhereItMust (machine_of job) s (taken (machine_of job) ins trace.rows) (first_moment s (start_hints job)) ins trace.rows
   pub right : NoWrongGuess (machine_of job) s (taken (machine_of job) ins trace.rows) (start_hints job) start_hold ins
       → trace.rows ≡ path_rows (machine_of job) s (taken (machine_of job) ins trace.rows) start_hold ins
@@ -53,7 +54,7 @@ abbrev pub HasNoNeedlessStall : Job → List Inputs → Trace → Type 0
 HasNoNeedlessStall job ins trace = HasNoNeedlessStallFrom job (state_of job (start_of job)) ins trace
 
 -- A CORRECT RUN is legal, moves, and has no needless stall. `From`: from a state s of registers and files; otherwise from the job's start.
-pub record IsCorrectFrom (job : Job) (s : ℕ → ℕ → ℕ) (ins : List Inputs) (trace : Trace) : Type 0 where
+pub record IsCorrectFrom (job : Job) (s : MachineState) (ins : List Inputs) (trace : Trace) : Type 0 where
   pub legal : IsLegalFrom job s ins trace
   pub moves : IsMoving job ins trace
   pub no_needless_stall : HasNoNeedlessStallFrom job s ins trace
@@ -66,14 +67,14 @@ pub record IsCorrect (job : Job) (ins : List Inputs) (trace : Trace) : Type 0 wh
 -- The fact holds of each run of the netlist from its start on, whatever comes in, until the reset is raised. And in WHATEVER state the reset is raised, at
 -- power-up or in a run, the machine begins anew, over the memory at that time, and the fact holds from there on, until the reset is raised again.
 -- The only claim on that state is that its files have words of their widths, as each state of a run has.
-pub record RunsWith (Fact : Job → (ℕ → ℕ → ℕ) → List Inputs → Trace → Type 0) (net : Net) (job : Job) : Type 0 where
+pub record RunsWith (Fact : Job → MachineState → List Inputs → Trace → Type 0) (net : Net) (job : Job) : Type 0 where
   pub holds : (ins : List Input) → AreQuiet ins → Fact job (state_of job (start_of job)) (inputs_seen job ins) (trace_of job net ins)
   pub anew : (st : State) (i : Input) (ins : List Input) → HasMemory net st → i.reset ≡ true → AreQuiet ins
       → Fact job (left_by_reset job (value_shown job net st)) (inputs_seen job ins) (trace_from job net (state_after net i st) ins)
   pub memory : (ins : List Input) → HasMemory net (last_of net ins)
 
 -- The text denotes a netlist of the job: it has the job's ports, registers and files, and outputs of their widths. The fact holds of all its runs.
-pub record IsVerilogWith (Fact : Job → (ℕ → ℕ → ℕ) → List Inputs → Trace → Type 0) (input text : List ℕ) : Type 0 where
+pub record IsVerilogWith (Fact : Job → MachineState → List Inputs → Trace → Type 0) (input text : List ℕ) : Type 0 where
   pub job : Job
   pub judged : Judges input (Ok job)
   pub net : Net
@@ -199,7 +200,7 @@ pub record IsImplementation (input text : List ℕ) : Type 0 where
 
 -- The two texts after a job denote netlists of the job, and if one of the two implements the job, as the text of `pipe` does, then the fact holds of
 -- all runs of both.
-pub record IsPairWith (Fact : Job → (ℕ → ℕ → ℕ) → List Inputs → Trace → Type 0) (input text : List ℕ) : Type 0 where
+pub record IsPairWith (Fact : Job → MachineState → List Inputs → Trace → Type 0) (input text : List ℕ) : Type 0 where
   pub job : Job
   pub rest : ℕ
   pub judged : JudgesHead input (Ok (job, rest))

@@ -4,7 +4,7 @@ use Rattle.kp_pipeline.specs.{Pipeline.Inputs, Rows.Row, Rows.bit, Rows.one_if, 
 use Rattle.kp_diagram.specs.Diagram.{next_place}
 
 -- how many of the cycles from T to U have a stage that is stalled from outside
-abbrev pub stalled_cycles : ℕ → List Inputs → ℕ → ℕ → ℕ
+abbrev pub stalled_cycles : ℕ → List Inputs → (from to : ℕ) → ℕ
 stalled_cycles n ins T U = (U - T) - (stall_free_cycles n ins U - stall_free_cycles n ins T)
 
 abbrev pub count_full : List Bool → ℕ

@@ -18,7 +18,7 @@ abbrev pub own_text : ℕ → Job → Net → List ℕ
 own_text n job net = run_text job (own_trace job net n).rows ((own_trace job net n).visible n)
 
 -- the rows of the cycles before T, and the line of target t at address a in the state at T
-abbrev pub differing_text : ℕ → Job → Net → ℕ → ℕ → ℕ → List ℕ
+abbrev pub differing_text : ℕ → Job → Net → (cycle target address : ℕ) → List ℕ
 differing_text n job net T t a =
     row_lines 0 (take T (own_trace job net n).rows)
     ++ differs_line T (target job t) a (word (target job t).width ((own_trace job net n).visible T t a)) (word (target job t).width (own_due job net n T t a))

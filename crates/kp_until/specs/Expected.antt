@@ -15,6 +15,7 @@ use Rattle.kp_until.specs.declared.expected.{Bound.Bound, Check.Check, Expected.
 use Rattle.kp_until.specs.declared.expected.Check.TheVariants.{Word as Has, Others, Retired, Cycles}
 use Rattle.kp_until.specs.declared.expected.LineRule.TheVariants as rules
 use Rattle.kp_until.specs.declared.lines.LineRefused.{LineRefused, TheVariants.Fault, TheVariants.NoMemory}
+use Rattle.kp_pipeline.specs.Machine.{State}
 
 -- ---- reading
 
@@ -148,7 +149,7 @@ Reads (Err NoMemory) verdict = ⊤
 
 -- the end of a run: its state, and the numbers of instructions and cycles
 pub record End : Type 0 where
-  pub state : ℕ → ℕ → ℕ
+  pub state : State
   pub retired : ℕ
   pub cycles : ℕ
 

@@ -8,6 +8,7 @@ use Rattle.kp_until.specs.Parts.{ends_in, front, part_of, single, value_of}
 use Rattle.kp_until.specs.declared.{part.Part.Part, part.PartFault.PartFault, part.ValueFault.ValueFault, until.Until.Until, until.UntilFault.UntilFault}
 use Rattle.kp_until.specs.declared.until.Until.TheVariants.{Halt, Retired, Word as Has}
 use Rattle.kp_until.specs.declared.until.UntilFault.TheVariants.{Form, NoPart, ManyWords, NoValue}
+use Rattle.kp_pipeline.specs.Machine.{State}
 
 -- ---- reading
 
@@ -50,7 +51,7 @@ IsUntil job _ = Unit {0}
 -- ---- meaning: `s i` is the state after i instructions
 
 -- two states of a job have the same words
-abbrev pub AreSame : Job → (ℕ → ℕ → ℕ) → (ℕ → ℕ → ℕ) → Type 0
+abbrev pub AreSame : Job → State → State → Type 0
 AreSame job s r = (t a : ℕ) → HasWord job t a → s t a ≡ r t a
 
 abbrev pub Compares : Bool → ℕ → ℕ → Type 0
@@ -58,14 +59,14 @@ Compares true x v = x ≡ v
 Compares false x v = x ≢ v
 
 -- After j instructions the state is the one after p fewer, for a p of 1 to 4.
-pub record Repeats (job : Job) (s : ℕ → ℕ → ℕ → ℕ) (j p : ℕ) : Type 0 where
+pub record Repeats (job : Job) (s : ℕ → State) (j p : ℕ) : Type 0 where
   pub some : 1 ≤ p
   pub few : p ≤ 4
   pub within : p ≤ j
   pub same : AreSame job (s (j - p)) (s j)
 
 -- THE CONDITION HOLDS after j instructions. That the state repeats is noticed when it does.
-abbrev pub Holds : Job → (ℕ → ℕ → ℕ → ℕ) → ℕ → Until → Type 0
+abbrev pub Holds : Job → (ℕ → State) → (instructions : ℕ) → Until → Type 0
 Holds job s j Halt = (p : ℕ) × Repeats job s j p
 Holds job s j (Retired n) = n ≤ j
 Holds job s j (Has t a equal v) = Compares equal (s j t a) v.value

@@ -18,22 +18,22 @@ retired_in job n = passed (own_rows job n) (job.stages.value - 1) n
 
 -- The states of the sequential machine, by the number of instructions. Each takes the samples of the cycle in which it leaves their stage, in a run over n
 -- cycles, and 0 if there is no such cycle.
-abbrev pub states_in : Job → ℕ → ℕ → ℕ → ℕ → ℕ
+abbrev pub states_in : Job → (cycles : ℕ) → (ℕ → State)
 states_in job n = sequential job (taken (machine_of job) (inputs_from job 0 n) (own_rows job n))
 
 -- no condition holds after up to n instructions
-abbrev pub NoneTo : Job → (ℕ → ℕ → ℕ → ℕ) → List Until → ℕ → Type 0
+abbrev pub NoneTo : Job → (ℕ → State) → List Until → (instructions : ℕ) → Type 0
 NoneTo job s untils n = (i m : ℕ) → i ≤ n → m < length untils → Holds job s i (get_or untils m Halt) → ⊥
 
 -- The condition with number k is the first of these that holds: after j instructions, and none holds after fewer, nor an earlier one after as many.
-pub record IsFirst (job : Job) (s : ℕ → ℕ → ℕ → ℕ) (untils : List Until) (j k : ℕ) : Type 0 where
+pub record IsFirst (job : Job) (s : ℕ → State) (untils : List Until) (j k : ℕ) : Type 0 where
   pub which : k < length untils
   pub holds : Holds job s j (get_or untils k Halt)
   pub earlier : (i m : ℕ) → i < j → m < length untils → Holds job s i (get_or untils m Halt) → ⊥
   pub before : (m : ℕ) → m < k → Holds job s j (get_or untils m Halt) → ⊥
 
 -- the number of instructions that is counted for a condition which holds after j: a state that repeats is counted where it is first
-abbrev pub CountsFor : Job → (ℕ → ℕ → ℕ → ℕ) → Until → ℕ → ℕ → Type 0
+abbrev pub CountsFor : Job → (ℕ → State) → Until → (instructions count : ℕ) → Type 0
 CountsFor job s Halt j count = (p : ℕ) × Repeats job s j p × (count + p ≡ j)
 CountsFor job s _ j count = count ≡ j
 

@@ -9,7 +9,7 @@ kind_word true = codes "reg"
 kind_word false = codes "wire"
 
 -- `$var reg 8 s3 r_X $end`
-unfoldable pub declaration : List ℕ → ℕ → ℕ → List ℕ → List ℕ
+unfoldable pub declaration : List ℕ → (width number : ℕ) → List ℕ → List ℕ
 declaration kind width number name =
     codes "$var " ++ kind ++ codes " " ++ decimal width ++ codes " s" ++ decimal number ++ codes " " ++ name ++ codes " $end\n"
 

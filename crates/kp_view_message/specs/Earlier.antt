@@ -35,7 +35,7 @@ declared_line name (stage.SampleElsewhere _ _) (decls.Sample n width at) = if is
 declared_line name _ _ = None
 
 -- the line of the first such declaration
-abbrev pub line_or : Option ℕ → ℕ → ℕ
+abbrev pub line_or : Option ℕ → (other : ℕ) → ℕ
 line_or None other = other
 line_or (Some line) other = line
 

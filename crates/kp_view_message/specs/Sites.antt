@@ -77,5 +77,5 @@ pipe_in None = None
 pipe_in (Some s) = pipe_of s.kind
 
 -- the pipe into which this earlier stage puts the value of a name
-abbrev pub holder : List ℕ → Job → List ℕ → ℕ → ℕ → Option (List ℕ)
+abbrev pub holder : List ℕ → Job → List ℕ → (here there : ℕ) → Option (List ℕ)
 holder text job name here there = if nat_lt there here then pipe_in (find (λ s. puts text name s.kind) (stmts_in job there)) else None

@@ -68,7 +68,7 @@ sample_ports [] = []
 sample_ports (s ∷ ss) = codes "input wire [" ∷ decimal (s.width - 1) ∷ codes ":0] " ∷ s.name ∷ codes ", " ∷ sample_ports ss
 
 -- `output wire [1:0] full, output wire [1:0] ue, output wire [3:0] back);`
-abbrev pub out_ports : ℕ → ℕ → ℕ → Pieces
+abbrev pub out_ports : (full ue back : ℕ) → Pieces
 out_ports full ue back =
     codes "output wire [" ∷ decimal (full - 1) ∷ codes ":0] full, output wire [" ∷ decimal (ue - 1) ∷ codes ":0] ue, output wire [" ∷ decimal (back - 1)
     ∷ codes ":0] back);\n" ∷ []
@@ -112,12 +112,12 @@ start_lines [] = []
 start_lines (r ∷ rs) = codes "    " ∷ r.name ∷ codes " = " ∷ spelling r.start ∷ codes ";\n" ∷ start_lines rs
 
 -- `    f_M[3] = 32'h0000000a;`, unless the word is 0
-abbrev pub word_line : List ℕ → ℕ → ℕ → ℕ → Pieces
+abbrev pub word_line : List ℕ → (width address value : ℕ) → Pieces
 word_line name k a v =
     if v == 0 then [] else codes "    " ∷ name ∷ codes "[" ∷ decimal a ∷ codes "] = " ∷ spelling (word k v) ∷ codes ";\n" ∷ []
 
 -- the words of a file from address a on
-abbrev pub word_lines : List ℕ → ℕ → ℕ → List ℕ → Pieces
+abbrev pub word_lines : List ℕ → (width address : ℕ) → List ℕ → Pieces
 word_lines name k a [] = []
 word_lines name k a (v ∷ vs) = word_line name k a v ++ word_lines name k (a + 1) vs
 

@@ -20,10 +20,10 @@ of_kind width kind = record { width = width; kind = kind }
 abbrev pub port : List ℕ → ℕ → Port
 port name width = record { name = name; width = width }
 
-abbrev pub reg : List ℕ → ℕ → ℕ → ℕ → NetReg
+abbrev pub reg : List ℕ → (width start next : ℕ) → NetReg
 reg name width value next = record { name = name; start = record { width = width; value = value }; next = node next }
 
-abbrev pub file : List ℕ → ℕ → ℕ → List ℕ → Option WritePort → NetFile
+abbrev pub file : List ℕ → (width address_width : ℕ) → List ℕ → Option WritePort → NetFile
 file name width address_width words port = record { name = name; width = width; address_width = address_width; words = words; port = port }
 
 abbrev pub counter_nodes : List Node

@@ -75,7 +75,7 @@ words_fit w = w.high.value == 0 && is_some (address_width (last_of w))
 abbrev pub literal_fits : Literal → Bool
 literal_fits l = nat_le 1 l.width && (nat_le l.width 64 && nat_lt l.value (2 ^ l.width))
 
-abbrev pub op_fits : BinOp → ℕ → ℕ → ℕ → Bool
+abbrev pub op_fits : BinOp → (width left right : ℕ) → Bool
 op_fits BinOp.And w a b = a == w && b == w
 op_fits BinOp.Or w a b = a == w && b == w
 op_fits BinOp.Xor w a b = a == w && b == w

@@ -56,7 +56,7 @@ pub record Row : Type 0 where
   pub at_line : ℕ
   pub at_col : ℕ
 
-abbrev row : ℕ → List ℕ → ℕ → ℕ → ℕ → Row
+abbrev row : ℕ → List ℕ → (rule at_line at_col : ℕ) → Row
 row number line rule at_line at_col = record { number = number; line = line; rule = rule; at_line = at_line; at_col = at_col }
 
 abbrev pub row_text : Row → List ℕ

@@ -5,9 +5,10 @@ use Rattle.kp_machine.specs.{Machine.inputs_from, Words.HasWord}
 use Rattle.kp_net.specs.Netlist.{Net}
 use Rattle.kp_sched.specs.Runs.{due_value, IsLegal}
 use Rattle.kp_run.specs.Cycles.{own_trace}
+use Rattle.kp_pipeline.specs.Machine.{State}
 
 -- The specified value in the run of target t at address a after T cycles.
-abbrev pub own_due : Job → Net → ℕ → ℕ → ℕ → ℕ → ℕ
+abbrev pub own_due : Job → Net → (count cycles : ℕ) → State
 own_due job net n T t a = due_value job (inputs_from job 0 n) (own_trace job net n).rows T t a
 
 -- The run agrees with the sequential machine if it is legal.

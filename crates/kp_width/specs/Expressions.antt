@@ -37,7 +37,7 @@ abbrev pub binary_of : BinOp → (at left right : Place) → ℕ → ℕ → Che
 binary_of op at left right a b = wants (is_shift op || a == b) (found_at at (faults.Operands op a b left right)) (ok (if is_test op then 1 else a))
 
 -- E11 and E9: the test of a choice is one bit wide, and its branches have the same width
-abbrev pub choice_of : (at left right : Place) → ℕ → ℕ → ℕ → Check WidthFinding ℕ
+abbrev pub choice_of : (at left right : Place) → (condition first second : ℕ) → Check WidthFinding ℕ
 choice_of at left right test a b = wants (test == 1) (found_at at (faults.Condition test)) (wants (a == b) (found_at at (faults.Branches a b left right)) (ok a))
 
 -- E12: a slice selects existing bits, the high one first

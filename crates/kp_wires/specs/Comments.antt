@@ -15,10 +15,10 @@ comment_of [] = []
 comment_of (c ∷ cs) = codes "  // " ++ flat_map (λ b. if is_in_line b then b ∷ [] else []) (c ∷ cs)
 
 -- the number of the line that contains byte n
-abbrev pub next_line : ℕ → ℕ → ℕ
+abbrev pub next_line : (line byte : ℕ) → ℕ
 next_line line byte = if is_in_line byte then line else suc line
 
-abbrev pub line_of : List ℕ → ℕ → ℕ
+abbrev pub line_of : List ℕ → (offset : ℕ) → ℕ
 line_of text zero = 0
 line_of text (suc n) = next_line (line_of text n) (get_or text n 0)
 

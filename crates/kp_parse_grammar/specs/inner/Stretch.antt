@@ -41,7 +41,7 @@ Counts opens_at = Unit {0}
 Counts _ = ⊥
 
 -- Reading a token of the class that increments the count ends with this fault.
-abbrev pub FailsCount : List Lexeme → ℕ → ℕ → ℕ → Fault → Type 0
+abbrev pub FailsCount : List Lexeme → (terminal count index : ℕ) → Fault → Type 0
 FailsCount ts k c i = Faults ts (λ o. (way : Way) → Counts way → (s : List Sym) (cs : List ℕ) (vs : List Value) → Goes (Terminal k way ∷ s) (at (c ∷ cs) vs) (drop i ts) o)
 
 -- In a bracket reading the symbols, the last of which closes it, leads from token i to token j, and pushes values.

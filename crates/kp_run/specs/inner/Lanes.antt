@@ -5,23 +5,23 @@ use Rattle.kp_ast.specs.declared.tree.Job.{Job}
 use Rattle.kp_pipeline.specs.Rows.{Row, passed}
 use Rattle.kp_machine.specs.{Machine.sequential, Slots.targets_of}
 use Rattle.kp_seq.specs.Running.{Running, state}
-use Rattle.kp_pipeline.specs.Machine.{Samples}
+use Rattle.kp_pipeline.specs.Machine.{Samples, State}
 
 -- the state of machine k
-abbrev pub lane_state : List Running → ℕ → ℕ → ℕ → ℕ
+abbrev pub lane_state : List Running → (machine : ℕ) → State
 lane_state [] k = λ t a. 0
 lane_state (m ∷ ms) zero = state m
 lane_state (m ∷ ms) (suc k) = lane_state ms k
 
 -- how many instructions machine k has executed after T of these rows, and after all
-abbrev pub passes_after : Job → List Row → ℕ → ℕ → ℕ
+abbrev pub passes_after : Job → List Row → (cycles machine : ℕ) → ℕ
 passes_after job rows T k = if nat_lt k job.stages.value then passed rows k T else 0
 
 abbrev pub lane_passes : Job → List Row → ℕ → ℕ
 lane_passes job rows k = passes_after job rows (length rows) k
 
 -- how many instructions machine k has executed, by the counts of n stages
-abbrev pub lane_count : ℕ → List ℕ → ℕ → ℕ
+abbrev pub lane_count : (stages : ℕ) → List ℕ → (machine : ℕ) → ℕ
 lane_count n counts k = if nat_lt k n then get_or counts k 0 else 0
 
 -- the machines of a job from number k on, by the counts of its stages

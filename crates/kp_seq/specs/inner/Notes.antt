@@ -38,7 +38,7 @@ outlets_of targets pipes (decls.Target r ∷ ds) = outlet_by targets pipes r ∷
 outlets_of targets pipes (_ ∷ ds) = outlets_of targets pipes ds
 
 -- a number if it fits, else 0
-abbrev pub narrowed : ℕ → ℕ → ℕ
+abbrev pub narrowed : (bits number : ℕ) → ℕ
 narrowed bits a = if nat_lt a (2 ^ bits) then a else 0
 
 abbrev pub narrow_address : Option ℕ → Option ℕ

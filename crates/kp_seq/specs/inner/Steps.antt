@@ -121,7 +121,7 @@ abbrev pub address_by : Under → Option ℕ → ℕ
 address_by u o = address_among u.pipes o
 
 -- a target takes its result, or 0 if that has no value
-abbrev pub with_word : List (List ℕ) → ℕ → ℕ → ℕ → List (List ℕ)
+abbrev pub with_word : List (List ℕ) → (target address value : ℕ) → List (List ℕ)
 with_word words t a v = set words t (set (get_or words t []) a v)
 
 abbrev pub written_by : Under → List (List ℕ) → ℕ → Option Port → List (List ℕ)

@@ -17,15 +17,15 @@ held_from job c k g (s ∷ ss) =
     if is_carried s k && (kept_in job c (Pending g k) == 1) then pending_guess s (kept_in job c (Guess g k)) ∷ held_from job c k (suc g) ss else held_from job c k (suc g) ss
 
 -- the value of guess g, if it is one of register t that is pending in stage k
-abbrev pub value_of : Job → Cells → ℕ → ℕ → ℕ → GuessSlot → Option ℕ
+abbrev pub value_of : Job → Cells → (stage target first : ℕ) → GuessSlot → Option ℕ
 value_of job c k t g s =
     if is_carried s k && ((kept_in job c (Pending g k) == 1) && (s.register == t)) then Some (kept_in job c (Guess g k)) else None
 
-abbrev pub word_of : Job → Cells → ℕ → ℕ → ℕ → GuessSlot → Option Word
+abbrev pub word_of : Job → Cells → (stage target first : ℕ) → GuessSlot → Option Word
 word_of job c k t g s = as_word (target_at job t).width (value_of job c k t g s)
 
 -- the first one of the register
-abbrev pub first_word : Job → Cells → ℕ → ℕ → ℕ → List GuessSlot → Option Word
+abbrev pub first_word : Job → Cells → (stage target first : ℕ) → List GuessSlot → Option Word
 first_word job c k t g gs = as_word (target_at job t).width (first_guess t (held_from job c k g gs))
 
 -- whether it has another value

@@ -20,7 +20,7 @@ abbrev pub record_in : Held → ℕ → Recorded
 record_in h k = get_or h.recorded k nothing_recorded
 
 -- d stages from k on: the nearest that may write is ready
-abbrev pub met_from : Held → List Bool → Writer → ℕ → ℕ → ℕ → Bool
+abbrev pub met_from : Held → List Bool → Writer → (address count from : ℕ) → Bool
 met_from h blocked w a zero k = true
 met_from h blocked w a (suc d) k =
     if is_full h k && (nat_le k w.write && may_write w (record_in h k) k a)

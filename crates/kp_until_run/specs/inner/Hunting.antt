@@ -12,7 +12,7 @@ use Rattle.kp_until_run.specs.declared.trail.Trail.{Trail}
 use Rattle.kp_pipeline.specs.Machine.{Samples, State}
 
 -- the sample values that instructions read
-abbrev pub given : List Taken → ℕ → ℕ → ℕ
+abbrev pub given : List Taken → Samples
 given columns i = values_in (row_taken columns i)
 
 -- a number that two states have in common if their first n targets have the same words at address 0
@@ -40,14 +40,14 @@ pub record Follows (job : Job) (values : Samples) (j : ℕ) (t : Trail) : Type 0
   pub present : t.present ≡ digest_of job (sequential job values j)
 
 -- no condition holds after fewer than j instructions, or after j
-abbrev pub NoneBelow : Job → (ℕ → ℕ → ℕ → ℕ) → List Until → ℕ → Type 0
+abbrev pub NoneBelow : Job → (ℕ → State) → List Until → (instructions : ℕ) → Type 0
 NoneBelow job s untils j = (i m : ℕ) → i < j → m < length untils → Holds job s i (get_or untils m Halt) → ⊥
 
-abbrev pub NoneAt : Job → (ℕ → ℕ → ℕ → ℕ) → List Until → ℕ → Type 0
+abbrev pub NoneAt : Job → (ℕ → State) → List Until → (instructions : ℕ) → Type 0
 NoneAt job s untils j = (m : ℕ) → m < length untils → Holds job s j (get_or untils m Halt) → ⊥
 
 -- the first of the conditions that holds after j instructions
-pub record IsFoundAt (job : Job) (s : ℕ → ℕ → ℕ → ℕ) (untils : List Until) (j : ℕ) (f : Found) : Type 0 where
+pub record IsFoundAt (job : Job) (s : ℕ → State) (untils : List Until) (j : ℕ) (f : Found) : Type 0 where
   pub seen : f.seen ≡ j
   pub which : f.which < length untils
   pub holds : Holds job s j (get_or untils f.which Halt)
@@ -55,7 +55,7 @@ pub record IsFoundAt (job : Job) (s : ℕ → ℕ → ℕ → ℕ) (untils : Lis
   pub count : CountsFor job s (get_or untils f.which Halt) j f.count
 
 -- what was found up to n instructions
-abbrev pub IsFound : Job → (ℕ → ℕ → ℕ → ℕ) → List Until → Found → Type 0
+abbrev pub IsFound : Job → (ℕ → State) → List Until → Found → Type 0
 IsFound job s untils f = IsFirst job s untils f.seen f.which × CountsFor job s (get_or untils f.which Halt) f.seen f.count
 
 abbrev pub IsSearched : Job → Samples → List Until → ℕ → Running → Option Found → Type 0

@@ -22,13 +22,13 @@ abbrev pub ShowsModule : List ℕ → List ℕ → ℕ → Refusal → List ℕ 
 ShowsModule file input from refusal text = (count : ℕ) × MarksModule input from refusal count × ShowsPlace file input refusal count text
 
 -- the Verilog text after a job
-abbrev pub ExplainsModule : Job → List ℕ → List ℕ → ℕ → ℕ → List ℕ → Type 0
+abbrev pub ExplainsModule : Job → List ℕ → List ℕ → (from status : ℕ) → List ℕ → Type 0
 ExplainsModule job file input from status text =
     (found : Option Refusal) × FindsInModule job input from found × ((strict : Bool) → Says subjects.Watched strict file input found status text)
     × IfSome found (λ r. ShowsModule file input from r text)
 
 -- the script after a job
-abbrev pub ExplainsScript : List Decl → List ℕ → List ℕ → ℕ → ℕ → List ℕ → Type 0
+abbrev pub ExplainsScript : List Decl → List ℕ → List ℕ → (from status : ℕ) → List ℕ → Type 0
 ExplainsScript decls file input from status text =
     let found = rule_of (script_of decls input from) in
     ((strict : Bool) → Says subjects.Debugged strict file input found status text)

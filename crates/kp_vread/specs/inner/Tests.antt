@@ -11,7 +11,7 @@ has_register [] name width = false
 has_register (r ∷ rs) name width = if same r.name name then r.start.width == width else has_register rs name width
 
 -- the first file with this name has these widths
-abbrev pub has_file : List NetFile → List ℕ → ℕ → ℕ → Bool
+abbrev pub has_file : List NetFile → List ℕ → (width address : ℕ) → Bool
 has_file [] name width address = false
 has_file (f ∷ fs) name width address = if same f.name name then (f.width == width) && (f.address_width == address) else has_file fs name width address
 

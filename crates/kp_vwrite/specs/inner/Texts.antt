@@ -45,7 +45,7 @@ sample_text s = ranged_text (codes "input wire [") s.width s.name (codes ", ")
 abbrev pub samples_text : List Port → List ℕ
 samples_text ss = flat_map sample_text ss
 
-unfoldable pub outputs_text : ℕ → ℕ → ℕ → List ℕ
+unfoldable pub outputs_text : (full ue back : ℕ) → List ℕ
 outputs_text full ue back = text_of (out_ports full ue back)
 
 abbrev pub header_text : List Node → Parts → List ℕ
@@ -107,10 +107,10 @@ fill_text f =
     text_of
     (codes "    for (i = 0; i < " ∷ decimal (2 ^ f.address_width) ∷ codes "; i = i + 1) " ∷ f.name ∷ codes "[i] = " ∷ spelling (word f.width 0) ∷ codes ";\n" ∷ [])
 
-unfoldable pub word_text : List ℕ → ℕ → ℕ → ℕ → List ℕ
+unfoldable pub word_text : List ℕ → (width address value : ℕ) → List ℕ
 word_text name width a v = text_of (word_line name width a v)
 
-abbrev pub words_text : List ℕ → ℕ → ℕ → List ℕ → List ℕ
+abbrev pub words_text : List ℕ → (width address : ℕ) → List ℕ → List ℕ
 words_text name width a [] = []
 words_text name width a (v ∷ vs) = word_text name width a v ++ words_text name width (a + 1) vs
 

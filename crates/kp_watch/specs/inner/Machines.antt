@@ -6,15 +6,15 @@ use Rattle.kp_pipeline.specs.Rows.{Row, passed}
 use Rattle.kp_machine.specs.{Machine.sequential, Machine.values_in, Slots.targets_of}
 use Rattle.kp_run.specs.{Columns.Taken, Columns.row_taken, Homes.home_of}
 use Rattle.kp_seq.specs.{Running.Running, Running.state, Recorded.record_of}
-use Rattle.kp_pipeline.specs.Machine.{Samples}
+use Rattle.kp_pipeline.specs.Machine.{Samples, State}
 
 -- the sample values that instructions read
-abbrev pub given : List Taken → ℕ → ℕ → ℕ
+abbrev pub given : List Taken → Samples
 given columns i = values_in (row_taken columns i)
 
 -- How many instructions machine k has executed after T of these rows: those that stage k has completed. The machine after those of the stages
 -- executes none.
-abbrev pub ran : ℕ → List Row → ℕ → ℕ → ℕ
+abbrev pub ran : ℕ → List Row → (cycles stage : ℕ) → ℕ
 ran n rows T k = if nat_lt k n then passed rows k T else 0
 
 -- Machine k has the value of some target.
@@ -44,5 +44,5 @@ pub record HaveRunFirst (job : Job) (values : Samples) (rows : List Row) (T k : 
       → HasRun job values (ran job.stages.value rows (if nat_lt j k then T + 1 else T) j) (get_or machines j d)
 
 -- The value of a target in the machines: that in the machine of the target.
-abbrev pub due_by : Job → List Running → ℕ → ℕ → ℕ
+abbrev pub due_by : Job → List Running → State
 due_by job machines t = get_or (map state machines) (home_of job t) (λ s a. 0) t
