@@ -1,11 +1,12 @@
 -- What the stages of a pipelined machine hold: in a full stage from which upward no pending guess is wrong, the instruction of the sequential machine that
 -- has the stage's number.
-use Rattle.std.proofs.Common.{◌≡◌, ◌∙◌, ℕ, zero, suc, ◌+◌, ◌<◌, ◌≤◌, true, List, [], ◌∷◌, length, refl, sym, ap, subst, arith}
+use Rattle.std.proofs.Common.{◌≡◌, ◌∙◌, ℕ, zero, suc, ◌+◌, ◌<◌, ◌≤◌, zero-add, Bool, true, false, not, ◌&&◌, leb, List, [], ◌∷◌, length, refl, sym, ap, subst, arith}
+use Rattle.std.proofs.lemmas.Bool.{and_parts}
 use Rattle.std.specs.List.{AllByRecursion}
 use Rattle.kp_pipeline.specs.{Machine.Machine, Accepted.Accepted, Sequential.PendingGuess, Sequential.instruction_before, Sequential.seq}
-use Rattle.kp_pipeline.specs.{Pipeline.Inputs, Pipeline.PipelineState, Pipeline.cycle, Pipeline.pipeline_start, Claims.StandsBefore}
-use Rattle.kp_pipeline.specs.Rows.{bit, one_if, row, rows_from, pipe, taken, counts, counts_from, count_after, state_after}
-use Rattle.kp_pipeline.{specs.RightPath.IsRightIn, specs.RightPath.HasRightGuesses, proofs.Invariant.Inv, proofs.Movement.next_count}
+use Rattle.kp_pipeline.specs.{Pipeline.Inputs, Pipeline.PipelineState, Pipeline.back, Pipeline.cycle, Pipeline.pipeline_start, Pipeline.stall, Pipeline.ue, Claims.StandsBefore}
+use Rattle.kp_pipeline.specs.Rows.{Row, bit, one_if, passed, row, rows_from, pipe, taken, counts, counts_from, count_after, state_after}
+use Rattle.kp_pipeline.{specs.RightPath.IsRightIn, specs.RightPath.HasRightGuesses, proofs.Invariant.Inv, proofs.Movement.next_count, proofs.Lists.bit-bits}
 use Rattle.kp_pipeline.proofs.Counts.{AgreeBelow, counts-row}
 use Rattle.kp_pipeline.proofs.Legality.{TakesAhead, inv-kept, inv-start, takes_ahead-kept, takes_ahead-met}
 
@@ -40,6 +41,30 @@ module _ (m : Machine) (acc : Accepted m) (s given : ℕ → ℕ → ℕ) where
       inv_along P here ins (cycle m st i) (count_after m.stages (row m st i) c) (next_count m st i d) (λ k. one_if (bit (row m st i).ue k) + updates k)
       (inv-kept m acc s given st i d updates inv (takes_ahead-met m acc s given st i ins d updates inv ahead)) (takes_ahead-kept m given st i ins updates ahead)
       (counts-row m st i c d agree) T (omega (arith, b))
+
+-- a stage that updates in a cycle is full then
+update_full : (m : Machine) (st : PipelineState) (i : Inputs) (k : ℕ) → ue m st i k ≡ true → (st.stage k).full ≡ true
+unfolding ue
+update_full m st i k e = (and_parts (st.stage k).full (not (stall m st i k) && leb (back m st i) k) e).0
+
+updated : (m : Machine) (st : PipelineState) (i : Inputs) (k : ℕ) → k < m.stages → bit (row m st i).ue k ≡ true → ue m st i k ≡ true
+updated m st i k b e = ap (ue m st i) (sym (zero-add k)) ∙ sym (bit-bits (ue m st i) m.stages 0 k b) ∙ e
+
+pub none_passed : (rows : List Row) (k : ℕ) → passed rows k 0 ≡ 0
+none_passed [] k = refl
+none_passed (r ∷ rows) k = refl
+
+one_bit : (b : Bool) → one_if b ≡ 1 → b ≡ true
+one_bit true e = refl
+one_bit false e = absurd (omega (arith, e))
+
+pub full_where_updated : (m : Machine) (ins : List Inputs) (st : PipelineState) (T k : ℕ) → k < m.stages → T < length ins
+    → passed (rows_from m st ins) k (suc T) ≡ suc (passed (rows_from m st ins) k T) → ((state_after m st ins T).stage k).full ≡ true
+full_where_updated m [] st T k b l e = absurd (omega (arith, l))
+full_where_updated m (i ∷ ins) st zero k b l e =
+    update_full m st i k (updated m st i k b (one_bit (bit (row m st i).ue k) (let z = none_passed (rows_from m (cycle m st i) ins) k in omega (arith, e, z))))
+full_where_updated m (i ∷ ins) st (suc T) k b l e =
+    full_where_updated m ins (cycle m st i) T k b (omega (arith, l)) (omega (arith, e))
 
 -- THE RUN from a state on
 module _ (m : Machine) (acc : Accepted m) (s : ℕ → ℕ → ℕ) (hints : ℕ → ℕ) (ins : List Inputs) where

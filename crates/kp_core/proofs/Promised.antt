@@ -14,7 +14,7 @@ use Rattle.kp_core_ports.specs.{declared.port.Port.Port, declared.port.PortRefus
 use Rattle.kp_wires.{specs.Table.wires_of, proofs.True.all_true}
 use Rattle.kp_core.specs.{Beginning.Begins, Due.DueFor, Due.DueOfLines, Due.IsCoreOf, Due.IsDue, Due.Prints, Messages.file_name, Promises.IsPromised, Promises.PortsShow, Values.state_in}
 use Rattle.kp_core.specs.{Words.Asked, Words.write, declared.request.Form.Form}
-use Rattle.kp_core.proofs.{Beginning.shown_along, Plain.of_pipe, Showing.shown, Showing.peeked, Showing.probed, Showing.probed_right, Showing.probed_late, Showing.taken_next, Showing.committed, Showing.wires_shown}
+use Rattle.kp_core.proofs.{Beginning.shown_along, Plain.of_pipe, Showing.shown, Showing.peeked, Showing.probed, Showing.probed_right, Showing.probed_late, Showing.probed_stores, Showing.taken_next, Showing.committed, Showing.wires_shown}
 
 pub names_kept : (job : Job) → broken_in job ≡ None → Unbroken (widths_of job)
 unfolding broken_in
@@ -39,6 +39,7 @@ module _ (job : Job) (none : broken_in job ≡ None) (net : Net) (shows : Shows 
     probe = probed net job shows (names_kept job none) carries s v ins begins quiet;
     right = probed_right net job shows (names_kept job none) carries s v ins begins quiet anew (accepted_machine job none);
     late = probed_late net job shows (names_kept job none) carries s v ins begins quiet anew (accepted_machine job none);
+    stores = probed_stores net job shows (names_kept job none) carries s v ins begins quiet anew (accepted_machine job none);
     next = λ i T x k a off has. taken_next job net i (state_in net s ins T) x k a carries off has;
     commit = λ i T a l. committed job net s ins T a i (some (accepted_machine job none)) l;
   }

@@ -3,9 +3,9 @@ use Rattle.std.proofs.Common.{◌≡◌, ◌∙◌, ℕ, zero, suc, ◌^◌, ◌
 use Rattle.std.proofs.{lemmas.Bool.and_parts, lemmas.Bool.cond-false, lemmas.Nat.pow_pos, Math.Bool.and-false, lemmas.List.get_or-map, lemmas.List.length-map}
 use Rattle.std.specs.Prelude.{nat_le}
 use Rattle.kp_ast.specs.declared.tree.Job.{Job}
-use Rattle.kp_pipeline.specs.{Accepted.Accepted, Pipeline.PipelineState, RightPath.HasRightGuesses}
+use Rattle.kp_pipeline.specs.{Accepted.Accepted, Pipeline.PipelineState, Pipeline.pipeline_start, RightPath.HasRightGuesses}
 use Rattle.kp_pipeline.specs.Rows.{Row, passed, one_if, bit, bits, counts, pipe, taken}
-use Rattle.kp_pipeline.{specs.Sequential.Instruction, specs.Sequential.instruction_before, proofs.Lists.bit-bits}
+use Rattle.kp_pipeline.{specs.Sequential.Instruction, specs.Sequential.instruction_before, proofs.Counts.counts-passed, proofs.Lists.bit-bits}
 use Rattle.kp_width.{specs.Widths.widths_of, proofs.Unbroken.Unbroken}
 use Rattle.kp_machine.specs.{Machine.machine_of, Machine.start_hints, Words.HasWord}
 use Rattle.kp_net.specs.{declared.netlist.NetReg.NetReg, Nodes.at}
@@ -24,7 +24,7 @@ use Rattle.kp_core_ports.specs.declared.port.Ask.TheVariants.{Show, Peek, Probe,
 use Rattle.kp_core_ports.proofs.Registers.{there}
 use Rattle.kp_core.specs.{Beginning.Begins, Values.port_value, Values.state_in, Values.moment_in, Waves.AllHave}
 use Rattle.kp_wires.specs.{Truth.IsTrue, declared.wire.Wire.Wire}
-use Rattle.kp_core.proofs.{Beginning.along, Beginning.shown_along, Occupants.held_instruction, Occupants.held_late}
+use Rattle.kp_core.proofs.{Beginning.along, Beginning.shown_along, Occupants.full_where_updated, Occupants.held_instruction, Occupants.held_late, Occupants.none_passed}
 
 -- ---- registers and files
 
@@ -100,6 +100,22 @@ module _ (net : Net) (job : Job) (shows : Shows net job) (names : Unbroken (widt
         ∙ ap (λ (c : Instruction). c.pipes x) (held_late (machine_of job) acc v (start_hints job) (inputs_seen job ins) T k (within T h) e.3 late f)
         ∙ ap (λ (rs : List Row). (instruction_before (machine_of job) v (taken (machine_of job) (inputs_seen job ins) rs) (counts job.stages.value rs T k) k).pipes x) same_rows
 
+    pub probed_stores : (i : Input) (T x k a : ℕ) → T < length ins → Exists job (Probe x k) → (machine_of job).last_guessed ≤ k
+        → passed rows_of_run k (suc T) ≡ suc (passed rows_of_run k T)
+        → port_value job net i (state_in net s ins T) a (Probe x k)
+        ≡ (instruction_before (machine_of job) v (taken (machine_of job) (inputs_seen job ins) rows_of_run) (passed rows_of_run k T) k).pipes x
+    unfolding machine_of
+    probed_stores i T x k a h e late moves =
+        let all = within (suc T) (omega (arith, h)) in
+        let f : ((moment_in job v (inputs_seen job ins) T).state.stage k).full ≡ true =
+        full_where_updated (machine_of job) (inputs_seen job ins) (pipeline_start v (start_hints job)) T k e.3 (omega (arith, all))
+        (subst (λ (rs : List Row). passed rs k (suc T) ≡ suc (passed rs k T)) (sym same_rows) moves) in
+        let number : counts job.stages.value rows_of_run T k ≡ passed rows_of_run k T =
+        subst (λ (rs : List Row). counts job.stages.value rs T k ≡ passed rs k T) same_rows
+        (counts-passed (machine_of job) v (start_hints job) (inputs_seen job ins) acc k T e.3 (omega (arith, late))) in
+        probed_late i T x k a (omega (arith, h)) e f late
+        ∙ ap (λ (n : ℕ). (instruction_before (machine_of job) v (taken (machine_of job) (inputs_seen job ins) rows_of_run) n k).pipes x) number
+
 -- ---- what a register takes
 
 none_quiet : AreQuiet []
@@ -118,10 +134,6 @@ taken_next job net i st x k b carries off has =
     sym (ap (λ (s : State). get_or s.regs (place_of job (Pipe x k)) 0) moves ∙ same)
 
 -- ---- what leaves the last stage
-
-none_passed : (rows : List Row) (k : ℕ) → passed rows k 0 ≡ 0
-none_passed [] k = refl
-none_passed (r ∷ rows) k = refl
 
 first_row : (job : Job) (net : Net) (st : State) (i : Input) (ins : List Input) → 0 < job.stages.value
     → passed (rows_seen job.stages.value (rows_from net st (i ∷ ins))) (job.stages.value - 1) 1

@@ -14,7 +14,7 @@ use Rattle.kp_core_ports.specs.declared.port.Ask.TheVariants.{Show, Peek, Probe,
 use Rattle.kp_wires.specs.Table.{wires_of}
 use Rattle.kp_core.specs.{Bare.without_comments, Beginning.Begins, Due.IsCoreOf, Waves.AllHave, Waves.IsPipeWithComments, Waves.IsPipeWithLines}
 use Rattle.kp_core.specs.declared.request.Form.{Form, TheVariants.Module, TheVariants.Named, TheVariants.Comments}
-use Rattle.kp_core.specs.Values.{port_value, state_in, moment_in, IsFull, NoneWrong, pipe_of_instruction}
+use Rattle.kp_core.specs.Values.{port_value, state_in, moment_in, IsFull, NoneWrong, pipe_of, pipe_of_instruction}
 
 -- THE TEXT is one that `pipe` may write for the job, with what was asked for added to it: ports with their lines, names, or comments.
 abbrev pub IsOfPipe : Form → Job → List Port → List ℕ → Type 0
@@ -32,6 +32,8 @@ IsOfPipe form job ports text = ⊤
 --   right        the pipe of the instruction of the sequential machine that is in stage k, if the stage is full, and no guess that is pending in it or in a
 --                later one is wrong
 --   late         so from the last write stage of a guessed register on, where no guess is pending
+--   stores       and in the cycles in which stage k updates it shows that pipe of instructions 0, 1, 2 and so on: what a memory outside takes in these cycles, from
+--                pipes for its enable, address and data, are the stores of the sequential machine, each once and in order
 --   next         what the register of the pipe has in the next cycle, if the reset isn't raised
 --   commit       1 where an instruction leaves the last stage
 pub record PortsShow (job : Job) (net : Net) (s : State) (v : Values) (ins : List Input) : Type 0 where
@@ -45,6 +47,9 @@ pub record PortsShow (job : Job) (net : Net) (s : State) (v : Values) (ins : Lis
       → port_value job net i (state_in net s ins T) a (Probe x k) ≡ pipe_of_instruction job net s v ins T x k
   pub late : (i : Input) (T x k a : ℕ) → T ≤ length ins → Exists job (Probe x k) → IsFull job v (inputs_seen job ins) T k → (machine_of job).last_guessed ≤ k
       → port_value job net i (state_in net s ins T) a (Probe x k) ≡ pipe_of_instruction job net s v ins T x k
+  pub stores : (i : Input) (T x k a : ℕ) → T < length ins → Exists job (Probe x k) → (machine_of job).last_guessed ≤ k
+      → passed (trace_from job net s ins).rows k (suc T) ≡ suc (passed (trace_from job net s ins).rows k T)
+      → port_value job net i (state_in net s ins T) a (Probe x k) ≡ pipe_of job net s v ins (passed (trace_from job net s ins).rows k T) x k
   pub next : (i : Input) (T x k a : ℕ) → i.reset ≡ false → Exists job (Next x k)
       → port_value job net i (state_in net s ins T) a (Next x k) ≡ get_or (state_after net i (state_in net s ins T)).regs (place_of job (Pipe x k)) 0
   pub commit : (i : Input) (T a : ℕ) → T < length ins

@@ -43,7 +43,10 @@ abbrev pub NoneWrong : Job → Net → State → MachineState → List Input →
 NoneWrong job net s v ins T k =
     (j : ℕ) → k ≤ j → j < job.stages.value → HasRightGuesses (machine_of job) v (taken_in job net s ins) (moment_in job v (inputs_seen job ins) T) j
 
--- The pipe x of the instruction of the sequential machine that is in stage k after T cycles, by the rows of the netlist.
+-- The pipe x of instruction i of the sequential machine, as it is before stage k.
+abbrev pub pipe_of : Job → Net → State → MachineState → List Input → (instruction pipe stage : ℕ) → ℕ
+pipe_of job net s v ins i x k = (instruction_before (machine_of job) v (taken_in job net s ins) i k).pipes x
+
+-- And of the instruction that is in stage k after T cycles, by the rows of the netlist.
 abbrev pub pipe_of_instruction : Job → Net → State → MachineState → List Input → (cycles pipe stage : ℕ) → ℕ
-pipe_of_instruction job net s v ins T x k =
-    (instruction_before (machine_of job) v (taken_in job net s ins) (counts job.stages.value (trace_from job net s ins).rows T k) k).pipes x
+pipe_of_instruction job net s v ins T x k = pipe_of job net s v ins (counts job.stages.value (trace_from job net s ins).rows T k) x k

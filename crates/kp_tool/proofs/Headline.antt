@@ -26,6 +26,8 @@ use Rattle.kp_gen.{specs.Generated.gen_job, proofs.Unbroken.generated_unbroken}
 use Rattle.kp_vcd.specs.{Held.held, Held.Changes, Dumps.own_run, Dumps.values_at, Dumps.vcd_dump}
 use Rattle.kp_vcd.proofs.{Holding.recorded_held, Holding.recorded_new, Lasting.run_lasts}
 use Rattle.kp_timing.{specs.Unfit.untimed, proofs.Plain.has_timeline}
+use Rattle.kp_paths.proofs.CellLaws.{are_paths}
+use Rattle.kp_tool.proofs.{Bypassed.never_waits, Rollbacks.rollbacks_lose}
 use Rattle.kp_tool.specs.Headline.{IsMoving, HasNoNeedlessStall, HasNoNeedlessStallFrom, IsCorrect, IsCorrectFrom, IsVerilogWith, IsRunWith, IsDumpedWith, IsGeneratedWith, IsTimed, IsDebuggedWith, IsNetlistWith, IsPairAlike, IsPairDifferent, Implements, IsImplementation, RunsWith, IsPairWith}
 use Rattle.kp_tool.specs.{Due.DueFor, Due.DueOfTiming, Read.ReadsVerilog, Retiring.IsInTime}
 use Rattle.kp_tool.specs.{Watched.agrees, Watched.differs, Watched.DueOfNetlist, Watched.of_other, Watched.of_job, Compared.jobs, Compared.DueOfModules}
@@ -126,6 +128,8 @@ waits_with job s ins trace acc same = record {
   plain = λ guesses. same ∙ rows-taking (machine_of job) s (start_hints job) ins acc (without_guess job guesses);
   timeline = λ guesses samples. same ∙ same-rows (machine_of job) s (start_hints job) ins acc (guessless job guesses samples);
   rows = same;
+  bypassed = never_waits job (are_paths job);
+  lost = λ ext. rollbacks_lose (job.stages.value - 1) ext trace.rows;
 }
 
 waits_pipe : HoldsOfPipe HasNoNeedlessStall

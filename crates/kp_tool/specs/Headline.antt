@@ -2,12 +2,13 @@
 -- about a job that violates no rule. Each fact but the last is about a run: its inputs, cycle by cycle, and the rows and values that are seen in it.
 -- That each register and each word of a file has the value of the sequential machine after as many instructions as its write stage has completed is
 -- `IsLegal` of kp_sched.
-use Rattle.std.specs.Prelude.{◌≡◌, ◌↔◌, ◌≤◌, ℕ, true, List, length, get_or, take, drop, None, Some, Ok}
+use Rattle.std.specs.Prelude.{◌≡◌, ◌↔◌, ◌-◌, ◌≤◌, ℕ, Bool, true, List, length, get_or, take, drop, sum_by, None, Some, Ok}
 use Rattle.kp_bits.specs.Word.{Word}
 use Rattle.kp_ast.specs.declared.tree.Job.{Job}
 use Rattle.kp_stage.specs.{Counts.summary_of, Start.start_of}
 use Rattle.kp_pipeline.specs.Machine.{State as MachineState}
-use Rattle.kp_pipeline.specs.{Claims.Moves, Claims.HighestStays, Pipeline.Inputs, Pipeline.pipeline_start, Rows.Trace, Rows.rows_from, Rows.taken}
+use Rattle.kp_pipeline.specs.{Claims.Moves, Claims.HighestStays, Pipeline.Inputs, Pipeline.pipeline_start, Rows.Row, Rows.Trace, Rows.rows_from, Rows.taken}
+use Rattle.kp_diagram.specs.Diagram.{account}
 use Rattle.kp_pipeline.specs.Timeline.{no_samples, start_hold, timeline_rows}
 use Rattle.kp_pipeline.specs.SpeculativeTimeline.{timeline_rows as path_rows, timeline_rows_taking}
 use Rattle.kp_pipeline.specs.RightPath.{NoWrongGuess, WaitsOnlyWhereItMust, first_moment}
@@ -27,7 +28,7 @@ use Rattle.kp_report.specs.{Runs.run_text, Line.totals_of, Line.totals_line}
 use Rattle.kp_gen.specs.Generated.{gen_job}
 use Rattle.kp_vcd.specs.{Held.held, Held.Changes, Dumps.own_run, Dumps.values_at, Dumps.vcd_dump, Dumps.vcd_text}
 use Rattle.kp_timing.specs.Lines.{timing_text}
-use Rattle.kp_tool.specs.{Read.ReadsVerilog, Watched.own_text, Retiring.IsInTime, Restarting.RestartsAlike}
+use Rattle.kp_tool.specs.{Bypassed.IsBypassed, Bypassed.NeverWaits, Read.ReadsVerilog, Watched.own_text, Retiring.IsInTime, Restarting.RestartsAlike}
 
 -- MOVING: in a cycle in which no stage is stalled from outside the highest full stage updates, and any n stall-free cycles of a machine of n
 -- stages retire an instruction. The highest full stage is never squashed. In any n * k cycles, and as many more as are stalled from outside, k
@@ -41,7 +42,9 @@ IsMoving job ins trace =
 -- operand isn't available yet. A wrong guess is detected in the first cycle in which it can be (`waits`). As long as no wrong guess is made, the rows
 -- are those of the timeline (`right`); so they always are if the job has no guesses, and then each sample value is recorded in the cycle in which it
 -- is read (`plain`). If it has no samples either, they are those of the timeline that is computed from instruction numbers and values of the sequential
--- machine alone (`timeline`). Whatever is guessed, they are the rows of the pipelined machine: `full`, `ue` and `back` of each cycle (`rows`). `From`: from a state s of registers and files, with the start values of the hints; otherwise from the job's start.
+-- machine alone (`timeline`). Whatever is guessed, they are the rows of the pipelined machine: `full`, `ue` and `back` of each cycle (`rows`). Where the table
+-- of `kpview paths` has only `bypass` for the reads without a guess, no stage waits for data (`bypassed`). Wrong guesses cost no more cycles than the rollbacks
+-- squash stages (`lost`). `From`: from a state s of registers and files, with the start values of the hints; otherwise from the job's start.
 pub record HasNoNeedlessStallFrom (job : Job) (s : MachineState) (ins : List Inputs) (trace : Trace) : Type 0 where
   pub waits : WaitsOnlyWhereItMust (machine_of job) s (taken (machine_of job) ins trace.rows) (first_moment s (start_hints job)) ins trace.rows
   pub right : NoWrongGuess (machine_of job) s (taken (machine_of job) ins trace.rows) (start_hints job) start_hold ins
@@ -49,6 +52,8 @@ pub record HasNoNeedlessStallFrom (job : Job) (s : MachineState) (ins : List Inp
   pub plain : (summary_of job).guesses ≡ 0 → trace.rows ≡ timeline_rows_taking (machine_of job) s no_samples start_hold ins
   pub timeline : (summary_of job).guesses ≡ 0 → (summary_of job).samples ≡ 0 → trace.rows ≡ timeline_rows (machine_of job) s start_hold ins
   pub rows : trace.rows ≡ rows_from (machine_of job) (pipeline_start s (start_hints job)) ins
+  pub bypassed : IsBypassed job → NeverWaits job
+  pub lost : (ext : ℕ → ℕ → Bool) → (account (job.stages.value - 1) ext trace.rows).guesses ≤ sum_by (λ (r : Row). r.back) trace.rows
 
 abbrev pub HasNoNeedlessStall : Job → List Inputs → Trace → Type 0
 HasNoNeedlessStall job ins trace = HasNoNeedlessStallFrom job (state_of job (start_of job)) ins trace
