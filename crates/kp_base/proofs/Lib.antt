@@ -4,4 +4,6 @@ pub mod Checks
 pub mod Collecting
 pub mod Bytes
 pub mod Pieces
+pub mod Writing
+pub mod Filling
 pub mod Splitting

@@ -7,6 +7,8 @@ pub mod Check
 pub mod Findings
 pub mod Causes
 pub mod Bytes
+pub mod Texts
+pub mod Writer
 pub mod Memory
 pub mod formers
 pub mod inner
