@@ -1,7 +1,7 @@
 // Values of 1 to 64 bits and the operations on them.
 ghost use Rattle.std.specs.Prelude.{◌≡◌, ◌+◌, ◌-◌, ◌^◌, ◌<◌, ◌≤◌, ◌%◌};
 ghost use Rattle.std.specs.Option.{SomeIff};
-ghost use Rattle.kp_bits.specs.Word.{IsWord, word, not_of, and_of, or_of, xor_of, add_of, sub_of, mul_of, eq_of, lt_of, shl_of, shr_of, mux_of, concat_of, slice_of, zext_of, sext_of};
+ghost use Rattle.kp_bits.specs.Word.{IsWord, word, not_of, mux_of, concat_of, slice_of, zext_of, sext_of};
 
 use std::marker::Model;
 
@@ -32,10 +32,18 @@ impl Bits {
     pub fn new(width: u8, value: u64) -> Option<Bits>
         ensures { SomeIff result (IsWord (word width value)) (word width value) }
     {
-        if width == 0 || width > 64 || value > greatest(width) {
+        if width == 0 || width > 64 || value > ones(width) {
             return None;
         }
         Some(Bits { width, value })
+    }
+
+    /// The word of this width and this value.
+    pub fn of(width: u8, value: u64) -> Bits
+        requires { IsWord (word width value) }
+        ensures { result ≡ word width value }
+    {
+        Bits { width, value }
     }
 
     /// The number of bits.
@@ -61,133 +69,7 @@ impl Bits {
     {
         Bits {
             width: self.width,
-            value: greatest(self.width) - self.value,
-        }
-    }
-
-    /// `a & b`.
-    pub fn and(self, b: Bits) -> Bits
-        requires { self.width ≡ b.width }
-        ensures { result ≡ and_of self b }
-    {
-        Bits {
-            width: self.width,
-            value: self.value & b.value,
-        }
-    }
-
-    /// `a | b`.
-    #[tactic(auto, using(std::proofs::lemmas::Nat::or_lt))]
-    pub fn or(self, b: Bits) -> Bits
-        requires { self.width ≡ b.width }
-        ensures { result ≡ or_of self b }
-    {
-        Bits {
-            width: self.width,
-            value: self.value | b.value,
-        }
-    }
-
-    /// `a ^ b`.
-    #[tactic(auto, using(std::proofs::lemmas::Nat::xor_lt))]
-    pub fn xor(self, b: Bits) -> Bits
-        requires { self.width ≡ b.width }
-        ensures { result ≡ xor_of self b }
-    {
-        Bits {
-            width: self.width,
-            value: self.value ^ b.value,
-        }
-    }
-
-    /// `a + b`, without the carry.
-    pub fn add(self, b: Bits) -> Bits
-        requires { self.width ≡ b.width }
-        ensures { result ≡ add_of self b }
-    {
-        Bits {
-            width: self.width,
-            value: low_bits(self.value.wrapping_add(b.value), self.width),
-        }
-    }
-
-    /// `a - b`, without the borrow.
-    #[tactic(auto, using(crate::proofs::Powers::sub_above, crate::proofs::Powers::sub_below))]
-    pub fn sub(self, b: Bits) -> Bits
-        requires { self.width ≡ b.width }
-        ensures { result ≡ sub_of self b }
-    {
-        Bits {
-            width: self.width,
-            value: if self.value >= b.value {
-                self.value - b.value
-            } else {
-                greatest(self.width) - b.value + self.value + 1
-            },
-        }
-    }
-
-    /// `a * b`, its lowest bits.
-    #[tactic(auto, using(crate::proofs::Powers::low_of))]
-    pub fn mul(self, b: Bits) -> Bits
-        requires { self.width ≡ b.width }
-        ensures { result ≡ mul_of self b }
-    {
-        Bits {
-            width: self.width,
-            value: low_bits(self.value.wrapping_mul(b.value), self.width),
-        }
-    }
-
-    /// `a == b`, one bit.
-    pub fn eq(self, b: Bits) -> Bits
-        requires { self.width ≡ b.width }
-        ensures { result ≡ eq_of self b }
-    {
-        Bits {
-            width: 1,
-            value: u64::from(self.value == b.value),
-        }
-    }
-
-    /// `a < b`, one bit.
-    pub fn lt(self, b: Bits) -> Bits
-        requires { self.width ≡ b.width }
-        ensures { result ≡ lt_of self b }
-    {
-        Bits {
-            width: 1,
-            value: u64::from(self.value < b.value),
-        }
-    }
-
-    /// `a << b`, where b may have any width.
-    #[tactic(auto, using(crate::proofs::Powers::low_of))]
-    pub fn shl(self, b: Bits) -> Bits
-        ensures { result ≡ shl_of self b }
-    {
-        let width = self.width;
-        if b.value >= u64::from(width) {
-            return Bits { width, value: 0 };
-        }
-        Bits {
-            width,
-            value: low_bits(self.value << b.value, width),
-        }
-    }
-
-    /// `a >> b`, where b may have any width.
-    pub fn shr(self, b: Bits) -> Bits
-        ensures { result ≡ shr_of self b }
-    {
-        let value = if b.value < u64::from(self.width) {
-            self.value >> b.value
-        } else {
-            0
-        };
-        Bits {
-            width: self.width,
-            value,
+            value: ones(self.width) - self.value,
         }
     }
 
@@ -245,8 +127,8 @@ impl Bits {
         requires at_most { width ≤ 64 }
         ensures { result ≡ sext_of self width }
     {
-        let value = if self.value > greatest(self.width) / 2 {
-            self.value + (greatest(width) - greatest(self.width))
+        let value = if self.value > ones(self.width) / 2 {
+            self.value + (ones(width) - ones(self.width))
         } else {
             self.value
         };
@@ -254,9 +136,10 @@ impl Bits {
     }
 }
 
-// The greatest number of this width.
+/// The number with all bits of this width, which is the greatest one.
+#[inline]
 #[tactic(auto, using(crate::proofs::Powers::mask_of))]
-fn greatest(width: u8) -> u64
+pub fn ones(width: u8) -> u64
     requires positive { 1 ≤ width }
     requires at_most { width ≤ 64 }
     ensures { result ≡ 2 ^ width - 1 }
@@ -264,12 +147,14 @@ fn greatest(width: u8) -> u64
     u64::MAX >> (64 - width)
 }
 
-// The lowest bits of a number.
-#[tactic(auto, using(std::proofs::lemmas::Nat::and_mask))]
-fn low_bits(n: u64, width: u8) -> u64
+/// The lowest bits of a number.
+#[inline]
+#[tactic(auto, using(std::proofs::lemmas::Nat::and_mask, std::proofs::lemmas::Nat::pow_pos))]
+pub fn low_bits(n: u64, width: u8) -> u64
     requires positive { 1 ≤ width }
     requires at_most { width ≤ 64 }
-    ensures { result ≡ n % 2 ^ width }
+    ensures value { result ≡ n % 2 ^ width }
+    ensures fits { result < 2 ^ width }
 {
-    n & greatest(width)
+    n & ones(width)
 }

@@ -2,11 +2,13 @@
 //!
 //! Each function does nothing: its contract is the law, for all words and for all byte strings.
 
-ghost use Rattle.std.specs.Prelude.{◌≡◌, ◌↔◌, ◌⊎◌, ℕ, ◌+◌, ◌-◌, ◌%◌, ◌^◌, ◌<◌, ◌≤◌, min, max, List, Ok, Err, Some, IfOk, codes};
+ghost use Rattle.std.specs.Prelude.{◌≡◌, ◌↔◌, ◌⊎◌, ℕ, ◌+◌, ◌-◌, ◌%◌, ◌^◌, ◌<◌, ◌≤◌, min, max, false, true, List, Ok, Err, Some, IfOk, codes};
 ghost use Rattle.std.specs.Int.{bit_at};
 ghost use Rattle.kp_bits.specs.declared.literal.Literal.{Literal};
 ghost use Rattle.kp_bits.specs.declared.literal.LiteralFault.{LiteralFault};
 ghost use Rattle.kp_bits.specs.Word.{Word, word, IsWord, signed_of, not_of, and_of, or_of, xor_of, add_of, sub_of, mul_of, eq_of, lt_of, shl_of, shr_of, mux_of, concat_of, slice_of, zext_of, sext_of};
+ghost use Rattle.kp_bits.specs.declared.operator.BinOp.{BinOp};
+ghost use Rattle.kp_bits.specs.Operators.{is_shift, result_width, commutes, masking_zero, on_words, binary_of};
 ghost use Rattle.kp_bits.specs.Literals.{IsLiteral, numeral_value, number_of, literal_within, literal_of, fit_of};
 ghost use Rattle.kp_bits.specs.Spelling.{decimal_digits, spelling};
 
@@ -30,6 +32,19 @@ pub fn operations_give_words()
     ensures slice { (a : Word) (hi lo : ℕ) → IsWord a → lo ≤ hi → hi < a.width → IsWord (slice_of a hi lo) }
     ensures zext { (a : Word) (width : ℕ) → IsWord a → a.width ≤ width → width ≤ 64 → IsWord (zext_of a width) }
     ensures sext { (a : Word) (width : ℕ) → IsWord a → a.width ≤ width → width ≤ 64 → IsWord (sext_of a width) }
+{}
+
+/// What the table of operators says of their results: they are words, of `result_width`; operands change places where
+/// `commutes` says so; the zero of `&` and `|` is the result, and its complement makes the other operand the result; and
+/// `on_words` is the value.
+#[tactic(auto, using(crate::proofs::Operators::binary_word, crate::proofs::Operators::binary_width, crate::proofs::Operators::commuted, crate::proofs::Operators::masked, crate::proofs::Operators::unmasked, crate::proofs::Operators::computed))]
+pub fn operators()
+    ensures word { (op : BinOp) (a b : Word) → IsWord a → IsWord b → (is_shift op ≡ false → a.width ≡ b.width) → IsWord (binary_of op a b) }
+    ensures width { (op : BinOp) (a b : Word) → (binary_of op a b).width ≡ result_width op a.width }
+    ensures swap { (op : BinOp) (a b : Word) → commutes op ≡ true → a.width ≡ b.width → binary_of op a b ≡ binary_of op b a }
+    ensures zero { (op : BinOp) (a b : Word) → IsWord b → a.width ≡ b.width → masking_zero op a.width ≡ Some a.value → binary_of op a b ≡ a }
+    ensures unit { (op : BinOp) (a b : Word) (z : ℕ) → IsWord b → a.width ≡ b.width → masking_zero op a.width ≡ Some z → a.value + z ≡ 2 ^ a.width - 1 → binary_of op a b ≡ b }
+    ensures on_words { (op : BinOp) (a b : Word) (mask : ℕ) → IsWord a → IsWord b → (is_shift op ≡ false → a.width ≡ b.width) → mask ≡ 2 ^ a.width - 1 → on_words op a.value b.value a.width mask ≡ (binary_of op a b).value }
 {}
 
 /// A word and its complement add up to the greatest number, and the complement of the complement is the word.

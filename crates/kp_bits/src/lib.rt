@@ -8,6 +8,6 @@ mod literal;
 mod operator;
 mod spelling;
 
-pub use bits::Bits;
+pub use bits::{Bits, low_bits, ones};
 pub use literal::{Literal, LiteralFault, read_literal, read_number, read_numeral};
 pub use operator::BinOp;
