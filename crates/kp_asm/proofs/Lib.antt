@@ -1,3 +1,4 @@
+pub mod AnyCase
 pub mod Skips
 pub mod NoTokens
 pub mod Lines

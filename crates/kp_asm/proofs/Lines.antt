@@ -1,8 +1,9 @@
 -- The first line of what is left.
 use Rattle.std.proofs.Common.{◌≡◌, ◌∙◌, ℕ, suc, ◌+◌, ◌≤◌, ◌<◌, List, [], ◌∷◌, length, take, drop, Bool, true, false, cond, refl, ap, sym, arith}
 use Rattle.std.specs.Prelude.{Result, Ok, Err}
-use Rattle.kp_base.specs.{Check.Gives, Check.bind, declared.refusal.Refusal.Refusal, declared.refusal.Refused.Refused}
-use Rattle.kp_base.specs.declared.refusal.Refused.TheVariants.{Rule, NoMemory}
+use Rattle.kp_base.specs.Check.{bind}
+use Rattle.kp_asm.specs.{Faults.ProgramFinding, Faults.Reads, declared.fault.Misread.Misread}
+use Rattle.kp_asm.specs.declared.fault.Misread.TheVariants as misread
 use Rattle.kp_asm.specs.inner.Listing.{line_length}
 use Rattle.kp_asm.specs.Program.{Listing, is_line_end, lines_of, prepend, line_read, lines_read}
 use Rattle.kp_asm.specs.declared.token.Token.{Token}
@@ -58,7 +59,7 @@ module _ (text : List ℕ) (p : Listing) (tokens line after : List Token) (n : �
   line_ok next e = sym (first_line ∙ ap (λ r. bind r (λ q. lines_read text q (lines_of after))) e)
 
   -- a line that violates one
-  pub line_err : {T U : Type 0} (value : T → Listing) (other : U → Listing) (e : Refused) (whole : Result Listing Refusal) → lines_read text p (lines_of tokens) ≡ whole
-      → Gives {T = T} (Err e) (line_read text p line) value → Gives {T = U} (Err e) whole other
-  line_err value other (Rule refusal) whole same gives = sym same ∙ first_line ∙ ap (λ r. bind r (λ q. lines_read text q (lines_of after))) gives
-  line_err value other NoMemory whole same gives = tt
+  pub line_err : {T U : Type 0} (value : T → Listing) (other : U → Listing) (e : Misread) (whole : Result Listing ProgramFinding) → lines_read text p (lines_of tokens) ≡ whole
+      → Reads {T = T} (Err e) (line_read text p line) value → Reads {T = U} (Err e) whole other
+  line_err value other (misread.Found finding) whole same gives = sym same ∙ first_line ∙ ap (λ r. bind r (λ q. lines_read text q (lines_of after))) gives
+  line_err value other misread.NoMemory whole same gives = tt

@@ -1,8 +1,7 @@
 -- Skipping what starts at the front of the bytes that are left.
 use Rattle.std.proofs.Common.{◌≡◌, ◌∙◌, ℕ, zero, suc, ◌+◌, ◌-◌, ◌≤◌, List, [], ◌∷◌, ◌++◌, length, take, drop, get_or, refl, ap, sym, arith, Result}
 use Rattle.std.proofs.lemmas.List.{take_all}
-use Rattle.kp_base.specs.declared.refusal.Refusal.{Refusal}
-use Rattle.kp_asm.specs.{Tokens.tokens_from, Tokens.after_front, Tokens.front_of, Tokens.token_at, declared.front.Front.Front, declared.token.Token.Token}
+use Rattle.kp_asm.specs.{Faults.ProgramFinding, Tokens.tokens_from, Tokens.after_front, Tokens.front_of, Tokens.token_at, declared.front.Front.Front, declared.token.Token.Token}
 use Rattle.kp_asm.specs.declared.token.TokenKind.{TokenKind}
 use Rattle.kp_asm.specs.declared.front.Front.TheVariants as fronts
 
@@ -16,7 +15,7 @@ skip text tokens start (suc n) (b ∷ rest) h =
     rw e (skip text tokens (start + 1) n rest (omega arith))
 
 module _ (text : List ℕ) (tokens : List Token) (start : ℕ) where
-  abbrev go_on : List ℕ → Front → Result (List Token) Refusal
+  abbrev go_on : List ℕ → Front → Result (List Token) ProgramFinding
   go_on after front = after_front text tokens start front (λ more inside. tokens_from text more (start + 1) inside after)
 
   past : (more : List Token) (inside : ℕ) (after left : List ℕ) → inside ≤ length after → left ≡ drop inside after

@@ -1,3 +1,4 @@
+pub mod Faults
 pub mod Tokens
 pub mod Numbers
 pub mod Mnemonics

@@ -1,13 +1,15 @@
 -- The mnemonics, the form of each, and the requirements on a token.
-use Rattle.std.specs.Prelude.{ℕ, List, [], ◌∷◌, Option, Some, None, Bool, true, false, not, if◌then◌else◌, codes, find, map, option_map}
-use Rattle.std.specs.Str.{bytes_eq}
-use Rattle.kp_base.specs.{First.first, Check.Answer}
-use Rattle.kp_asm.specs.{Tokens.bytes_of, Tokens.broken, Numbers.is_register, Numbers.is_low, Numbers.in_range, declared.token.Token.Token}
-use Rattle.kp_asm.specs.declared.{token.TokenKind.TokenKind, mnemonic.Mnemonic.Mnemonic, mnemonic.Piece.Piece, operands.Rule.Rule}
+use Rattle.std.specs.Prelude.{ℕ, List, [], ◌∷◌, Option, Some, None, Bool, true, false, not, if◌then◌else◌, codes, find, map}
+use Rattle.std.specs.List.{list_any}
+use Rattle.std.specs.Str.{bytes_eq, str_eq_ignore_ascii_case}
+use Rattle.kp_base.specs.First.{first}
+use Rattle.kp_asm.specs.{Faults.ProgramFinding, Faults.broken, Tokens.bytes_of, Numbers.is_register, Numbers.is_low, Numbers.in_range, declared.token.Token.Token}
+use Rattle.kp_asm.specs.declared.{token.TokenKind.TokenKind, mnemonic.Mnemonic.Mnemonic, mnemonic.Piece.Piece, operands.Rule.Rule, fault.ProgramFault.ProgramFault}
 use Rattle.kp_asm.specs.declared.token.TokenKind.TheVariants as kinds
 use Rattle.kp_asm.specs.declared.mnemonic.Mnemonic.TheVariants as mnemonics
 use Rattle.kp_asm.specs.declared.mnemonic.Piece.TheVariants as pieces
 use Rattle.kp_asm.specs.declared.operands.Rule.TheVariants as rules
+use Rattle.kp_asm.specs.declared.fault.ProgramFault.TheVariants as faults
 
 -- the text of a mnemonic
 abbrev pub spelling : Mnemonic → List ℕ
@@ -48,6 +50,10 @@ all_mnemonics =
 -- the mnemonic with this text
 abbrev pub mnemonic_of : List ℕ → Option Mnemonic
 mnemonic_of run = find (λ m. bytes_eq run (spelling m)) all_mnemonics
+
+-- it is a mnemonic, if upper and lower case are taken as the same
+abbrev pub is_mnemonic_in_any_case : List ℕ → Bool
+is_mnemonic_in_any_case run = list_any (λ m. str_eq_ignore_ascii_case (spelling m) run) all_mnemonics
 
 -- `rd, ra, rb`
 abbrev pub three_registers : List Piece
@@ -121,23 +127,40 @@ breaks rules.Form piece kind bytes = not (fits piece kind bytes)
 breaks rules.Register piece kind bytes = not (has_register piece bytes)
 breaks rules.Range piece kind bytes = not (has_range piece bytes)
 
--- A3, A4 and A5
-abbrev pub number_of_rule : Rule → ℕ
-number_of_rule rules.Form = 3
-number_of_rule rules.Register = 4
-number_of_rule rules.Range = 5
-
--- the first token that violates the rule
-abbrev pub first_breaking : List ℕ → Rule → List Piece → List Token → Option Token
-first_breaking text rule [] tokens = None
-first_breaking text rule (piece ∷ more) [] = None
-first_breaking text rule (piece ∷ more) (token ∷ tokens) =
-    if breaks rule piece token.kind (bytes_of text token) then Some token else first_breaking text rule more tokens
+-- A3, A4 or A5, of the operand that this piece of the form requires
+abbrev pub operand_fault : Rule → Mnemonic → Piece → ProgramFault
+operand_fault rules.Form mnemonic wanted = faults.WrongOperand mnemonic wanted
+operand_fault rules.Register mnemonic wanted = faults.NoRegister
+operand_fault rules.Range mnemonic wanted = faults.OutOfRange mnemonic wanted
 
 -- the rule is reported at the first token that violates it
-abbrev pub operand_answer : List ℕ → List Piece → List Token → Rule → Answer
-operand_answer text wanted tokens rule = option_map (λ token. broken text (number_of_rule rule) token.start) (first_breaking text rule wanted tokens)
+abbrev pub first_breaking : List ℕ → Mnemonic → Rule → List Piece → List Token → Option ProgramFinding
+first_breaking text mnemonic rule [] tokens = None
+first_breaking text mnemonic rule (piece ∷ more) [] = None
+first_breaking text mnemonic rule (piece ∷ more) (token ∷ tokens) =
+    if breaks rule piece token.kind (bytes_of text token) then Some (broken text (operand_fault rule mnemonic piece) token.start)
+    else first_breaking text mnemonic rule more tokens
 
 -- the first violated rule of the operands: A3 is checked on all tokens of the line, then A4, then A5
-abbrev pub broken_operand : List ℕ → List Piece → List Token → Answer
-broken_operand text wanted tokens = first (map (operand_answer text wanted tokens) (rules.Form ∷ rules.Register ∷ rules.Range ∷ []))
+abbrev pub broken_operand : List ℕ → Mnemonic → List Token → Option ProgramFinding
+broken_operand text mnemonic tokens =
+    first (map (λ rule. first_breaking text mnemonic rule (form mnemonic) tokens) (rules.Form ∷ rules.Register ∷ rules.Range ∷ []))
+
+abbrev pub is_colon : TokenKind → Bool
+is_colon kinds.Colon = true
+is_colon kind = false
+
+-- the tokens begin with a `:`
+abbrev pub begins_with_colon : List Token → Bool
+begins_with_colon (token ∷ tokens) = is_colon token.kind
+begins_with_colon [] = false
+
+-- A2, of a name that is no mnemonic and the tokens after it
+abbrev pub name_fault : List ℕ → List Token → ProgramFault
+name_fault run operands =
+    if begins_with_colon operands then faults.SecondLabel else if is_mnemonic_in_any_case run then faults.Capitals else faults.NoMnemonic
+
+-- A2, of a token that is no mnemonic
+abbrev pub misnamed : TokenKind → List ℕ → List Token → ProgramFault
+misnamed kinds.Name run operands = name_fault run operands
+misnamed kind run operands = faults.NoInstruction

@@ -1,13 +1,14 @@
 -- The contents of a program, line by line, and the words that it denotes.
-use Rattle.std.specs.Prelude.{ℕ, ◌+◌, ◌*◌, ◌==◌, nat_lt, nat_eq, List, [], ◌∷◌, ◌++◌, Bool, true, false, if◌then◌else◌, Option, Some, None, is_some, unwrap_or, slice_get, Result, Ok, Err}
+use Rattle.std.specs.Prelude.{ℕ, ◌+◌, ◌*◌, ◌==◌, nat_lt, nat_eq, List, [], ◌∷◌, ◌++◌, Bool, true, false, if◌then◌else◌, Option, Some, None, is_some, option_map, unwrap_or, slice_get, Result, Ok, Err}
 use Rattle.std.specs.{Map.lookup, Cmp.Lexicographic.pointwise}
 use Rattle.kp_base.specs.{Check.after, Check.bind, Check.unless, declared.refusal.Refusal.Refusal}
-use Rattle.kp_asm.specs.{Tokens.bytes_of, Tokens.broken, Tokens.tokens_of, Mnemonics.mnemonic_of, Mnemonics.form, Mnemonics.broken_operand, Words.word_of}
-use Rattle.kp_asm.specs.declared.{token.Token.Token, token.TokenKind.TokenKind, mnemonic.Mnemonic.Mnemonic, item.Label.Label, item.Instruction.Instruction}
+use Rattle.kp_asm.specs.{Faults.ProgramFinding, Faults.broken, Faults.place_in, Faults.refusal_of, Tokens.bytes_of, Tokens.tokens_of, Mnemonics.mnemonic_of, Mnemonics.misnamed, Mnemonics.broken_operand, Words.word_of}
+use Rattle.kp_asm.specs.declared.{fault.ProgramFault.ProgramFault, token.Token.Token, token.TokenKind.TokenKind, mnemonic.Mnemonic.Mnemonic, item.Label.Label, item.Instruction.Instruction}
 use Rattle.kp_asm.specs.declared.item.Item.{Item}
 use Rattle.kp_asm.specs.declared.token.TokenKind.TheVariants as kinds
 use Rattle.kp_asm.specs.declared.mnemonic.Mnemonic.TheVariants as mnemonics
 use Rattle.kp_asm.specs.declared.item.Item.TheVariants as items
+use Rattle.kp_asm.specs.declared.fault.ProgramFault.TheVariants as faults
 
 -- the token ends a line
 abbrev pub is_line_end : TokenKind → Bool
@@ -47,17 +48,17 @@ with_instruction p m t operands = record {
 }
 
 -- A7: there are at most 1,024 words
-abbrev pub with_room : List ℕ → Listing → Token → Listing → Result Listing Refusal
-with_room text p t next = unless (nat_lt p.count 1024) (broken text 7 t.start) (Ok next)
+abbrev pub with_room : List ℕ → Listing → Token → Listing → Result Listing ProgramFinding
+with_room text p t next = unless (nat_lt p.count 1024) (broken text faults.TooMany t.start) (Ok next)
 
 -- A2, then the rules of the operands, then A7
-abbrev pub mnemonic_read : List ℕ → Listing → Token → List Token → Option Mnemonic → Result Listing Refusal
-mnemonic_read text p t operands None = Err (broken text 2 t.start)
+abbrev pub mnemonic_read : List ℕ → Listing → Token → List Token → Option Mnemonic → Result Listing ProgramFinding
+mnemonic_read text p t operands None = Err (broken text (misnamed t.kind (bytes_of text t) operands) t.start)
 mnemonic_read text p t operands (Some m) =
-    after (broken_operand text (form m) operands) (with_room text p t (with_instruction p m t operands))
+    after (broken_operand text m operands) (with_room text p t (with_instruction p m t operands))
 
 -- at most one instruction
-abbrev pub instruction_read : List ℕ → Listing → List Token → Result Listing Refusal
+abbrev pub instruction_read : List ℕ → Listing → List Token → Result Listing ProgramFinding
 instruction_read text p [] = Ok p
 instruction_read text p (t ∷ operands) =
     if is_line_end t.kind then Ok p else mnemonic_read text p t operands (mnemonic_of (bytes_of text t))
@@ -68,13 +69,13 @@ declares kinds.Name kinds.Colon = true
 declares a b = false
 
 -- at most one label, and then at most one instruction
-abbrev pub line_read : List ℕ → Listing → List Token → Result Listing Refusal
+abbrev pub line_read : List ℕ → Listing → List Token → Result Listing ProgramFinding
 line_read text p (a ∷ b ∷ rest) =
     if declares a.kind b.kind then instruction_read text (with_label p a) rest else instruction_read text p (a ∷ b ∷ rest)
 line_read text p line = instruction_read text p line
 
 -- the lines in order
-abbrev pub lines_read : List ℕ → Listing → List (List Token) → Result Listing Refusal
+abbrev pub lines_read : List ℕ → Listing → List (List Token) → Result Listing ProgramFinding
 lines_read text p [] = Ok p
 lines_read text p (line ∷ lines) = bind (line_read text p line) (λ next. lines_read text next lines)
 
@@ -111,12 +112,12 @@ abbrev pub used_label : Instruction → Option Token
 used_label i = label_among i.mnemonic i.first i.second
 
 -- A6: a used label is declared
-abbrev pub address_of : List ℕ → Token → Option Label → Result ℕ Refusal
+abbrev pub address_of : List ℕ → Token → Option Label → Result ℕ ProgramFinding
 address_of text t (Some label) = Ok label.address
-address_of text t None = Err (broken text 6 t.start)
+address_of text t None = Err (broken text faults.LabelNowhere t.start)
 
 -- the address of the label that is used, or 0 if none is
-abbrev pub target_of : List ℕ → Labels → Option Token → Result ℕ Refusal
+abbrev pub target_of : List ℕ → Labels → Option Token → Result ℕ ProgramFinding
 target_of text labels None = Ok 0
 target_of text labels (Some t) = address_of text t (declared labels (bytes_of text t))
 
@@ -125,20 +126,20 @@ abbrev pub word_at : List ℕ → Instruction → ℕ → ℕ
 word_at text i target =
     word_of i.mnemonic (bytes_of text i.first) (bytes_of text i.second) (bytes_of text i.third) target i.address
 
--- A6: a declaration is the first one of its name
-abbrev pub is_at : Option Label → ℕ → Bool
-is_at (Some label) start = label.name.start == start
-is_at None start = false
+-- A6: a declaration at this offset is the first one of its name
+abbrev pub repeated : List ℕ → ℕ → Option Label → Option ProgramFault
+repeated text start (Some first) = if first.name.start == start then None else Some (faults.LabelAgain (place_in text first.name.start))
+repeated text start None = Some faults.LabelNowhere
 
 -- the words so far, and that of one more item
-abbrev pub item_read : List ℕ → Labels → List ℕ → Item → Result (List ℕ) Refusal
+abbrev pub item_read : List ℕ → Labels → List ℕ → Item → Result (List ℕ) ProgramFinding
 item_read text labels words (items.Label label) =
-    unless (is_at (declared labels (bytes_of text label.name)) label.name.start) (broken text 6 label.name.start) (Ok words)
+    after (option_map (λ fault. broken text fault label.name.start) (repeated text label.name.start (declared labels (bytes_of text label.name)))) (Ok words)
 item_read text labels words (items.Instruction i) =
     bind (target_of text labels (used_label i)) (λ target. Ok (words ++ word_at text i target ∷ []))
 
 -- the items in order
-abbrev pub words_from : List ℕ → Labels → List ℕ → List Item → Result (List ℕ) Refusal
+abbrev pub words_from : List ℕ → Labels → List ℕ → List Item → Result (List ℕ) ProgramFinding
 words_from text labels words [] = Ok words
 words_from text labels words (item ∷ more) = bind (item_read text labels words item) (λ next. words_from text labels next more)
 
@@ -146,9 +147,17 @@ words_from text labels words (item ∷ more) = bind (item_read text labels words
 abbrev pub nothing_read : Listing
 nothing_read = record { items = []; count = 0 }
 
--- The words of a text, or the first rule that it violates: all tokens are checked first (A1), then the lines in text order (A2 to A5 and A7), and
+-- THE WORDS of a text, or the first violation in it: all tokens are checked first (A1), then the lines in text order (A2 to A5 and A7), and
 -- then the labels in text order (A6).
-unfoldable pub assembled : List ℕ → Result (List ℕ) Refusal
-assembled text =
+unfoldable pub program_of : List ℕ → Result (List ℕ) ProgramFinding
+program_of text =
     bind (tokens_of text) (λ tokens.
     bind (lines_read text nothing_read (lines_of tokens)) (λ listing. words_from text (labels_from text [] listing.items) [] listing.items))
+
+abbrev pub verdict_of : {X : Type 0} → Result X ProgramFinding → Result X Refusal
+verdict_of (Ok x) = Ok x
+verdict_of (Err finding) = Err (refusal_of finding)
+
+-- the words of a text, or the first rule that it violates
+unfoldable pub assembled : List ℕ → Result (List ℕ) Refusal
+assembled text = verdict_of (program_of text)

@@ -1,10 +1,11 @@
 -- The tokens of an assembler program.
-use Rattle.std.specs.Prelude.{ℕ, zero, suc, ◌+◌, ◌==◌, ◌||◌, ◌&&◌, nat_lt, nat_le, not, List, [], ◌∷◌, ◌++◌, drop, take, Bool, false, if◌then◌else◌, Result, Ok, Err}
-use Rattle.kp_base.specs.{Characters.is_digit, Characters.is_letter, Characters.is_word, Characters.run_length, Place.place_after, Refusal.a_rule}
-use Rattle.kp_base.specs.declared.refusal.Refusal.{Refusal}
+use Rattle.std.specs.Prelude.{ℕ, zero, suc, ◌+◌, ◌==◌, ◌||◌, ◌&&◌, nat_lt, nat_le, not, max, List, [], ◌∷◌, ◌++◌, drop, take, Bool, false, if◌then◌else◌, Result, Ok, Err}
+use Rattle.kp_base.specs.Characters.{is_digit, is_letter, is_word, run_length}
+use Rattle.kp_asm.specs.Faults.{ProgramFinding, broken}
 use Rattle.kp_asm.specs.declared.{token.Token.Token, token.TokenKind.TokenKind, front.Front.Front}
 use Rattle.kp_asm.specs.declared.token.TokenKind.TheVariants as kinds
 use Rattle.kp_asm.specs.declared.front.Front.TheVariants as fronts
+use Rattle.kp_asm.specs.declared.fault.ProgramFault.TheVariants as faults
 
 -- space, tab and carriage return; a line feed is a token
 abbrev pub is_layout : ℕ → Bool
@@ -25,7 +26,7 @@ begins_hex _ = false
 
 -- a name has at most 64 bytes
 abbrev pub name : ℕ → Front
-name more = if nat_lt 63 more then fronts.Broken else fronts.Token kinds.Name more
+name more = if nat_lt 63 more then fronts.Broken (faults.LongName (more + 1)) else fronts.Token kinds.Name more
 
 -- the number of bytes of a number after its first digit: `0x` and hexadecimal digits, or decimal digits
 abbrev pub number_more : ℕ → List ℕ → ℕ
@@ -33,12 +34,12 @@ number_more first rest = if first == 48 && begins_hex rest then run_length is_he
 
 -- a `-` and decimal digits
 abbrev pub negative : ℕ → Front
-negative more = if more == 0 then fronts.Broken else fronts.Token kinds.Number more
+negative more = if more == 0 then fronts.Broken faults.NoDigits else fronts.Token kinds.Number more
 
 -- `.word`
 abbrev pub dot_word : List ℕ → Front
-dot_word (a ∷ b ∷ c ∷ d ∷ rest) = if a == 119 && b == 111 && c == 114 && d == 100 then fronts.Token kinds.DotWord 4 else fronts.Broken
-dot_word _ = fronts.Broken
+dot_word (a ∷ b ∷ c ∷ d ∷ rest) = if a == 119 && b == 111 && c == 114 && d == 100 then fronts.Token kinds.DotWord 4 else fronts.Broken faults.NoDirective
+dot_word _ = fronts.Broken faults.NoDirective
 
 -- a byte that is a token of its own
 abbrev pub mark : ℕ → Front
@@ -48,7 +49,7 @@ mark byte =
     else if byte == 40 then fronts.Token kinds.Open 0
     else if byte == 41 then fronts.Token kinds.Close 0
     else if byte == 58 then fronts.Token kinds.Colon 0
-    else fronts.Broken
+    else fronts.Broken (faults.NoToken byte)
 
 -- What starts with this byte, given the bytes after it: layout, a comment, a token, or nothing.
 abbrev pub front_of : ℕ → List ℕ → Front
@@ -65,33 +66,42 @@ front_of first rest =
 abbrev pub more_of : Front → ℕ
 more_of (fronts.Gap more) = more
 more_of (fronts.Token kind more) = more
-more_of fronts.Broken = 0
-
--- rule A of this number, violated at this offset
-abbrev pub broken : List ℕ → (number offset : ℕ) → Refusal
-broken text number offset = a_rule number (place_after (take offset text))
+more_of (fronts.Broken fault) = 0
 
 -- a token with this offset, kind and length
 abbrev pub token_at : ℕ → TokenKind → ℕ → Token
 token_at start kind len = record { start = start; len = len; kind = kind }
 
 -- the rest after a front: `go` receives the tokens and the number of bytes after the first
-abbrev pub after_front : List ℕ → List Token → ℕ → Front → (List Token → ℕ → Result (List Token) Refusal) → Result (List Token) Refusal
+abbrev pub after_front : List ℕ → List Token → ℕ → Front → (List Token → ℕ → Result (List Token) ProgramFinding) → Result (List Token) ProgramFinding
 after_front text tokens start (fronts.Gap more) go = go tokens more
 after_front text tokens start (fronts.Token kind more) go = go (tokens ++ token_at start kind (more + 1) ∷ []) more
-after_front text tokens start fronts.Broken go = Err (broken text 1 start)
+after_front text tokens start (fronts.Broken fault) go = Err (broken text fault start)
 
 -- From the tokens so far, the offset, the number of bytes that still belong to what started before, and the bytes that are left. The end of the text
 -- ends a line too. A1 is violated where no token starts, or a name is too long.
-abbrev pub tokens_from : List ℕ → List Token → ℕ → ℕ → List ℕ → Result (List Token) Refusal
+abbrev pub tokens_from : List ℕ → List Token → ℕ → ℕ → List ℕ → Result (List Token) ProgramFinding
 tokens_from text tokens start inside [] = Ok (tokens ++ token_at start kinds.LineEnd 0 ∷ [])
 tokens_from text tokens start (suc inside) (byte ∷ rest) = tokens_from text tokens (start + 1) inside rest
 tokens_from text tokens start zero (byte ∷ rest) = after_front text tokens start (front_of byte rest) (λ more inside. tokens_from text more (start + 1) inside rest)
 
 -- the tokens of a text, or the first byte that violates A1
-abbrev pub tokens_of : List ℕ → Result (List Token) Refusal
+abbrev pub tokens_of : List ℕ → Result (List Token) ProgramFinding
 tokens_of text = tokens_from text [] 0 0 text
 
 -- the bytes of a token
 abbrev pub bytes_of : List ℕ → Token → List ℕ
 bytes_of text token = take token.len (drop token.start text)
+
+-- how long the token is that starts at the head of a text with this front: none at the end of a line. Where none can start, the letters and digits there,
+-- and one byte at least.
+abbrev pub length_of : List ℕ → Front → ℕ
+length_of text (fronts.Token kinds.LineEnd more) = 0
+length_of text (fronts.Token kind more) = more + 1
+length_of text (fronts.Broken fault) = max 1 (run_length is_word text)
+length_of text (fronts.Gap more) = 0
+
+-- HOW LONG THE TOKEN is that a text begins with.
+abbrev pub token_length : List ℕ → ℕ
+token_length [] = 0
+token_length (first ∷ rest) = length_of (first ∷ rest) (front_of first rest)

@@ -1,8 +1,9 @@
 // What starts with a byte of a text.
-ghost use Rattle.std.specs.Prelude.{◌≡◌, ◌≤◌, ◌<◌, length, drop};
+ghost use Rattle.std.specs.Prelude.{◌≡◌, ◌≤◌, ◌<◌, ◌^◌, length, drop};
 ghost use Rattle.kp_base.specs.Characters.{is_digit, run_length};
-ghost use Rattle.kp_asm.specs.Tokens.{is_layout, is_hex, is_in_line, begins_hex, name, number_more, negative, dot_word, mark, front_of, more_of};
+ghost use Rattle.kp_asm.specs.Tokens.{is_layout, is_hex, is_in_line, begins_hex, name, number_more, negative, dot_word, mark, front_of, more_of, token_length};
 
+use crate::fault::ProgramFault;
 use crate::token::TokenKind;
 use kp_base::{is_digit, is_letter, run_length, word_length};
 
@@ -13,7 +14,7 @@ pub enum Front {
     Gap(usize),
     Token(TokenKind, usize),
     /// No token starts here, or a name is too long.
-    Broken,
+    Broken(ProgramFault),
 }
 
 /// What starts with the byte `first`, which is followed by `rest`.
@@ -35,6 +36,21 @@ pub fn read_front(first: u8, rest: &[u8]) -> Front
         dot_word(rest)
     } else {
         mark(first)
+    }
+}
+
+/// How long the token is that a text begins with, 0 at the end of a line. Where none can start, it is the letters and digits there, and one byte at least.
+pub fn token_length(text: &[u8]) -> usize
+    ensures value { result ≡ token_length text.now }
+    ensures within { result ≤ length text.now }
+{
+    let [first, rest @ ..] = text else {
+        return 0;
+    };
+    match read_front(*first, rest) {
+        Front::Token(TokenKind::LineEnd, _) | Front::Gap(_) => 0,
+        Front::Token(_, more) => more + 1,
+        Front::Broken(_) => word_length(text).max(1),
     }
 }
 
@@ -77,11 +93,12 @@ fn hex_length(text: &[u8]) -> usize
 
 // A name, unless it is too long.
 fn name(more: usize) -> Front
+    requires { more < 2 ^ 63 }
     ensures value { result ≡ name more }
     ensures within { more_of result ≤ more }
 {
     if more > 63 {
-        Front::Broken
+        Front::Broken(ProgramFault::LongName { length: more + 1 })
     } else {
         Front::Token(TokenKind::Name, more)
     }
@@ -109,7 +126,7 @@ fn negative(more: usize) -> Front
     ensures within { more_of result ≤ more }
 {
     if more == 0 {
-        Front::Broken
+        Front::Broken(ProgramFault::NoDigits)
     } else {
         Front::Token(TokenKind::Number, more)
     }
@@ -123,7 +140,7 @@ fn dot_word(rest: &[u8]) -> Front
     if let [b'w', b'o', b'r', b'd', ..] = rest {
         Front::Token(TokenKind::DotWord, 4)
     } else {
-        Front::Broken
+        Front::Broken(ProgramFault::NoDirective)
     }
 }
 
@@ -138,6 +155,6 @@ fn mark(byte: u8) -> Front
         b'(' => Front::Token(TokenKind::Open, 0),
         b')' => Front::Token(TokenKind::Close, 0),
         b':' => Front::Token(TokenKind::Colon, 0),
-        _ => Front::Broken,
+        _ => Front::Broken(ProgramFault::NoToken { byte }),
     }
 }

@@ -2,6 +2,7 @@
 #![tactic(auto)]
 
 mod encode;
+mod fault;
 mod front;
 mod image;
 mod item;
@@ -14,6 +15,8 @@ mod operands;
 mod token;
 mod words;
 
+pub use fault::{Misread, ProgramFault, refusal_of};
+pub use front::token_length;
 pub use image::image_text;
 pub use mnemonic::{Mnemonic, Piece};
-pub use words::assemble;
+pub use words::{assemble, read_program};

@@ -1,16 +1,16 @@
 // The lines of a program.
 ghost use Rattle.std.specs.Prelude.{◌≡◌, ◌≤◌, ◌<◌, ◌-◌, ◌^◌, ℕ, length, OnOk, OnErr, slice_get, unwrap_or};
-ghost use Rattle.kp_base.specs.Check.{Gives};
-ghost use Rattle.kp_asm.specs.Tokens.{bytes_of};
-ghost use Rattle.kp_asm.specs.Mnemonics.{mnemonic_of};
+ghost use Rattle.kp_asm.specs.{Faults.Reads, Tokens.bytes_of};
+ghost use Rattle.kp_asm.specs.Mnemonics.{begins_with_colon, mnemonic_of, misnamed};
 ghost use Rattle.kp_asm.specs.inner.Listing.{line_length, instructions_in};
 ghost use Rattle.kp_asm.specs.Program.{is_line_end, lines_of, with_label, with_instruction, mnemonic_read, instruction_read, declares, line_read, lines_read, nothing_read};
 
+use crate::fault::{Misread, ProgramFault, broken};
 use crate::item::{Instruction, Item, Label};
-use crate::mnemonic::{Mnemonic, mnemonic_of};
+use crate::mnemonic::{Mnemonic, is_mnemonic_in_any_case, mnemonic_of};
 use crate::operands::broken_operand;
-use crate::token::{Token, TokenKind, broken, bytes_of};
-use kp_base::{NoMemory, Refused};
+use crate::token::{Token, TokenKind, bytes_of};
+use kp_base::NoMemory;
 use std::alloc::Global;
 use std::marker::Model;
 
@@ -89,26 +89,28 @@ impl Program {
         text: &[u8],
         token: Token,
         operands: &[Token],
-    ) -> Result<(), Refused>
+    ) -> Result<(), Misread>
         requires { length text.now ≤ 2 ^ 32 - 2 }
-        ensures { Gives result (mnemonic_read text.now self.old token operands.now (mnemonic_of (bytes_of text.now token))) (λ _. self.new) }
+        ensures { Reads result (mnemonic_read text.now self.old token operands.now (mnemonic_of (bytes_of text.now token))) (λ _. self.new) }
     {
         let Some(mnemonic) = mnemonic_of(bytes_of(text, token)) else {
-            return Err(Refused::Rule(broken(text, 2, token.start)));
+            let fault = misnamed(token.kind, bytes_of(text, token), operands);
+            return Err(Misread::Found(broken(text, fault, token.start)));
         };
-        if let Some(refusal) = broken_operand(text, mnemonic.form(), operands) {
-            return Err(Refused::Rule(refusal));
+        if let Some(finding) = broken_operand(text, mnemonic, operands) {
+            return Err(Misread::Found(finding));
         }
         if self.count >= MOST_WORDS {
-            return Err(Refused::Rule(broken(text, 7, token.start)));
+            let finding = broken(text, ProgramFault::TooMany, token.start);
+            return Err(Misread::Found(finding));
         }
         self.add_instruction(mnemonic, token, operands)?;
         Ok(())
     }
 
-    fn read_instruction(&mut self, text: &[u8], line: &[Token]) -> Result<(), Refused>
+    fn read_instruction(&mut self, text: &[u8], line: &[Token]) -> Result<(), Misread>
         requires { length text.now ≤ 2 ^ 32 - 2 }
-        ensures { Gives result (instruction_read text.now self.old line.now) (λ _. self.new) }
+        ensures { Reads result (instruction_read text.now self.old line.now) (λ _. self.new) }
     {
         let [token, operands @ ..] = line else {
             return Ok(());
@@ -119,9 +121,9 @@ impl Program {
         self.read_mnemonic(text, *token, operands)
     }
 
-    fn read_line(&mut self, text: &[u8], line: &[Token]) -> Result<(), Refused>
+    fn read_line(&mut self, text: &[u8], line: &[Token]) -> Result<(), Misread>
         requires { length text.now ≤ 2 ^ 32 - 2 }
-        ensures { Gives result (line_read text.now self.old line.now) (λ _. self.new) }
+        ensures { Reads result (line_read text.now self.old line.now) (λ _. self.new) }
     {
         if let [first, second, rest @ ..] = line
             && declares(first.kind, second.kind)
@@ -130,6 +132,30 @@ impl Program {
             return self.read_instruction(text, rest);
         }
         self.read_instruction(text, line)
+    }
+}
+
+// How a token that is no mnemonic violates A2, with the tokens after it.
+fn misnamed(kind: TokenKind, run: &[u8], operands: &[Token]) -> ProgramFault
+    ensures { result ≡ misnamed kind run.now operands.now }
+{
+    if !matches!(kind, TokenKind::Name) {
+        ProgramFault::NoInstruction
+    } else if begins_with_colon(operands) {
+        ProgramFault::SecondLabel
+    } else if is_mnemonic_in_any_case(run) {
+        ProgramFault::Capitals
+    } else {
+        ProgramFault::NoMnemonic
+    }
+}
+
+fn begins_with_colon(tokens: &[Token]) -> bool
+    ensures { result ≡ begins_with_colon tokens.now }
+{
+    match tokens {
+        [token, ..] => matches!(token.kind, TokenKind::Colon),
+        [] => false,
     }
 }
 
@@ -166,9 +192,9 @@ fn line_length(tokens: &[Token]) -> usize
 }
 
 /// The labels and instructions in the lines of these tokens. Errors: the first violation of A2 to A5 and A7 in text order, and out of memory.
-pub fn read_lines(alloc: Global, text: &[u8], tokens: &[Token]) -> Result<Program, Refused>
+pub fn read_lines(alloc: Global, text: &[u8], tokens: &[Token]) -> Result<Program, Misread>
     requires { length text.now ≤ 2 ^ 32 - 2 }
-    ensures { Gives result (lines_read text.now nothing_read (lines_of tokens.now)) (λ program. program) }
+    ensures { Reads result (lines_read text.now nothing_read (lines_of tokens.now)) (λ program. program) }
 {
     let mut program = Program::new(alloc);
     let mut rest = tokens;

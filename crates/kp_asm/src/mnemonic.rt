@@ -1,7 +1,7 @@
 // The mnemonics, and the form of the operands of each.
 ghost use Rattle.std.specs.Prelude.{◌≡◌, find};
-ghost use Rattle.std.specs.Str.{bytes_eq};
-ghost use Rattle.kp_asm.specs.Mnemonics.{all_mnemonics, spelling as spelling_of, mnemonic_of, form as form_of};
+ghost use Rattle.std.specs.Str.{bytes_eq, str_eq_ignore_ascii_case};
+ghost use Rattle.kp_asm.specs.Mnemonics.{all_mnemonics, spelling as spelling_of, mnemonic_of, is_mnemonic_in_any_case, form as form_of};
 
 /// The mnemonic of an instruction.
 #[derive(Clone, Copy)]
@@ -204,4 +204,20 @@ fn mnemonic_among(mnemonics: &[Mnemonic], run: &[u8]) -> Option<Mnemonic>
         }
     }
     None
+}
+
+/// Whether a mnemonic has this text, with upper and lower case taken as the same.
+pub fn is_mnemonic_in_any_case(run: &[u8]) -> bool
+    ensures { result ≡ is_mnemonic_in_any_case run.now }
+{
+    Mnemonic::ALL
+        .iter()
+        .any(|mnemonic| is_spelled(*mnemonic, run))
+}
+
+#[tactic(auto, using(crate::proofs::AnyCase::same_test))]
+fn is_spelled(mnemonic: Mnemonic, run: &[u8]) -> bool
+    ensures { result ≡ str_eq_ignore_ascii_case (spelling_of mnemonic) run.now }
+{
+    mnemonic.spelling().eq_ignore_ascii_case(run)
 }

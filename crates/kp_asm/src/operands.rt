@@ -1,11 +1,12 @@
 // The rules of operands: A3, A4 and A5.
 ghost use Rattle.std.specs.Prelude.{◌≡◌, ◌≤◌, ◌-◌, ◌^◌, length};
-ghost use Rattle.kp_asm.specs.Mnemonics.{fits, has_register, has_range, breaks, number_of_rule, first_breaking, operand_answer, broken_operand};
+ghost use Rattle.kp_asm.specs.Mnemonics.{fits, has_register, has_range, breaks, operand_fault, first_breaking, broken_operand};
 
-use crate::mnemonic::Piece;
+use crate::fault::{ProgramFault, broken};
+use crate::mnemonic::{Mnemonic, Piece};
 use crate::number::{in_range, is_low, is_register};
-use crate::token::{Token, TokenKind, broken, bytes_of};
-use kp_base::Refusal;
+use crate::token::{Token, TokenKind, bytes_of};
+use kp_base::Finding;
 
 /// A rule of operands.
 #[derive(Clone, Copy)]
@@ -18,33 +19,35 @@ pub enum Rule {
     Range,
 }
 
-/// The first rule that the tokens after a mnemonic of this form violate, at the first token that does; `None` if they violate none.
-pub fn broken_operand(text: &[u8], form: &[Piece], tokens: &[Token]) -> Option<Refusal>
+/// The first rule that the tokens after a mnemonic violate, at the first token that does; `None` if they violate none.
+pub fn broken_operand(
+    text: &[u8],
+    mnemonic: Mnemonic,
+    tokens: &[Token],
+) -> Option<Finding<ProgramFault>>
     requires { length text.now ≤ 2 ^ 32 - 2 }
-    ensures { result ≡ broken_operand text.now form.now tokens.now }
+    ensures { result ≡ broken_operand text.now mnemonic tokens.now }
 {
-    if let Some(refusal) = operand_answer(text, form, tokens, Rule::Form) {
-        return Some(refusal);
+    let form = mnemonic.form();
+    if let Some(finding) = first_breaking(text, mnemonic, Rule::Form, form, tokens) {
+        return Some(finding);
     }
-    if let Some(refusal) = operand_answer(text, form, tokens, Rule::Register) {
-        return Some(refusal);
+    if let Some(finding) = first_breaking(text, mnemonic, Rule::Register, form, tokens) {
+        return Some(finding);
     }
-    operand_answer(text, form, tokens, Rule::Range)
-}
-
-fn operand_answer(text: &[u8], form: &[Piece], tokens: &[Token], rule: Rule) -> Option<Refusal>
-    requires { length text.now ≤ 2 ^ 32 - 2 }
-    ensures { result ≡ operand_answer text.now form.now tokens.now rule }
-{
-    match first_breaking(text, rule, form, tokens) {
-        Some(token) => Some(broken(text, number_of_rule(rule), token.start)),
-        None => None,
-    }
+    first_breaking(text, mnemonic, Rule::Range, form, tokens)
 }
 
 // The first token that violates the rule.
-fn first_breaking(text: &[u8], rule: Rule, form: &[Piece], tokens: &[Token]) -> Option<Token>
-    ensures { result ≡ first_breaking text.now rule form.now tokens.now }
+fn first_breaking(
+    text: &[u8],
+    mnemonic: Mnemonic,
+    rule: Rule,
+    form: &[Piece],
+    tokens: &[Token],
+) -> Option<Finding<ProgramFault>>
+    requires { length text.now ≤ 2 ^ 32 - 2 }
+    ensures { result ≡ first_breaking text.now mnemonic rule form.now tokens.now }
 {
     let mut rest = tokens;
     for piece in form {
@@ -52,11 +55,23 @@ fn first_breaking(text: &[u8], rule: Rule, form: &[Piece], tokens: &[Token]) -> 
             return None;
         };
         if breaks(rule, *piece, token.kind, bytes_of(text, *token)) {
-            return Some(*token);
+            let fault = operand_fault(rule, mnemonic, *piece);
+            return Some(broken(text, fault, token.start));
         }
         rest = after;
     }
     None
+}
+
+// How an operand violates a rule where the form of the mnemonic requires this piece.
+fn operand_fault(rule: Rule, mnemonic: Mnemonic, wanted: Piece) -> ProgramFault
+    ensures { result ≡ operand_fault rule mnemonic wanted }
+{
+    match rule {
+        Rule::Form => ProgramFault::WrongOperand { mnemonic, wanted },
+        Rule::Register => ProgramFault::NoRegister,
+        Rule::Range => ProgramFault::OutOfRange { mnemonic, wanted },
+    }
 }
 
 fn breaks(rule: Rule, piece: Piece, kind: TokenKind, bytes: &[u8]) -> bool
@@ -66,16 +81,6 @@ fn breaks(rule: Rule, piece: Piece, kind: TokenKind, bytes: &[u8]) -> bool
         Rule::Form => !fits(piece, kind, bytes),
         Rule::Register => !has_register(piece, bytes),
         Rule::Range => !has_range(piece, bytes),
-    }
-}
-
-fn number_of_rule(rule: Rule) -> u8
-    ensures { result ≡ number_of_rule rule }
-{
-    match rule {
-        Rule::Form => 3,
-        Rule::Register => 4,
-        Rule::Range => 5,
     }
 }
 

@@ -1,8 +1,6 @@
 // The tokens of a program.
-ghost use Rattle.std.specs.Prelude.{◌≡◌, ◌≤◌, ◌^◌, ◌-◌, length};
-ghost use Rattle.kp_asm.specs.Tokens.{broken, bytes_of};
-
-use kp_base::{Refusal, place_of};
+ghost use Rattle.std.specs.Prelude.{◌≡◌};
+ghost use Rattle.kp_asm.specs.Tokens.{bytes_of};
 
 /// The kind of a token.
 #[derive(Clone, Copy)]
@@ -37,13 +35,4 @@ pub fn bytes_of<'a>(text: &'a [u8], token: Token) -> &'a [u8]
     let len = rest.len().min(token.len as usize);
     let (bytes, _after) = rest.split_at(len);
     bytes
-}
-
-/// The refusal by rule A of this number at this offset.
-pub fn broken(text: &[u8], number: u8, offset: u32) -> Refusal
-    requires { length text.now ≤ 2 ^ 32 - 2 }
-    ensures { result ≡ broken text.now number offset }
-{
-    let offset = text.len().min(offset as usize);
-    Refusal::a(number, place_of(text, offset as u32))
 }

@@ -1,28 +1,43 @@
 // The words of a program.
 ghost use Rattle.std.specs.Prelude.{◌≡◌, ◌≤◌, ◌+◌, ◌-◌, ◌^◌, ◌<◌, length, vec_len, IfOk, OnOk, [], if◌then◌else◌};
 ghost use Rattle.kp_base.specs.Check.{Gives};
-ghost use Rattle.kp_asm.specs.Tokens.{bytes_of};
+ghost use Rattle.kp_asm.specs.{Faults.Reads, Tokens.bytes_of};
 ghost use Rattle.kp_asm.specs.inner.Listing.{is_instruction, instructions_in};
-ghost use Rattle.kp_asm.specs.Program.{declared, used_label, target_of, word_at, is_at, item_read, words_from, assembled};
+ghost use Rattle.kp_asm.specs.Program.{declared, used_label, target_of, word_at, repeated, item_read, words_from, program_of, assembled};
 
 use crate::encode::word_of;
+use crate::fault::{Misread, ProgramFault, broken, place_in, refusal_of};
 use crate::item::{Instruction, Item, Label};
 use crate::labels::Labels;
 use crate::lexer::tokens_of;
 use crate::listing::read_lines;
 use crate::mnemonic::Mnemonic;
-use crate::token::{Token, broken, bytes_of};
-use kp_base::{NoMemory, Refused};
+use crate::token::{Token, bytes_of};
+use kp_base::Refused;
 use std::alloc::Global;
 
-/// The words of a program, word i for address 4i.
-///
-/// Errors: the first violated rule, which is A1 at any token, else A2 to A5 and A7 for the lines in text order, else A6 for the labels in text order;
-/// and out of memory.
+/// The words of a program, word i for address 4i. Errors: the first violated rule, and out of memory.
 #[tactic(auto, unfolding(crate::specs::Program::assembled))]
 pub fn assemble(alloc: Global, text: &[u8]) -> Result<Vec<u32>, Refused>
     requires { length text.now ≤ 2 ^ 32 - 2 }
     ensures words { Gives result (assembled text.now) (λ words. words.items) }
+    ensures most { IfOk result (λ words. vec_len words ≤ 1024) }
+{
+    match read_program(alloc, text) {
+        Ok(words) => Ok(words),
+        Err(Misread::Found(finding)) => Err(Refused::Rule(refusal_of(finding))),
+        Err(Misread::NoMemory) => Err(Refused::NoMemory),
+    }
+}
+
+/// The words of a program, word i for address 4i.
+///
+/// Errors: the first violation, which is of A1 at any token, else of A2 to A5 and A7 for the lines in text order, else of A6 for the labels in text order;
+/// and out of memory.
+#[tactic(auto, unfolding(crate::specs::Program::program_of))]
+pub fn read_program(alloc: Global, text: &[u8]) -> Result<Vec<u32>, Misread>
+    requires { length text.now ≤ 2 ^ 32 - 2 }
+    ensures words { Reads result (program_of text.now) (λ words. words.items) }
     ensures most { IfOk result (λ words. vec_len words ≤ 1024) }
 {
     let tokens = tokens_of(alloc, text)?;
@@ -37,9 +52,9 @@ fn words_of(
     text: &[u8],
     labels: &Labels,
     items: &[Item],
-) -> Result<Vec<u32>, Refused>
+) -> Result<Vec<u32>, Misread>
     requires { length text.now ≤ 2 ^ 32 - 2 }
-    ensures words { Gives result (words_from text.now labels.now [] items.now) (λ words. words.items) }
+    ensures words { Reads result (words_from text.now labels.now [] items.now) (λ words. words.items) }
     ensures count { IfOk result (λ words. vec_len words ≡ instructions_in items.now) }
 {
     let mut words = Vec::new(alloc);
@@ -56,15 +71,16 @@ fn add_word(
     labels: &Labels,
     item: Item,
     words: &mut Vec<u32>,
-) -> Result<(), Refused>
+) -> Result<(), Misread>
     requires { length text.now ≤ 2 ^ 32 - 2 }
-    ensures words { Gives result (item_read text.now labels.now words.old.items item) (λ _. words.new.items) }
+    ensures words { Reads result (item_read text.now labels.now words.old.items item) (λ _. words.new.items) }
     ensures count { OnOk result (vec_len words.new ≡ vec_len words.old + (if is_instruction item then 1 else 0)) }
 {
     match item {
         Item::Label(label) => {
-            if !is_first(alloc, text, labels, label)? {
-                return Err(Refused::Rule(broken(text, 6, label.name.start)));
+            let first = labels.find(alloc, bytes_of(text, label.name))?;
+            if let Some(fault) = repeated(text, label.name.start, first) {
+                return Err(Misread::Found(broken(text, fault, label.name.start)));
             }
         }
         Item::Instruction(instruction) => {
@@ -75,20 +91,17 @@ fn add_word(
     Ok(())
 }
 
-// Whether a declaration is the first one of its name.
-fn is_first(alloc: Global, text: &[u8], labels: &Labels, label: Label) -> Result<bool, NoMemory>
-    ensures { IfOk result (λ first. first ≡ is_at (declared labels.now (bytes_of text.now label.name)) label.name.start) }
+// How a declaration at this offset violates A6, unless it is the first one of its name.
+fn repeated(text: &[u8], start: u32, first: Option<Label>) -> Option<ProgramFault>
+    requires { length text.now ≤ 2 ^ 32 - 2 }
+    ensures { result ≡ repeated text.now start first }
 {
-    let first = labels.find(alloc, bytes_of(text, label.name))?;
-    Ok(is_at(first, label.name.start))
-}
-
-fn is_at(label: Option<Label>, start: u32) -> bool
-    ensures { result ≡ is_at label start }
-{
-    match label {
-        Some(label) => label.name.start == start,
-        None => false,
+    match first {
+        Some(label) if label.name.start == start => None,
+        Some(label) => Some(ProgramFault::LabelAgain {
+            first: place_in(text, label.name.start),
+        }),
+        None => Some(ProgramFault::LabelNowhere),
     }
 }
 
@@ -109,16 +122,19 @@ fn target_of(
     text: &[u8],
     labels: &Labels,
     used: Option<Token>,
-) -> Result<u32, Refused>
+) -> Result<u32, Misread>
     requires { length text.now ≤ 2 ^ 32 - 2 }
-    ensures { Gives result (target_of text.now labels.now used) (λ target. target) }
+    ensures { Reads result (target_of text.now labels.now used) (λ target. target) }
 {
     let Some(token) = used else {
         return Ok(0);
     };
     match labels.find(alloc, bytes_of(text, token))? {
         Some(label) => Ok(label.address),
-        None => Err(Refused::Rule(broken(text, 6, token.start))),
+        None => {
+            let fault = ProgramFault::LabelNowhere;
+            Err(Misread::Found(broken(text, fault, token.start)))
+        }
     }
 }
 
