@@ -3,8 +3,8 @@
 
 For each crate that has laws or a top call, in the order of crates.txt but the top calls first: the clauses of its top call but those that all of them have, with
 the comments above them, and its laws: the public functions that return and change nothing, whose contracts state a theorem. A law has the first sentence of its
-comment, or two where that is a title. A law of a crate that only proofs of others cite, and one in a file of examples, has its name alone. A comment that
-several laws of a crate have is printed once.
+comment, or two where that is a title. Of a crate whose laws only proofs of others cite the page has the name alone, and so of a law in a file of examples. A
+comment that several laws of a crate have is printed once.
 """
 import os
 import re
@@ -17,8 +17,8 @@ CALLS = {"kp_tool": "tool", "kp_view": "view", "kp_view_same": "same_sources", "
 # The clauses that the page says once, of all top calls.
 SHARED = {"due", "unread", "read_fault", "write_fault", "no_memory", "statuses", "complete", "ends"}
 # Crates whose laws are steps in the proofs of others; docs/PARSING.md has those of kp_grammar.
-STEPS = """kp_base kp_bits kp_grammar kp_region kp_ast kp_lex kp_parse kp_view_expected kp_described kp_width kp_machine kp_plain kp_isa_rv kp_isa_rvm
-kp_isa_dlx kp_isa_dlx5 kp_seq kp_net kp_sched kp_synth_next kp_cycle kp_image kp_gen kp_run kp_vread kp_view_excerpt""".split()
+STEPS = """kp_base kp_bits kp_grammar kp_region kp_ast kp_lex kp_parse kp_view_expected kp_described kp_width kp_stage kp_machine kp_plain kp_isa_rv kp_isa_rvm
+kp_isa_dlx kp_isa_dlx5 kp_isa kp_isa_six kp_seq kp_net kp_sched kp_synth_next kp_cycle kp_image kp_gen kp_run kp_vread kp_view_excerpt""".split()
 HEAD = """# What is proved, crate by crate
 
 Made from the comments of the sources by `python3 checks/proved.py --write`. [README.md](../README.md) has the main promises, [BELIEVE.md](BELIEVE.md) the definitions
@@ -41,8 +41,7 @@ The top calls of all programs have these clauses, by these names or within one:
 STEPS_HEAD = """
 ## Laws that are steps of other proofs
 
-| crate | laws |
-|---|---|"""
+They are in `src/` of"""
 FUNCTION = re.compile(r"^pub fn (\w+)", re.M)
 CLAUSE = re.compile(r"^    ensures (\w+) \{")
 WIDTH = 160
@@ -128,11 +127,6 @@ def quoted(names):
     return ", ".join(f"`{it}`" for it in names)
 
 
-def step_row(crate):
-    said, examples = laws(crate)
-    return f"| {crate} | {quoted(dict.fromkeys([*(it for names in said.values() for it in names), *examples]))} |"
-
-
 def part(crate):
     said, examples = laws(crate)
     if crate not in CALLS and not said:
@@ -157,7 +151,7 @@ def page():
         order = [line.split(":")[0].split()[0] for line in it if line.strip() and not line.startswith("#")]
     crates = [*CALLS, *(it for it in order if it not in CALLS)]
     text = "\n".join(
-        [HEAD, *(line for it in crates if it not in STEPS for line in part(it)), STEPS_HEAD, *(step_row(it) for it in crates if it in STEPS)]
+        [HEAD, *(line for it in crates if it not in STEPS for line in part(it)), wrapped(f"{', '.join(it for it in crates if it in STEPS)}.", f"{STEPS_HEAD} ")]
     )
     return re.sub(r"\n{3,}", "\n\n", text).rstrip("\n") + "\n"
 
