@@ -3,8 +3,8 @@
 
 For each crate that has laws or a top call, in the order of crates.txt but the top calls first: the clauses of its top call but those that all of them have, with
 the comments above them, and its laws: the public functions that return and change nothing, whose contracts state a theorem. A law has the first sentence of its
-comment, or two where that is a title. Of a crate whose laws only proofs of others cite the page has the name alone, and so of a law in a file of examples. A
-comment that several laws of a crate have is printed once.
+comment, or two where that is a title. Of a crate whose laws only proofs of others cite the page has the name alone, and of the laws in a file of examples
+their number. A comment that several laws of a crate have is printed once.
 """
 import os
 import re
@@ -142,7 +142,7 @@ def part(crate):
                 yield ""
     yield from (wrapped(f"- {quoted(names)}: {words}", "", "  ") for words, names in said.items())
     if examples:
-        yield wrapped(f"- Machines with worked runs: {quoted(examples)}.", "", "  ")
+        yield wrapped(f"- Of machines with worked runs, in `src/examples.rt`: {len(examples)}.", "", "  ")
     yield ""
 
 
