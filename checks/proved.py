@@ -1,10 +1,10 @@
 #!/usr/bin/env python3
 """docs/PROVED.md, which is made from the sources: python3 checks/proved.py compares it with them, python3 checks/proved.py --write writes it.
 
-For each crate that has laws or a top call, in the order of crates.txt but the top calls first: the first paragraph of its `//!` comment and the clauses of its
-top call, with the comments above them, and its laws: the public functions that return and change nothing, whose contracts state a theorem. A law of a crate
-whose results users rely on has its comment, one of another crate the first sentence of it. A law of a crate that only proofs of others cite, and one in a
-file of examples, has its name alone. A comment that several laws of a crate have is printed once.
+For each crate that has laws or a top call, in the order of crates.txt but the top calls first: the clauses of its top call but those that all of them have, with
+the comments above them, and its laws: the public functions that return and change nothing, whose contracts state a theorem. A law has the first sentence of its
+comment, or two where that is a title. Of a crate whose laws only proofs of others cite the page has the name alone, and of the laws in a file of examples
+their number. A comment that several laws of a crate have is printed once.
 """
 import os
 import re
@@ -14,30 +14,34 @@ TOP = os.path.dirname(os.path.dirname(os.path.abspath(__file__)))
 PAGE = f"{TOP}/docs/PROVED.md"
 # The top calls of the programs.
 CALLS = {"kp_tool": "tool", "kp_view": "view", "kp_view_same": "same_sources", "kp_view_explain": "explain_source", "kp_core": "run_core", "kp_runner": "run_job"}
-# The other crates whose laws users rely on: what is printed, shown and compared is said in their terms.
-DETAILED = """kp_pipeline kp_implements kp_isa kp_same kp_diagram kp_diagram_run kp_stalls kp_stalls_run kp_paths kp_depth kp_page kp_timing kp_debug
-kp_vcd kp_equiv kp_vlog kp_wires kp_core_ports kp_lint""".split()
+# The clauses that the page says once, of all top calls.
+SHARED = {"due", "unread", "read_fault", "write_fault", "no_memory", "statuses", "complete", "ends"}
 # Crates whose laws are steps in the proofs of others; docs/PARSING.md has those of kp_grammar.
-STEPS = """kp_base kp_grammar kp_region kp_ast kp_lex kp_parse kp_view_expected kp_described kp_width kp_machine kp_plain kp_isa_rv kp_isa_rvm
-kp_isa_dlx kp_isa_dlx5 kp_seq kp_net kp_sched kp_synth_next kp_cycle kp_image kp_gen kp_run kp_vread kp_view_excerpt""".split()
+STEPS = """kp_base kp_bits kp_grammar kp_region kp_ast kp_lex kp_parse kp_view_expected kp_described kp_width kp_stage kp_machine kp_plain kp_isa_rv kp_isa_rvm
+kp_isa_dlx kp_isa_dlx5 kp_isa kp_isa_six kp_seq kp_net kp_sched kp_synth_next kp_cycle kp_image kp_gen kp_run kp_vread kp_view_excerpt""".split()
 HEAD = """# What is proved, crate by crate
 
 Made from the comments of the sources by `python3 checks/proved.py --write`. [README.md](../README.md) has the main promises, [BELIEVE.md](BELIEVE.md) the definitions
-that one has to read to believe them, and [ARCHITECTURE.md](ARCHITECTURE.md) what each crate is.
+that one has to read to believe them, [ARCHITECTURE.md](ARCHITECTURE.md) what each crate is.
 
-A promise is a clause of the contract of a public call: first those of the top calls of the programs. A law is a public function that returns and changes nothing,
-whose contract states the theorem: then the laws of each crate, lowest first, with their comments, or the first sentence where users rely less on them; laws
-that are steps of other proofs are named at the end. Every other public function has a contract too, beside its code. Every function is also proved to return,
-with no index out of bounds, no overflow and no failed `unwrap`.
+A promise is a clause of the contract of a top call. A law is a public function that returns and changes nothing, whose contract states the theorem: a line here is
+the first sentence of its comment. Every other public function has a contract too, beside its code. Every function is also proved to return, with no index out of
+bounds, no overflow and no failed `unwrap`.
 
-A *row* is the record of one cycle: the full bits, the update enables and the rollback. A netlist *shows* a machine if its runs have the
-rows and the visible values of that machine.
+A *row* is the record of one cycle: the full bits, the update enables and the rollback. A netlist *shows* a machine if its runs have the rows and the visible values of that machine.
+
+The top calls of all programs have these clauses, by these names or within one:
+
+- `due`: any status but 3 (fault of the source), 4 (fault of a sink) and 5 (out of memory) is the specified one, and the specified text for all bytes that were left in the
+  source was written.
+- `complete`: if the bytes of the source are known and nothing failed, the outcome is the specified one, in full, unless out of memory.
+- `read_fault`, `write_fault`, `no_memory`: status 3 or 4 only if the source or a sink failed in this call, and 5 only with nothing written.
+- `unread`: what reads nothing leaves the source unchanged.
 """
 STEPS_HEAD = """
 ## Laws that are steps of other proofs
 
-| crate | laws |
-|---|---|"""
+They are in `src/` of"""
 FUNCTION = re.compile(r"^pub fn (\w+)", re.M)
 CLAUSE = re.compile(r"^    ensures (\w+) \{")
 WIDTH = 160
@@ -68,13 +72,6 @@ def files_of(crate):
                 yield name, it.read()
 
 
-def about(crate):
-    """The first paragraph of the comment at the head of the crate."""
-    text = next(text for name, text in files_of(crate) if name == "lib.rt")
-    said = [line[3:].strip() for line in text.split("\n") if line.startswith("//!")]
-    return sentence("\n".join(said).split("\n\n")[0].split())
-
-
 def comment_above(text, at):
     """The doc comment above a position."""
     lines = []
@@ -102,11 +99,13 @@ def clauses(text, at):
             if found:
                 found[-1][1].append(clause[1])
             fresh, words = False, []
-    return [(sentence(words), names) for words, names in found if words]
+    return [(sentence(words), names) for words, names in found if words and not SHARED.issuperset(names)]
 
 
 def first_sentence(text):
-    return re.split(r"(?<=\.)\s+(?=[A-Z`])", text, maxsplit=1)[0]
+    """The first sentence, and the next one where it is a title."""
+    first, *others = re.split(r"(?<=\.)\s+(?=[A-Z`])", text)
+    return first if len(first.split()) > 14 or not others else f"{first} {others[0]}"
 
 
 def laws(crate):
@@ -118,7 +117,7 @@ def laws(crate):
             comment = sentence(comment_above(text, found.start()))
             states = text[found.end() + len(signature) :].startswith(("    requires", "    ensures"))
             if comment and states and "->" not in signature and "&mut" not in signature:
-                words = comment if crate in CALLS or crate in DETAILED else first_sentence(comment)
+                words = first_sentence(comment)
                 names = examples if name.endswith("examples.rt") else said.setdefault(words, [])
                 names += [found[1]] if found[1] not in names else []
     return said, examples
@@ -128,28 +127,22 @@ def quoted(names):
     return ", ".join(f"`{it}`" for it in names)
 
 
-def step_row(crate):
-    said, examples = laws(crate)
-    return f"| {crate} | {quoted(dict.fromkeys([*(it for names in said.values() for it in names), *examples]))} |"
-
-
 def part(crate):
     said, examples = laws(crate)
     if crate not in CALLS and not said:
         return
     yield f"\n## {crate}\n"
     if crate in CALLS:
-        yield wrapped(about(crate)) + "\n"
         for name, text in files_of(crate):
             found = re.search(rf"^pub fn {CALLS[crate]}\b", text, re.M)
             if found:
-                yield wrapped(f"**`{CALLS[crate]}`**: {sentence(comment_above(text, found.start()))}") + "\n"
+                yield wrapped(f"**`{CALLS[crate]}`**: {first_sentence(sentence(comment_above(text, found.start())))}") + "\n"
                 for words, names in clauses(text, found.start()):
                     yield wrapped(f"- {quoted(names)}: {words}", "", "  ")
                 yield ""
     yield from (wrapped(f"- {quoted(names)}: {words}", "", "  ") for words, names in said.items())
     if examples:
-        yield wrapped(f"- Machines with worked runs: {quoted(examples)}.", "", "  ")
+        yield wrapped(f"- Of machines with worked runs, in `src/examples.rt`: {len(examples)}.", "", "  ")
     yield ""
 
 
@@ -158,7 +151,7 @@ def page():
         order = [line.split(":")[0].split()[0] for line in it if line.strip() and not line.startswith("#")]
     crates = [*CALLS, *(it for it in order if it not in CALLS)]
     text = "\n".join(
-        [HEAD, *(line for it in crates if it not in STEPS for line in part(it)), STEPS_HEAD, *(step_row(it) for it in crates if it in STEPS)]
+        [HEAD, *(line for it in crates if it not in STEPS for line in part(it)), wrapped(f"{', '.join(it for it in crates if it in STEPS)}.", f"{STEPS_HEAD} ")]
     )
     return re.sub(r"\n{3,}", "\n\n", text).rstrip("\n") + "\n"
 
