@@ -15,7 +15,7 @@ PAGE = f"{TOP}/docs/PROVED.md"
 # The top calls of the programs.
 CALLS = {"kp_tool": "tool", "kp_view": "view", "kp_view_same": "same_sources", "kp_view_explain": "explain_source", "kp_core": "run_core", "kp_runner": "run_job"}
 # The clauses that the page says once, of all top calls.
-SHARED = {"due", "unread", "read_fault", "write_fault", "no_memory", "statuses", "complete", "ends"}
+SHARED = {"due", "unread", "read_fault", "write_fault", "no_memory", "statuses", "complete"}
 # Crates whose laws are steps in the proofs of others; docs/PARSING.md has those of kp_grammar.
 STEPS = """kp_base kp_bits kp_grammar kp_region kp_ast kp_lex kp_parse kp_view_expected kp_described kp_width kp_stage kp_machine kp_plain kp_isa_rv kp_isa_rvm
 kp_isa_dlx kp_isa_dlx5 kp_isa kp_isa_six kp_seq kp_net kp_sched kp_synth_next kp_cycle kp_image kp_gen kp_run kp_vread kp_view_excerpt""".split()
@@ -30,13 +30,14 @@ bounds, no overflow and no failed `unwrap`.
 
 A *row* is the record of one cycle: the full bits, the update enables and the rollback. A netlist *shows* a machine if its runs have the rows and the visible values of that machine.
 
-The top calls of all programs have these clauses, by these names or within one:
+Clauses of these names say the same of each top call that has them:
 
 - `due`: any status but 3 (fault of the source), 4 (fault of a sink) and 5 (out of memory) is the specified one, and the specified text for all bytes that were left in the
   source was written.
 - `complete`: if the bytes of the source are known and nothing failed, the outcome is the specified one, in full, unless out of memory.
 - `read_fault`, `write_fault`, `no_memory`: status 3 or 4 only if the source or a sink failed in this call, and 5 only with nothing written.
 - `unread`: what reads nothing leaves the source unchanged.
+- `statuses`: a bound of the status.
 """
 STEPS_HEAD = """
 ## Laws that are steps of other proofs
@@ -99,7 +100,7 @@ def clauses(text, at):
             if found:
                 found[-1][1].append(clause[1])
             fresh, words = False, []
-    return [(sentence(words), names) for words, names in found if words and not SHARED.issuperset(names)]
+    return [(sentence(words), names) for words, names in found if words]
 
 
 def first_sentence(text):
@@ -137,8 +138,13 @@ def part(crate):
             found = re.search(rf"^pub fn {CALLS[crate]}\b", text, re.M)
             if found:
                 yield wrapped(f"**`{CALLS[crate]}`**: {first_sentence(sentence(comment_above(text, found.start())))}") + "\n"
-                for words, names in clauses(text, found.start()):
-                    yield wrapped(f"- {quoted(names)}: {words}", "", "  ")
+                said_here = clauses(text, found.start())
+                for words, names in said_here:
+                    if not SHARED.issuperset(names):
+                        yield wrapped(f"- {quoted(names)}: {words}", "", "  ")
+                shared = [it for _, names in said_here if SHARED.issuperset(names) for it in names]
+                if shared:
+                    yield wrapped(f"- As above: {quoted(shared)}.", "", "  ")
                 yield ""
     yield from (wrapped(f"- {quoted(names)}: {words}", "", "  ") for words, names in said.items())
     if examples:
