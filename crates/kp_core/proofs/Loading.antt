@@ -9,7 +9,7 @@ use Rattle.kp_machine.specs.{Slots.targets_of, Slots.is_register, Words.target}
 use Rattle.kp_net.specs.Names.{same}
 use Rattle.kp_net.specs.Netlist.{Net, Input, State, start_regs, cells_of, regs_after, files_after, state_after}
 use Rattle.kp_net.specs.Parts.{NetOk, no_file}
-use Rattle.kp_synth_tables.proofs.Apart.{targets_apart}
+use Rattle.kp_design.proofs.Apart.{targets_apart}
 use Rattle.kp_implements.specs.{Naming.file_name, Naming.file_names, Naming.file_of, Naming.place_among, Naming.value_shown, Shows.Shows}
 use Rattle.kp_implements.specs.Anew.{HasMemory, left_by_reset}
 use Rattle.kp_implements.proofs.Anew.{left_alike}

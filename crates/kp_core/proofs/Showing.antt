@@ -17,7 +17,8 @@ use Rattle.kp_implements.specs.{Naming.value_of, Naming.value_shown, Shows.Shows
 use Rattle.kp_implements.specs.Traces.{input_seen, inputs_seen, no_state, AreQuiet}
 use Rattle.kp_synth_next.specs.Shows.{HoldsFrom}
 use Rattle.kp_synth_registers.specs.Holding.{word_bit}
-use Rattle.kp_synth_tables.specs.{Spans.put_after, Keys.target_at, Keys.pipe_at, Keys.is_alive, Keys.place_of, declared.key.Key.TheVariants.Pipe}
+use Rattle.kp_design.specs.{Spans.put_after, Numbers.target_at, Numbers.pipe_at, Spans.is_alive}
+use Rattle.kp_synth_registers.specs.{Keys.place_of, declared.key.Key.TheVariants.Pipe}
 use Rattle.kp_synth.specs.Carrying.{Carries}
 use Rattle.kp_core_ports.specs.Ports.{Exists}
 use Rattle.kp_core_ports.specs.declared.port.Ask.TheVariants.{Show, Peek, Probe, Next, Commit}

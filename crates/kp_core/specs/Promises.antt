@@ -5,7 +5,8 @@ use Rattle.kp_ast.specs.declared.tree.Job.{Job}
 use Rattle.kp_pipeline.specs.{Machine.State as Values, Rows.passed}
 use Rattle.kp_net.specs.Netlist.{Net, Input, State, state_after}
 use Rattle.kp_implements.specs.{Legal.value_from, Traces.inputs_seen, Traces.AreQuiet, Anew.trace_from}
-use Rattle.kp_synth_tables.specs.{Keys.place_of, Keys.target_at, declared.key.Key.TheVariants.Pipe}
+use Rattle.kp_synth_registers.specs.{Keys.place_of, declared.key.Key.TheVariants.Pipe}
+use Rattle.kp_design.specs.Numbers.{target_at}
 use Rattle.kp_machine.specs.Machine.{machine_of}
 use Rattle.kp_frontend.specs.Judging.{JudgesHead}
 use Rattle.kp_tool.specs.{Headline.IsCorrectFrom, Written.IsVerilogOf}

@@ -7,7 +7,8 @@ use Rattle.kp_pipeline.specs.{Sequential.instruction_before, RightPath.Moment, R
 use Rattle.kp_machine.specs.Machine.{machine_of, start_hints}
 use Rattle.kp_net.specs.{Nodes.at, Netlist.Net, Netlist.Input, Netlist.State, Netlist.cells_of, Netlist.row_of, Netlist.states_from}
 use Rattle.kp_implements.specs.{Naming.value_of, Anew.trace_from, Traces.no_state, Traces.inputs_seen}
-use Rattle.kp_synth_tables.specs.{Keys.target_at, declared.key.Key.TheVariants.Pipe}
+use Rattle.kp_design.specs.Numbers.{target_at}
+use Rattle.kp_synth_registers.specs.declared.key.Key.TheVariants.{Pipe}
 use Rattle.kp_synth_registers.specs.Holding.{kept_in, word_bit}
 use Rattle.kp_core.specs.Beginning.{taken_in}
 use Rattle.kp_core_ports.specs.declared.port.Ask.{Ask}

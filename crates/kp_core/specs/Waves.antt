@@ -5,7 +5,7 @@ use Rattle.kp_pipeline.specs.Machine.{State as MachineState}
 use Rattle.kp_pipeline.specs.{Trimming.trimmed}
 use Rattle.kp_net.specs.{Netlist.Net, Netlist.Input, Netlist.State, Netlist.cells_of, Nodes.at}
 use Rattle.kp_implements.specs.Traces.{input_seen, inputs_seen}
-use Rattle.kp_synth_tables.specs.Keys.{is_alive}
+use Rattle.kp_design.specs.Spans.{is_alive}
 use Rattle.kp_core_ports.specs.{Core.with_added, Extended.IsExtended}
 use Rattle.kp_tool.specs.Written.{IsVerilogOf}
 use Rattle.kp_core.specs.{Bare.without_comments, Values.moment_in, Values.state_in}

@@ -1,20 +1,20 @@
 // The text for a job.
 ghost use Rattle.std.specs.Prelude.{◌≡◌, ◌≤◌, length, Err, IfOk};
 ghost use Rattle.kp_frontend.specs.Judging.{most_bytes, JudgesHeadText};
-ghost use Rattle.kp_synth_tables.specs.Keys.{keys_of};
+ghost use Rattle.kp_synth_registers.specs.Keys.{keys_of};
 ghost use Rattle.kp_synth.specs.Known.{HasStages};
 ghost use Rattle.kp_core_ports.specs.{Ports.ports_of, Ports.AllExist, Core.core_text};
 ghost use Rattle.kp_wires.specs.{Comments.commented_text, Table.wires_of, Texts.named_lines, Texts.wires_text};
 ghost use Rattle.kp_core.specs.Due.{DueOfHead, DueOfLines, IsCoreOf};
 ghost use Rattle.kp_core.specs.{Answers.text_said, declared.request.Form.Form};
 
-use crate::answer::{Answer, Said};
 use crate::{Form, message_of};
+use crate::answer::{Answer, Said};
 use kp_base::{NoMemory, Refusal, Refused};
 use kp_core_ports::{Port, PortsRefused, core_text, names_text, read_ports};
+use kp_design::Layout;
 use kp_frontend::{Accepted, Head, judge_head};
 use kp_synth::{Synthesis, synth_stages};
-use kp_synth_tables::Layout;
 use kp_view_explain::{Explanation, explain_head};
 use kp_vlog::round_trip::a_canonical_text_denotes_its_netlist;
 use kp_wires::{Wire, commented_text, named_lines, wires_of, wires_text};

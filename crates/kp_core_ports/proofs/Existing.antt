@@ -3,8 +3,9 @@ use Rattle.std.proofs.Common.{◌≡◌, ℕ, suc, ◌+◌, ◌<◌, ◌≤◌, 
 use Rattle.std.{proofs.lemmas.Bool.and_parts, proofs.lemmas.Bool.not-true, specs.Prelude.IfOk, specs.Prelude.IfSome, specs.Str.bytes_eq}
 use Rattle.kp_ast.specs.declared.tree.{Decl.Decl, Job.Job}
 use Rattle.kp_machine.specs.Slots.{Slot, targets_of, pipes_of}
-use Rattle.kp_synth_tables.specs.Keys.{HasKey, no_slot, target_at}
-use Rattle.kp_synth_tables.specs.declared.key.Key.TheVariants as keys
+use Rattle.kp_synth_registers.specs.Keys.{HasKey}
+use Rattle.kp_design.specs.Numbers.{no_slot, target_at}
+use Rattle.kp_synth_registers.specs.declared.key.Key.TheVariants as keys
 use Rattle.kp_core_ports.specs.Ports.{asks_register, is_of, target_from, pipe_from, target_ask, pipe_ask, Exists}
 use Rattle.kp_core_ports.specs.declared.port.{TargetVerb.TargetVerb, PipeVerb.PipeVerb, Ask.Ask, Port.Port, PortsRefused.PortsRefused}
 use Rattle.kp_core_ports.specs.declared.port.TargetVerb.TheVariants as targets

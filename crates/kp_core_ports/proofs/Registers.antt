@@ -2,8 +2,8 @@
 use Rattle.std.proofs.Common.{◌≡◌, ℕ, zero, suc, ◌<◌, ◌≤◌, List, [], ◌∷◌, length, get_or, false, ◌==◌, refl, arith}
 use Rattle.kp_ast.specs.declared.tree.Job.{Job}
 use Rattle.kp_net.specs.Netlist.{Net}
-use Rattle.kp_synth_tables.specs.{Keys.keys_of, Keys.place_of, Keys.HasKey, declared.key.Key.TheVariants.Pipe}
-use Rattle.kp_synth_tables.proofs.Places.{place_is, place_small}
+use Rattle.kp_synth_registers.specs.{Keys.keys_of, Keys.place_of, Keys.HasKey, declared.key.Key.TheVariants.Pipe}
+use Rattle.kp_synth_registers.proofs.Places.{place_is, place_small}
 
 pub there : (net : Net) (job : Job) (x k : ℕ) → length net.parts.regs ≡ length (keys_of job) → HasKey job (Pipe x k) → place_of job (Pipe x k) < length net.parts.regs
 there net job x k same has =

@@ -6,8 +6,9 @@ use Rattle.std.specs.Prelude.{ℕ, zero, suc, List, [], ◌++◌, length, map, g
 use Rattle.kp_ast.specs.declared.tree.Job.{Job}
 use Rattle.kp_machine.specs.Slots.{Slot, hints_of, pipes_of, targets_of}
 use Rattle.kp_net.specs.{Netlist.Net, Parts.no_reg}
-use Rattle.kp_synth_tables.specs.{Keys.guess_at, Keys.key_at, Keys.keys_of, declared.key.GuessSlot.GuessSlot, declared.key.Key.Key}
-use Rattle.kp_synth_tables.specs.declared.key.Key.TheVariants.{Visible, Full, Pipe, Valid, Value, Pending, Guess, Hint}
+use Rattle.kp_design.specs.{Numbers.guess_at, declared.guess.GuessSlot.GuessSlot}
+use Rattle.kp_synth_registers.specs.{Keys.key_at, Keys.keys_of, declared.key.Key.Key}
+use Rattle.kp_synth_registers.specs.declared.key.Key.TheVariants.{Visible, Full, Pipe, Valid, Value, Pending, Guess, Hint}
 
 abbrev pub names_of : List Slot → List (List ℕ)
 names_of slots = map (λ s. s.name) slots

@@ -3,7 +3,8 @@ use Rattle.std.specs.Prelude.{ℕ, ◌-◌, List, [], ◌∷◌, ◌++◌, get_o
 use Rattle.kp_ast.specs.declared.tree.Job.{Job}
 use Rattle.kp_net.specs.{declared.netlist.NetReg.NetReg, Netlist.Net, Parts.no_reg}
 use Rattle.kp_vlog.specs.Canon.{text_of}
-use Rattle.kp_synth_tables.specs.{Keys.target_at, Keys.pipe_at, Keys.place_of, declared.key.Key.Key, declared.key.Key.TheVariants.Pipe}
+use Rattle.kp_design.specs.Numbers.{target_at, pipe_at}
+use Rattle.kp_synth_registers.specs.{Keys.place_of, declared.key.Key.Key, declared.key.Key.TheVariants.Pipe}
 use Rattle.kp_core_ports.specs.declared.port.Ask.{Ask}
 use Rattle.kp_core_ports.specs.declared.port.Ask.TheVariants.{Show, Peek, Load, Probe, Next, Commit}
 use Rattle.kp_core_ports.specs.declared.port.Port.{Port}

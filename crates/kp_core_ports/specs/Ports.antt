@@ -10,8 +10,9 @@ use Rattle.kp_bits.specs.Literals.{is_number, number_of}
 use Rattle.kp_base.specs.Lines.{Piece, lines_of, words_of}
 use Rattle.kp_ast.specs.declared.tree.Job.{Job}
 use Rattle.kp_machine.specs.Slots.{Slot, targets_of, pipes_of, is_register}
-use Rattle.kp_synth_tables.specs.Keys.{is_piped, target_at, HasKey}
-use Rattle.kp_synth_tables.specs.declared.key.Key.TheVariants as keys
+use Rattle.kp_design.specs.{Spans.is_piped, Numbers.target_at}
+use Rattle.kp_synth_registers.specs.Keys.{HasKey}
+use Rattle.kp_synth_registers.specs.declared.key.Key.TheVariants as keys
 use Rattle.kp_core_ports.specs.declared.port.Ask.{Ask}
 use Rattle.kp_core_ports.specs.declared.port.Ask.TheVariants.{Show, Peek, Load, Probe, Next, Commit}
 use Rattle.kp_core_ports.specs.declared.port.{Port.Port, Verb.Verb, TargetVerb.TargetVerb, PipeVerb.PipeVerb, PortRule.PortRule, PortRefusal.PortRefusal}

@@ -14,7 +14,7 @@ use crate::port::{Ask, PipeVerb, Port, PortRefusal, PortRule, PortsRefused, Targ
 use crate::slots::{is_held, pipe_of, target_of};
 use crate::words::{bytes_of, is_number, pipe_label, stage_of, verb_of};
 use kp_base::{List, Run, place_of};
-use kp_synth_tables::Layout;
+use kp_design::Layout;
 use std::alloc::Global;
 
 /// The ports that the tokens of a line ask for, after these ports, if it has any tokens.

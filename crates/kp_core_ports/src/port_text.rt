@@ -1,17 +1,19 @@
 // The texts of the ports that a line asks for.
 ghost use Rattle.std.specs.Prelude.{◌≡◌, ◌≤◌, ◌++◌, length, OnOk};
-ghost use Rattle.kp_synth_tables.specs.Keys.{keys_of, target_at, HasKey};
-ghost use Rattle.kp_synth_tables.specs.declared.key.Key.TheVariants.{Pipe};
+ghost use Rattle.kp_synth_registers.specs.Keys.{keys_of, HasKey};
+ghost use Rattle.kp_design.specs.Numbers.{target_at};
+ghost use Rattle.kp_synth_registers.specs.declared.key.Key.TheVariants.{Pipe};
 ghost use Rattle.kp_core_ports.specs.Ports.{Exists};
 ghost use Rattle.kp_core_ports.specs.declared.port.Ask.TheVariants.{Load, Peek};
 ghost use Rattle.kp_core_ports.specs.PortTexts.{wire_head, wire_tail, wire, enable, header_for, header_text, register_at, show_line, peek_line, load_test, load_update, load_line, probe_line, next_line, commit_line, line_for, line_text};
 
-use crate::pieces::add;
 use crate::{Ask, Port};
+use crate::pieces::add;
 use itoa::Buffer;
 use kp_base::NoMemory;
+use kp_design::Layout;
 use kp_net::{NetReg, Netlist};
-use kp_synth_tables::{Key, Layout};
+use kp_synth_registers::{Key, Keys};
 
 // A wire of the header.
 #[tactic(auto, using(std::proofs::Common::append_assoc))]
@@ -218,13 +220,20 @@ fn add_commit_line(out: &mut Vec<u8>, stages: u32) -> Result<(), NoMemory>
 }
 
 // The register that holds a pipe in a stage.
-#[tactic(auto, using(crate::proofs::Registers::there, crate::proofs::Registers::any_default))]
-fn register_at<'n>(net: &'n Netlist, layout: &Layout<'_>, pipe: u32, stage: u32) -> &'n NetReg
+#[tactic(auto, using(crate::proofs::Registers::there, crate::proofs::Registers::any_default, kp_synth_registers::proofs::Places::place_is))]
+fn register_at<'n>(
+    net: &'n Netlist,
+    layout: &Layout<'_>,
+    keys: &Keys,
+    pipe: u32,
+    stage: u32,
+) -> &'n NetReg
+    requires keys { keys.now ≡ keys_of layout.now }
     requires regs { length net.now.parts.regs ≡ length (keys_of layout.now) }
     requires exists { HasKey layout.now (Pipe pipe stage) }
     ensures { result.now ≡ register_at net.now layout.now (Pipe pipe stage) }
 {
-    let place = layout.place(Key::Pipe(pipe, stage));
+    let place = keys.place(Key::Pipe(pipe, stage));
     &net.parts().regs.as_slice()[place as usize]
 }
 
@@ -233,8 +242,10 @@ pub fn add_line(
     out: &mut Vec<u8>,
     net: &Netlist,
     layout: &Layout<'_>,
+    keys: &Keys,
     port: &Port,
 ) -> Result<(), NoMemory>
+    requires keys { keys.now ≡ keys_of layout.now }
     requires regs { length net.now.parts.regs ≡ length (keys_of layout.now) }
     requires exists { Exists layout.now port.now.ask }
     ensures { OnOk result (out.new.items ≡ out.old.items ++ line_text net.now layout.now port.now) }
@@ -247,9 +258,13 @@ pub fn add_line(
         Ask::Probe(pipe, stage) => add_probe_line(
             out,
             label,
-            register_at(net, layout, pipe, stage),
+            register_at(net, layout, keys, pipe, stage),
         ),
-        Ask::Next(pipe, stage) => add_next_line(out, label, register_at(net, layout, pipe, stage)),
+        Ask::Next(pipe, stage) => add_next_line(
+            out,
+            label,
+            register_at(net, layout, keys, pipe, stage),
+        ),
         Ask::Commit => add_commit_line(out, layout.stages()),
     }
 }

@@ -9,7 +9,7 @@ use crate::line::port_in;
 use crate::port::{Port, PortsRefused};
 use crate::words::uncommented;
 use kp_base::{Run, lines_in, words_in};
-use kp_synth_tables::Layout;
+use kp_design::Layout;
 use std::alloc::Global;
 
 /// Reads the lines that start at an offset of a text and ask for ports of the module of a job.

@@ -2,12 +2,12 @@
 ghost use Rattle.std.specs.Prelude.{◌≡◌, ◌^◌, ◌<◌, ◌&&◌, true, length};
 ghost use Rattle.std.specs.Str.{bytes_eq};
 ghost use Rattle.kp_machine.specs.Slots.{targets_of, pipes_of};
-ghost use Rattle.kp_synth_tables.specs.Keys.{HasKey};
-ghost use Rattle.kp_synth_tables.specs.declared.key.Key.TheVariants as keys;
+ghost use Rattle.kp_synth_registers.specs.Keys.{HasKey};
+ghost use Rattle.kp_synth_registers.specs.declared.key.Key.TheVariants as keys;
 ghost use Rattle.kp_core_ports.specs.Ports.{is_of, is_held, target_from, pipe_from};
 
 use kp_ast::{Decl, Named};
-use kp_synth_tables::Layout;
+use kp_design::Layout;
 
 /// The number of the register, or of the file, with this name.
 pub fn target_of(decls: &[Decl], register: bool, name: &[u8]) -> Option<u32>

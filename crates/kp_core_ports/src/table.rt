@@ -1,15 +1,17 @@
 // The lines of the table.
 ghost use Rattle.std.specs.Prelude.{◌≡◌, ◌<◌, ◌++◌, decimal, length, IfOk, OnOk};
 ghost use Rattle.kp_machine.specs.Slots.{hints_of, pipes_of, targets_of};
-ghost use Rattle.kp_synth_tables.specs.Keys.{guess_at, keys_of};
+ghost use Rattle.kp_design.specs.Numbers.{guess_at};
+ghost use Rattle.kp_synth_registers.specs.Keys.{key_at, keys_of};
 ghost use Rattle.kp_core_ports.specs.Names.{guess_in, in_stage, name_line, names_of, names_text, stored};
 
 use crate::names::{Names, name_at};
 use itoa::Buffer;
 use kp_ast::Name;
 use kp_base::NoMemory;
+use kp_design::{GuessSlot, Layout};
 use kp_net::Netlist;
-use kp_synth_tables::{GuessSlot, Key, Layout};
+use kp_synth_registers::{Key, Keys};
 use std::alloc::Global;
 
 /// The table of the registers of a netlist of a job: a line for each, in their order. The only error is out of memory.
@@ -19,9 +21,10 @@ pub fn names_text(alloc: Global, net: &Netlist, layout: &Layout<'_>) -> Result<V
     ensures { IfOk result (λ text. text.items ≡ names_text net.now layout.now) }
 {
     let names = Names::of(alloc, layout.job().decls.as_slice())?;
+    let keys = Keys::of(alloc, layout)?;
     let mut text = Vec::new(alloc);
-    for register in 0..layout.key_count() {
-        add_line(&mut text, net, layout, &names, register)?;
+    for register in 0..keys.count() {
+        add_line(&mut text, net, layout, &names, register, keys.key(register))?;
     }
     Ok(text)
 }
@@ -34,9 +37,11 @@ fn add_line(
     layout: &Layout<'_>,
     names: &Names,
     register: u32,
+    key: Key,
 ) -> Result<(), NoMemory>
     requires regs { length net.now.parts.regs ≡ length (keys_of layout.now) }
     requires inside { register < length (keys_of layout.now) }
+    requires key { key ≡ key_at layout.now register }
     requires targets { names.now.targets.items ≡ names_of (targets_of layout.now.decls) }
     requires pipes { names.now.pipes.items ≡ names_of (pipes_of layout.now.decls) }
     requires hints { names.now.hints.items ≡ names_of (hints_of layout.now.decls) }
@@ -45,7 +50,7 @@ fn add_line(
     let reg = &net.parts().regs.as_slice()[register as usize];
     out.extend_from_slice(reg.name.bytes())?;
     out.extend_from_slice(b" ")?;
-    add_stored(out, layout, names, layout.key(register))?;
+    add_stored(out, layout, names, key)?;
     out.extend_from_slice(b"\n")?;
     Ok(())
 }

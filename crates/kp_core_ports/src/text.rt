@@ -1,6 +1,6 @@
 // The complete text.
 ghost use Rattle.std.specs.Prelude.{◌≡◌, ◌≤◌, length, IfOk};
-ghost use Rattle.kp_synth_tables.specs.Keys.{keys_of};
+ghost use Rattle.kp_synth_registers.specs.Keys.{keys_of};
 ghost use Rattle.kp_core_ports.specs.Ports.{AllExist};
 ghost use Rattle.kp_core_ports.specs.Core.{is_in_line, last_line, header_end, with_added, with_ports, header_ports, comment, lines_under, added_lines, core_text};
 
@@ -9,8 +9,9 @@ use crate::kept::canonical_text;
 use crate::pieces::add;
 use crate::port_text::{add_header, add_line};
 use kp_base::{NoMemory, run_length};
+use kp_design::Layout;
 use kp_net::Netlist;
-use kp_synth_tables::Layout;
+use kp_synth_registers::Keys;
 use std::alloc::Global;
 
 /// The canonical text of a netlist of a job, with these ports, and more lines after those for them. The only error is out of memory.
@@ -76,7 +77,8 @@ fn added_lines(
     if ports.is_empty() {
         return Ok(Vec::new(alloc));
     }
-    lines(alloc, net, layout, ports)
+    let keys = Keys::of(alloc, layout)?;
+    lines(alloc, net, layout, &keys, ports)
 }
 
 // The same where there are some.
@@ -84,15 +86,17 @@ fn lines(
     alloc: Global,
     net: &Netlist,
     layout: &Layout<'_>,
+    keys: &Keys,
     ports: &[Port],
 ) -> Result<Vec<u8>, NoMemory>
+    requires keys { keys.now ≡ keys_of layout.now }
     requires regs { length net.now.parts.regs ≡ length (keys_of layout.now) }
     requires exist { AllExist layout.now ports.now }
     ensures { IfOk result (λ text. text.items ≡ lines_under net.now layout.now ports.now) }
 {
     let mut text = title(alloc)?;
     for port in ports {
-        add_line(&mut text, net, layout, port)?;
+        add_line(&mut text, net, layout, keys, port)?;
     }
     Ok(text)
 }

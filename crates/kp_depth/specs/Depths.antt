@@ -2,8 +2,8 @@
 use Rattle.std.specs.Prelude.{◌≡◌, ℕ, zero, suc, ◌+◌, ◌<◌, ◌≤◌, Bool, true, false, ◌==◌, ◌&&◌, List, length, get_or, All, Contains, Option, Some, None, if◌then◌else◌}
 use Rattle.kp_ast.specs.declared.tree.Job.{Job}
 use Rattle.kp_net.specs.{declared.node.Node.Node, Netlist.Net, Parts.no_reg}
-use Rattle.kp_synth_tables.specs.{declared.key.Key.Key, Keys.keys_of, Keys.key_at}
-use Rattle.kp_synth_tables.specs.declared.key.Key.TheVariants.{Visible, Full, Pipe, Valid, Value, Pending, Guess, Hint}
+use Rattle.kp_synth_registers.specs.{declared.key.Key.Key, Keys.keys_of, Keys.key_at}
+use Rattle.kp_synth_registers.specs.declared.key.Key.TheVariants.{Visible, Full, Pipe, Valid, Value, Pending, Guess, Hint}
 use Rattle.kp_depth.specs.declared.{ends.End.End, ends.Sort.Sort, ends.Sort.TheVariants.Data, ends.Sort.TheVariants.Control, stages.Path.Path, stages.Row.Row, stages.Depths.Depths}
 use Rattle.kp_depth.specs.{Ends.ends_of, Paths.IsPath, Paths.path_length, Paths.NoneLonger, Times.times_of}
 

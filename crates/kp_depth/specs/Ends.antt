@@ -5,8 +5,9 @@ use Rattle.kp_ast.specs.declared.tree.Job.{Job}
 use Rattle.kp_machine.specs.{Slots.targets_of, Slots.is_register, Machine.machine_of, Machine.files_before}
 use Rattle.kp_net.specs.declared.node.{NodeId.NodeId, Node.Node, Kind.Kind, Kind.TheVariants.Word, Kind.TheVariants.Reg, Kind.TheVariants.Mux}
 use Rattle.kp_net.specs.{declared.netlist.WritePort.WritePort, Netlist.Net, Parts.no_reg, Parts.no_file}
-use Rattle.kp_synth_tables.specs.{declared.layout.Port.Port, declared.key.Key.Key, Keys.keys_of, Keys.key_at, Keys.target_at, Fits.port_at}
-use Rattle.kp_synth_tables.specs.declared.key.Key.TheVariants.{Visible, Full, Pipe, Valid, Value, Pending, Guess, Hint}
+use Rattle.kp_design.specs.{declared.layout.Port.Port, Numbers.target_at, Fits.port_at}
+use Rattle.kp_synth_registers.specs.{declared.key.Key.Key, Keys.keys_of, Keys.key_at}
+use Rattle.kp_synth_registers.specs.declared.key.Key.TheVariants.{Visible, Full, Pipe, Valid, Value, Pending, Guess, Hint}
 use Rattle.kp_depth.specs.declared.ends.{End.End, Sort.Sort, Holder.Holder}
 use Rattle.kp_depth.specs.declared.ends.Sort.TheVariants.{Data, Control}
 use Rattle.kp_depth.specs.declared.ends.Holder.TheVariants.{Register, File, Address}

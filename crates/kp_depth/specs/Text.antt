@@ -5,7 +5,7 @@ use Rattle.kp_ast.specs.declared.tree.Job.{Job}
 use Rattle.kp_net.specs.declared.{node.Kind.Kind}
 use Rattle.kp_net.specs.declared.node.Kind.TheVariants.{Const, Ext, Sample, Reg, Word, Binary, Mux}
 use Rattle.kp_net.specs.{Netlist.Net, Parts.no_port, Parts.no_reg, Parts.no_file}
-use Rattle.kp_synth_tables.specs.Keys.{key_at}
+use Rattle.kp_synth_registers.specs.Keys.{key_at}
 use Rattle.kp_vlog.specs.Canon.{sign, wire}
 use Rattle.kp_core_ports.specs.Names.{stored}
 use Rattle.kp_depth.specs.declared.{ends.Holder.Holder, ends.Holder.TheVariants.Register, ends.Holder.TheVariants.File, ends.Holder.TheVariants.Address, time.Input.Input, time.Time.Time, stages.Path.Path, stages.Row.Row, stages.Depths.Depths}

@@ -3,15 +3,16 @@ ghost use Rattle.std.specs.Prelude.{◌≡◌, ◌+◌, ◌<◌, ◌≤◌, ◌+
 ghost use Rattle.kp_net.specs.Parts.{no_file};
 ghost use Rattle.kp_machine.specs.Machine.{files_before, registers_before};
 ghost use Rattle.kp_machine.specs.Slots.{targets_of};
-ghost use Rattle.kp_synth_tables.specs.Fits.{port_at};
-ghost use Rattle.kp_synth_tables.specs.Keys.{HasKey, key_at, keys_of};
+ghost use Rattle.kp_design.specs.Fits.{port_at};
+ghost use Rattle.kp_synth_registers.specs.Keys.{HasKey, key_at, keys_of};
 ghost use Rattle.kp_depth.specs.Delay.{kind_of};
 ghost use Rattle.kp_depth.specs.Paths.{kind_at};
 ghost use Rattle.kp_depth.specs.Ends.{each_below, ends_of as all_ends, is_own as is_own_kind, next_ends, port_stage, register_ends, sort_of as key_sort, stage_of as key_stage, target_ends, word_end, word_ends, write_ends};
 
 use kp_base::NoMemory;
+use kp_design::{Layout, Port};
 use kp_net::{Kind, Netlist, Node, NodeId, WritePort};
-use kp_synth_tables::{Key, Layout, Port};
+use kp_synth_registers::{Key, Keys};
 use std::alloc::Global;
 
 /// What takes the value of a node: a register or a file, by its number, or a word of a file outside, by its address.
@@ -125,19 +126,20 @@ fn add_next(
     Ok(())
 }
 
-#[tactic(auto, using(kp_synth_tables::proofs::Places::key_had))]
+#[tactic(auto, using(kp_synth_registers::proofs::Places::key_had))]
 fn add_register(
     ends: &mut Vec<End>,
     net: &Netlist,
     layout: &Layout<'_>,
     r: u32,
+    key: Key,
 ) -> Result<(), NoMemory>
     requires regs { length net.now.parts.regs ≡ length (keys_of layout.now) }
     requires inside { r < length (keys_of layout.now) }
+    requires key { key ≡ key_at layout.now r }
     ensures { OnOk result (ends.new.items ≡ ends.old.items ++ register_ends layout.now net.now r) }
 {
     let next = net.parts().regs.as_slice()[r as usize].next;
-    let key = layout.key(r);
     add_next(
         ends,
         net.nodes(),
@@ -148,12 +150,18 @@ fn add_register(
     )
 }
 
-fn add_registers(ends: &mut Vec<End>, net: &Netlist, layout: &Layout<'_>) -> Result<(), NoMemory>
-    requires { length net.now.parts.regs ≡ length (keys_of layout.now) }
+fn add_registers(
+    ends: &mut Vec<End>,
+    net: &Netlist,
+    layout: &Layout<'_>,
+    keys: &Keys,
+) -> Result<(), NoMemory>
+    requires keys { keys.now ≡ keys_of layout.now }
+    requires regs { length net.now.parts.regs ≡ length (keys_of layout.now) }
     ensures { OnOk result (ends.new.items ≡ ends.old.items ++ each_below (register_ends layout.now net.now) (length (keys_of layout.now))) }
 {
-    for r in 0..layout.key_count() {
-        add_register(ends, net, layout, r)?;
+    for r in 0..keys.count() {
+        add_register(ends, net, layout, r, keys.key(r))?;
     }
     Ok(())
 }
@@ -281,13 +289,15 @@ pub(crate) fn ends_of(
     alloc: Global,
     net: &Netlist,
     layout: &Layout<'_>,
+    keys: &Keys,
     inside: bool,
 ) -> Result<Vec<End>, NoMemory>
-    requires { length net.now.parts.regs ≡ length (keys_of layout.now) }
+    requires keys { keys.now ≡ keys_of layout.now }
+    requires regs { length net.now.parts.regs ≡ length (keys_of layout.now) }
     ensures { IfOk result (λ ends. ends.items ≡ all_ends layout.now net.now inside) }
 {
     let mut ends = Vec::new(alloc);
-    add_registers(&mut ends, net, layout)?;
+    add_registers(&mut ends, net, layout, keys)?;
     add_targets(&mut ends, net, layout)?;
     if !inside {
         add_words(&mut ends, net, layout)?;

@@ -1,10 +1,10 @@
 // The lines of a path, and what they consist of.
 ghost use Rattle.std.specs.Prelude.{◌≡◌, ◌++◌, get_or, decimal, OnOk};
 ghost use Rattle.kp_net.specs.Parts.{no_file, no_port, no_reg};
-ghost use Rattle.kp_synth_tables.specs.Keys.{key_at};
+ghost use Rattle.kp_synth_registers.specs.Keys.{key_at, keys_of};
 ghost use Rattle.kp_vlog.specs.Canon.{sign, wire};
 ghost use Rattle.kp_depth.specs.Paths.{kind_at};
-ghost use Rattle.kp_depth.specs.inner.Named.{AreNames};
+ghost use Rattle.kp_depth.specs.inner.Named.{IsSource};
 ghost use Rattle.kp_depth.specs.Text as text;
 
 use crate::ends::Holder;
@@ -13,8 +13,9 @@ use itoa::Buffer;
 use kp_base::NoMemory;
 use kp_bits::BinOp;
 use kp_core_ports::{Names, add_stored};
+use kp_design::Layout;
 use kp_net::{Kind, Netlist, NodeId};
-use kp_synth_tables::{Key, Layout};
+use kp_synth_registers::{Key, Keys};
 use std::alloc::Global;
 
 // What the lines of a netlist are written from.
@@ -22,6 +23,7 @@ use std::alloc::Global;
 pub(crate) struct Source<'a> {
     pub net: &'a Netlist,
     pub layout: &'a Layout<'a>,
+    pub keys: &'a Keys,
     pub names: &'a Names,
     pub times: &'a Times,
 }
@@ -75,10 +77,11 @@ pub(crate) fn add_length(alloc: Global, out: &mut Vec<u8>, n: u64) -> Result<(),
 
 impl Source<'_> {
     fn key(&self, r: u32) -> Key
+        requires { self.now.keys.now ≡ keys_of self.now.layout.now }
         ensures { result ≡ key_at self.now.layout.now r }
     {
-        if r < self.layout.key_count() {
-            self.layout.key(r)
+        if r < self.keys.count() {
+            self.keys.key(r)
         } else {
             Key::Full(0)
         }
@@ -115,7 +118,7 @@ impl Source<'_> {
 // Appends the name of a register and what it holds.
 #[tactic(auto, using(std::proofs::Common::append_assoc))]
 fn add_register(out: &mut Vec<u8>, source: &Source<'_>, r: u32) -> Result<(), NoMemory>
-    requires { AreNames source.now.layout.now source.now.names.now }
+    requires { IsSource source.now.layout.now source.now.keys.now source.now.names.now }
     ensures { OnOk result (out.new.items ≡ out.old.items ++ text.register_text source.now.layout.now source.now.net.now r) }
 {
     out.extend_from_slice(source.register_name(r))?;
@@ -131,7 +134,7 @@ pub(crate) fn add_holder(
     source: &Source<'_>,
     holder: Holder,
 ) -> Result<(), NoMemory>
-    requires { AreNames source.now.layout.now source.now.names.now }
+    requires { IsSource source.now.layout.now source.now.keys.now source.now.names.now }
     ensures { OnOk result (out.new.items ≡ out.old.items ++ text.holder_text source.now.layout.now source.now.net.now holder) }
 {
     match holder {
@@ -171,7 +174,7 @@ fn sign_of(op: BinOp) -> &'static [u8]
 // Appends what the wire of a node is assigned.
 #[tactic(auto, using(std::proofs::Common::append_assoc))]
 fn add_assigned(out: &mut Vec<u8>, source: &Source<'_>, kind: &Kind) -> Result<(), NoMemory>
-    requires { AreNames source.now.layout.now source.now.names.now }
+    requires { IsSource source.now.layout.now source.now.keys.now source.now.names.now }
     ensures { OnOk result (out.new.items ≡ out.old.items ++ text.assigned source.now.layout.now source.now.net.now kind.now) }
 {
     match kind {
@@ -209,7 +212,7 @@ fn add_wire_line(
     node: NodeId,
     arrival: u64,
 ) -> Result<(), NoMemory>
-    requires { AreNames source.now.layout.now source.now.names.now }
+    requires { IsSource source.now.layout.now source.now.keys.now source.now.names.now }
     ensures { OnOk result (out.new.items ≡ out.old.items
         ++ text.wire_line source.now.layout.now source.now.net.now node.0 arrival (kind_at source.now.net.now.nodes node.0)) }
 {
@@ -238,7 +241,7 @@ pub(crate) fn add_step(
     within: bool,
     node: NodeId,
 ) -> Result<(), NoMemory>
-    requires { AreNames source.now.layout.now source.now.names.now }
+    requires { IsSource source.now.layout.now source.now.keys.now source.now.names.now }
     ensures { OnOk result (out.new.items ≡ out.old.items
         ++ text.step_text source.now.layout.now source.now.net.now source.now.times.now.all.items within node.0) }
 {
@@ -258,7 +261,7 @@ pub(crate) fn add_steps(
     source: &Source<'_>,
     steps: &[Input],
 ) -> Result<(), NoMemory>
-    requires { AreNames source.now.layout.now source.now.names.now }
+    requires { IsSource source.now.layout.now source.now.keys.now source.now.names.now }
     ensures { OnOk result (out.new.items ≡ out.old.items
         ++ text.steps_text source.now.layout.now source.now.net.now source.now.times.now.all.items steps.now) }
 {

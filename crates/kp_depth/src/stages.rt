@@ -1,7 +1,7 @@
 // The longest paths of the stages, and the bits of their registers.
 ghost use Rattle.std.specs.Prelude.{◌≡◌, ◌+◌, ◌*◌, ◌<◌, ◌≤◌, None, fold, length, get_or, IfOk};
 ghost use Rattle.kp_net.specs.Parts.{no_reg};
-ghost use Rattle.kp_synth_tables.specs.Keys.{keys_of};
+ghost use Rattle.kp_synth_registers.specs.Keys.{keys_of};
 ghost use Rattle.kp_depth.specs.Times.{known_time, times_of};
 ghost use Rattle.kp_depth.specs.Ends.{ends_of as all_ends};
 ghost use Rattle.kp_depth.specs.Depths.{bits_below, held_bits, held_in, is_at as is_at_end, is_same_sort, row_count as row_number, IsDepth, IsLongest, IsRow};
@@ -11,8 +11,9 @@ use crate::ends::{End, Sort, ends_of};
 use crate::path::descend;
 use crate::time::{Input, Times};
 use kp_base::NoMemory;
+use kp_design::Layout;
 use kp_net::Netlist;
-use kp_synth_tables::{Key, Layout};
+use kp_synth_registers::{Key, Keys};
 use std::alloc::Global;
 
 /// A longest path: its end, the operands from there down, and its length.
@@ -124,12 +125,13 @@ fn held_by(key: Key) -> u32
 }
 
 // The bits of a register, if it holds the state of a stage.
-fn bits_of(net: &Netlist, layout: &Layout<'_>, stage: u32, r: u32) -> u8
+fn bits_of(net: &Netlist, layout: &Layout<'_>, keys: &Keys, stage: u32, r: u32) -> u8
+    requires keys { keys.now ≡ keys_of layout.now }
     requires regs { length net.now.parts.regs ≡ length (keys_of layout.now) }
     requires inside { r < length (keys_of layout.now) }
     ensures { result ≡ held_bits layout.now net.now stage r }
 {
-    if held_by(layout.key(r)) == stage {
+    if held_by(keys.key(r)) == stage {
         net.parts().regs.as_slice()[r as usize].start.width()
     } else {
         0
@@ -137,13 +139,14 @@ fn bits_of(net: &Netlist, layout: &Layout<'_>, stage: u32, r: u32) -> u8
 }
 
 // The bits of all registers that hold the state of a stage.
-fn bits_in(net: &Netlist, layout: &Layout<'_>, stage: u32) -> u64
-    requires { length net.now.parts.regs ≡ length (keys_of layout.now) }
+fn bits_in(net: &Netlist, layout: &Layout<'_>, keys: &Keys, stage: u32) -> u64
+    requires keys { keys.now ≡ keys_of layout.now }
+    requires regs { length net.now.parts.regs ≡ length (keys_of layout.now) }
     ensures { result ≡ bits_below layout.now net.now stage (length (keys_of layout.now)) }
 {
     let mut bits: u64 = 0;
-    for r in 0..layout.key_count() {
-        bits += bits_of(net, layout, stage, r) as u64;
+    for r in 0..keys.count() {
+        bits += bits_of(net, layout, keys, stage, r) as u64;
     }
     bits
 }
@@ -152,10 +155,12 @@ fn row_of(
     alloc: Global,
     net: &Netlist,
     layout: &Layout<'_>,
+    keys: &Keys,
     times: &Times,
     ends: &[End],
     stage: u32,
 ) -> Result<Row, NoMemory>
+    requires keys { keys.now ≡ keys_of layout.now }
     requires regs { length net.now.parts.regs ≡ length (keys_of layout.now) }
     requires times { times.now.all.items ≡ times_of net.now.nodes times.now.inside }
     requires few { stage ≤ 4096 }
@@ -163,7 +168,7 @@ fn row_of(
 {
     let to_data = longest(alloc, net, times, ends, stage, Sort::Data)?;
     let to_control = longest(alloc, net, times, ends, stage, Sort::Control)?;
-    let bits = bits_in(net, layout, stage + 1);
+    let bits = bits_in(net, layout, keys, stage + 1);
     Ok(Row {
         to_data,
         to_control,
@@ -194,10 +199,12 @@ pub fn depths_of(
     ensures few { IfOk result (λ depths. length depths.rows.items ≤ 4096) }
 {
     let times = Times::of(alloc, net.nodes(), inside)?;
-    let ends = ends_of(alloc, net, layout, inside)?;
+    let keys = Keys::of(alloc, layout)?;
+    let ends = ends_of(alloc, net, layout, &keys, inside)?;
     let mut rows = Vec::new(alloc);
     for k in 0..row_count(layout, inside) {
-        rows.push(row_of(alloc, net, layout, &times, ends.as_slice(), k)?)?;
+        let row = row_of(alloc, net, layout, &keys, &times, ends.as_slice(), k)?;
+        rows.push(row)?;
     }
     Ok(Depths { times, rows })
 }

@@ -1,7 +1,7 @@
 // The depths as text.
 ghost use Rattle.std.specs.Prelude.{◌≡◌, ◌<◌, ◌≤◌, ◌++◌, length, get_or, Some, IfOk, OnOk};
 ghost use Rattle.kp_depth.specs.Depths.{no_row};
-ghost use Rattle.kp_depth.specs.inner.Named.{AreNames};
+ghost use Rattle.kp_depth.specs.inner.Named.{IsSource};
 ghost use Rattle.kp_depth.specs.Text as text;
 
 use crate::lines::{
@@ -12,8 +12,9 @@ use crate::stages::{Depths, Path, Row};
 use itoa::Buffer;
 use kp_base::NoMemory;
 use kp_core_ports::Names;
+use kp_design::Layout;
 use kp_net::Netlist;
-use kp_synth_tables::Layout;
+use kp_synth_registers::Keys;
 use std::alloc::Global;
 
 #[tactic(auto, using(std::proofs::Common::append_assoc))]
@@ -44,7 +45,7 @@ fn add_path_name(
 
 #[tactic(auto, using(std::proofs::Common::append_assoc))]
 fn add_path_end(out: &mut Vec<u8>, source: &Source<'_>, path: &Path) -> Result<(), NoMemory>
-    requires { AreNames source.now.layout.now source.now.names.now }
+    requires { IsSource source.now.layout.now source.now.keys.now source.now.names.now }
     ensures { OnOk result (out.new.items ≡ out.old.items ++ text.path_end source.now.layout.now source.now.net.now path.now) }
 {
     add_hundredths(out, path.length)?;
@@ -60,7 +61,7 @@ fn add_path_lines(
     source: &Source<'_>,
     path: &Path,
 ) -> Result<(), NoMemory>
-    requires { AreNames source.now.layout.now source.now.names.now }
+    requires { IsSource source.now.layout.now source.now.keys.now source.now.names.now }
     ensures { OnOk result (out.new.items ≡ out.old.items
         ++ text.path_lines source.now.layout.now source.now.net.now source.now.times.now.all.items path.now) }
 {
@@ -78,7 +79,7 @@ fn add_path(
     sort: &[u8],
     path: &Path,
 ) -> Result<(), NoMemory>
-    requires { AreNames source.now.layout.now source.now.names.now }
+    requires { IsSource source.now.layout.now source.now.keys.now source.now.names.now }
     ensures { OnOk result (out.new.items ≡ out.old.items
         ++ text.path_text source.now.layout.now source.now.net.now source.now.times.now.all.items k sort.now (Some path.now)) }
 {
@@ -95,7 +96,7 @@ fn add_path_of(
     sort: &[u8],
     path: &Option<Path>,
 ) -> Result<(), NoMemory>
-    requires { AreNames source.now.layout.now source.now.names.now }
+    requires { IsSource source.now.layout.now source.now.keys.now source.now.names.now }
     ensures { OnOk result (out.new.items ≡ out.old.items
         ++ text.path_text source.now.layout.now source.now.net.now source.now.times.now.all.items k sort.now path.now) }
 {
@@ -113,7 +114,7 @@ fn add_paths(
     k: u32,
     row: &Row,
 ) -> Result<(), NoMemory>
-    requires { AreNames source.now.layout.now source.now.names.now }
+    requires { IsSource source.now.layout.now source.now.keys.now source.now.names.now }
     ensures { OnOk result (out.new.items ≡ out.old.items
         ++ text.paths_text source.now.layout.now source.now.net.now source.now.times.now.all.items k row.now) }
 {
@@ -248,7 +249,7 @@ fn add_paths_at(
 ) -> Result<(), NoMemory>
     requires few { k ≤ 4096 }
     requires inside { k < length rows.now }
-    requires names { AreNames source.now.layout.now source.now.names.now }
+    requires names { IsSource source.now.layout.now source.now.keys.now source.now.names.now }
     ensures { OnOk result (out.new.items ≡ out.old.items
         ++ text.paths_text source.now.layout.now source.now.net.now source.now.times.now.all.items k (get_or rows.now k no_row)) }
 {
@@ -263,7 +264,7 @@ fn add_all_paths(
     rows: &[Row],
 ) -> Result<(), NoMemory>
     requires few { length rows.now ≤ 4096 }
-    requires names { AreNames source.now.layout.now source.now.names.now }
+    requires names { IsSource source.now.layout.now source.now.keys.now source.now.names.now }
     ensures { OnOk result (out.new.items ≡ out.old.items
         ++ text.texts_below (text.paths_text source.now.layout.now source.now.net.now source.now.times.now.all.items) rows.now (length rows.now)) }
 {
@@ -285,9 +286,11 @@ pub fn depth_text(
     ensures { IfOk result (λ all. all.items ≡ text.depth_text layout.now net.now depths.now) }
 {
     let names = Names::of(alloc, layout.job().decls.as_slice())?;
+    let keys = Keys::of(alloc, layout)?;
     let source = Source {
         net,
         layout,
+        keys: &keys,
         names: &names,
         times: &depths.times,
     };

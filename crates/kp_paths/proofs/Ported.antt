@@ -6,7 +6,7 @@ use Rattle.kp_width.{specs.Widths.widths_of, proofs.Unbroken.Unbroken}
 use Rattle.kp_stage.specs.Design.{IsSound, Plan}
 use Rattle.kp_machine.{specs.Slots.number_of, specs.Slots.targets_of, specs.Machine.machine_of, specs.Machine.result_for, proofs.Cases.by_option}
 use Rattle.kp_machine.proofs.Placing.{result_placed, stands}
-use Rattle.kp_synth_tables.specs.{declared.layout.Port.Port, Fits.port_at, Fits.port_for}
+use Rattle.kp_design.specs.{declared.layout.Port.Port, Fits.port_at, Fits.port_for}
 use Rattle.kp_paths.specs.{declared.cell.Cell.Cell, declared.cell.Cell.TheVariants.Reads, declared.cell.Cell.TheVariants.Empty, Cells.cell_of}
 use Rattle.kp_paths.specs.{declared.sets.Placed.Placed, Table.cell_at, Table.is_set_by, Table.is_surely_set_by, Table.sets_of, Table.target_read}
 use Rattle.kp_paths.specs.inner.Ported.{cell_by}

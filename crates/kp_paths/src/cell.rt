@@ -4,7 +4,7 @@ ghost use Rattle.kp_paths.specs.Text.{cell_word};
 ghost use Rattle.kp_paths.specs.inner.Ported.{cell_by, had_cell, later_cell};
 ghost use Rattle.kp_paths.specs.Cells.{unmet};
 
-use kp_synth_tables::Port;
+use kp_design::Port;
 
 /// What a stage has for a read.
 #[derive(Clone, Copy)]

@@ -1,12 +1,12 @@
 // The sets of a job.
 ghost use Rattle.std.specs.Prelude.{◌≡◌, ◌++◌, IfOk, OnOk};
 ghost use Rattle.std.specs.List.{list_any};
-ghost use Rattle.kp_machine.specs.Slots.{number_of, targets_of};
 ghost use Rattle.kp_paths.specs.Table.{is_set_by, is_surely_set_by, set_in, sets_from, sets_in};
 ghost use Rattle.kp_paths.specs.inner.Named.{number_named, placed_at};
 
 use kp_ast::{Block, Decl, Name, Stmt, StmtKind};
 use kp_base::NoMemory;
+use kp_design::target_number;
 use std::alloc::Global;
 
 /// A set of a result: its stage, the number of the result's target, and whether it has no condition.
@@ -96,22 +96,6 @@ fn target_set(decls: &[Decl], name: &Name) -> Option<usize>
         }
     }
     None
-}
-
-/// The number of a target among the registers and files, or their number if none has the name.
-pub(crate) fn target_number(decls: &[Decl], name: &Name) -> usize
-    ensures { result ≡ number_of (targets_of decls.now) name.now }
-{
-    let mut number = 0;
-    for decl in decls {
-        if let Decl::Reg(named, _, _) | Decl::File(named, _, _) = decl {
-            if *name == named.name {
-                return number;
-            }
-            number += 1;
-        }
-    }
-    number
 }
 
 /// Whether a stage up to j sets the result of a target.

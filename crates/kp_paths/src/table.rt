@@ -2,15 +2,15 @@
 ghost use Rattle.std.specs.Prelude.{◌≡◌, ◌≤◌, IfOk, is_some, length};
 ghost use Rattle.kp_machine.specs.Slots.{targets_of};
 ghost use Rattle.kp_machine.specs.Machine.{result_for};
-ghost use Rattle.kp_synth_tables.specs.Fits.{port_at};
+ghost use Rattle.kp_design.specs.Fits.{port_at};
 ghost use Rattle.kp_paths.specs.Table.{cell_at, sets_of as sets_of_job, target_read};
 
 use crate::cell::{Cell, cell_of};
-use crate::sets::{Placed, is_set, is_surely_set, sets_of, target_number};
+use crate::sets::{Placed, is_set, is_surely_set, sets_of};
 use kp_ast::{Job, ReadStmt};
 use kp_base::NoMemory;
+use kp_design::{Layout, Port, target_number};
 use kp_stage::Design;
-use kp_synth_tables::{Layout, Port};
 use std::alloc::Global;
 use std::marker::Model;
 

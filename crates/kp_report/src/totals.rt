@@ -3,11 +3,11 @@ ghost use Rattle.std.specs.Prelude.{◌≡◌, ◌<◌, ◌%◌, ◌^◌, length
 ghost use Rattle.std.specs.List.{All};
 ghost use Rattle.kp_sched.specs.Rows.{rows_seen};
 ghost use Rattle.kp_run.specs.Boards.{due_behind};
-ghost use Rattle.kp_report.specs.States.{targets_in};
 ghost use Rattle.kp_report.specs.inner.Targets.{StandsAt, IsSmall};
 ghost use Rattle.kp_report.specs.Line.{summand, registers_sum, totals_of};
 
 use crate::line::Totals;
+use crate::states::targets_in;
 use kp_ast::Decl;
 use kp_run::Board;
 
@@ -52,16 +52,6 @@ fn value_of(board: &Board<'_>, t: u32, decl: &Decl) -> u64
 {
     match decl {
         Decl::Reg(_, _, _) => board.value(t, 0).value(),
-        _ => 0,
-    }
-}
-
-// The number of targets of a declaration.
-fn targets_in(decl: &Decl) -> u32
-    ensures { result ≡ targets_in decl.now }
-{
-    match decl {
-        Decl::Reg(_, _, _) | Decl::File(_, _, _) => 1,
         _ => 0,
     }
 }

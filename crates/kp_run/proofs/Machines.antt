@@ -7,7 +7,8 @@ use Rattle.kp_bits.specs.Word.{Word}
 use Rattle.kp_ast.specs.declared.tree.{Job.Job, ResultDecl.ResultDecl}
 use Rattle.kp_stage.{specs.Facts.facts_of, specs.Start.start_of, specs.Stages.broken_of, proofs.Unbroken.stages_kept, proofs.Kept.rules_kept}
 use Rattle.kp_machine.specs.Machine.{machine_of, result_for, state_of, sequential, values_in, write_stage_of}
-use Rattle.kp_machine.specs.Slots.{targets_of, result_to}
+use Rattle.kp_machine.specs.Slots.{targets_of}
+use Rattle.kp_design.specs.{declared.layout.Port.Port, Fits.port_at, Fits.port_for, Fits.Fits, Fits.ResultFits}
 use Rattle.kp_pipeline.specs.{Accepted.Accepted, Sequential.exec, Sequential.seq, Rows.passed}
 use Rattle.kp_pipeline.specs.Rows as law
 use Rattle.kp_sched.{specs.Monitors.Kept, specs.Monitors.HasSeen, specs.Rows.rows_seen, specs.Runs.passes, proofs.Counting.seen_length}
@@ -27,13 +28,17 @@ stages_fit job e =
 
 -- ---- which machine has the value of a target
 
-pub home_is : (job : Job) (t : ℕ) → home_by (result_to (targets_of job.decls) job.decls t) job.stages.value ≡ home_of job t
-unfolding home_of machine_of result_for
-home_is job t = go (result_to (targets_of job.decls) job.decls t)
+pub home_is : (job : Job) (t : ℕ) → home_by (port_at job t) job.stages.value ≡ home_of job t
+unfolding home_of machine_of
+home_is job t = go (result_for job t)
   where
-    go : (r : Option ResultDecl) → home_by r job.stages.value ≡ (if is_some r then write_stage_of r else job.stages.value)
+    go : (r : Option ResultDecl) → home_by (port_for job t r) job.stages.value ≡ (if is_some r then write_stage_of r else job.stages.value)
     go None = refl
     go (Some r) = refl
+
+pub home_small : (job : Job) (t : ℕ) (port : Option Port) → Fits job → port ≡ port_at job t → ResultFits job t port → home_by port job.stages.value ≤ 12
+home_small job t None fits e h = fits.at_most
+home_small job t (Some p) fits e h = let few = fits.at_most in let early = h.0 in omega (arith, few, early)
 
 home_within : (n w : ℕ) (has : Bool) → (has ≡ true → w < n) → (if has then w else n) ≤ n
 home_within n w true h = let e : w < n = h refl in omega (arith, e)

@@ -19,6 +19,6 @@ pub use board::{Board, board_of, board_shown, board_with};
 pub use columns::{Column, columns_in, columns_of, updates};
 pub use cycles::{Cycles, cycles_of, fill, monitor_of, next_cycle, step};
 pub use difference::Difference;
-pub use homes::{homes_of, number_of};
+pub use homes::homes_of;
 pub use lanes::take;
 pub use places::{Place, places_of};

@@ -11,8 +11,8 @@ use crate::appending::{put_all, put_number};
 use crate::state::name_of;
 use itoa::Buffer;
 use kp_base::{NoMemory, Place, place_of};
+use kp_design::Layout;
 use kp_directive::{Directive, DirectiveFault, message_of};
-use kp_synth_tables::Layout;
 use kp_until::{LineFault, LineRule, PartFault, UntilFault, ValueFault};
 use std::alloc::Global;
 

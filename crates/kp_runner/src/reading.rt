@@ -12,8 +12,8 @@ use crate::message::{expect_message, line_message, misdirected, only_message, un
 use crate::request::Settings;
 use crate::unread::Unread;
 use kp_base::{NoMemory, Run, words_in};
+use kp_design::Layout;
 use kp_directive::{Directive, Verb, broken_in, bytes_of, directives_in};
-use kp_synth_tables::Layout;
 use kp_until::{Expected, LineRefused, Part, Until, part_of, read_expected, until_of};
 use std::alloc::Global;
 

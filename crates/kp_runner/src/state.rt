@@ -11,9 +11,9 @@ use crate::appending::{put_number, put_value};
 use kp_ast::Decl;
 use kp_base::NoMemory;
 use kp_bits::Bits;
+use kp_design::Layout;
 use kp_report::targets_in;
 use kp_seq::SeqMachine;
-use kp_synth_tables::Layout;
 use kp_until::{Index, Part};
 
 /// Which words of a file are printed.

@@ -10,7 +10,7 @@ use crate::state::name_of;
 use itoa::Buffer;
 use kp_base::NoMemory;
 use kp_bits::Bits;
-use kp_synth_tables::Layout;
+use kp_design::Layout;
 use kp_until::Bound;
 use kp_until_run::Missed;
 

@@ -5,7 +5,8 @@ use Rattle.kp_ast.specs.declared.tree.Job.{Job}
 use Rattle.kp_width.{specs.Widths.widths_of, proofs.Unbroken.Unbroken}
 use Rattle.kp_stage.{specs.Counts.summary_of, specs.Stages.broken_of, proofs.Bounds.numbers_few}
 use Rattle.kp_machine.specs.Slots.{targets_of, pipes_of, hints_of}
-use Rattle.kp_synth_tables.{specs.Keys.guesses_of, proofs.Limits.few as slots_few}
+use Rattle.kp_design.specs.Numbers.{guesses_of}
+use Rattle.kp_design.proofs.Limits.{few as slots_few}
 use Rattle.kp_synth_stage.specs.Work.{stmts_at, costs_of}
 use Rattle.kp_synth.specs.Stages as synth
 use Rattle.kp_synth.proofs.Rooms.{stages_few}

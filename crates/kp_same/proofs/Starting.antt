@@ -5,7 +5,7 @@ use Rattle.kp_width.{specs.Widths.widths_of, proofs.Unbroken.Unbroken}
 use Rattle.kp_stage.specs.{Start.IsStartOf, declared.start.Start.Start}
 use Rattle.kp_machine.specs.{Machine.state_of, Slots.targets_of}
 use Rattle.kp_seq.{specs.inner.Ready.words_of_start, proofs.Start.start_fits, proofs.Start.start_state, proofs.Start.word_fits}
-use Rattle.kp_synth_tables.specs.Keys.{target_at}
+use Rattle.kp_design.specs.Numbers.{target_at}
 use Rattle.kp_same.specs.Same.{FitsState}
 
 pub starts_fit : (job : Job) (start : Start) → Unbroken (widths_of job) → IsStartOf job start → FitsState job (state_of job start)

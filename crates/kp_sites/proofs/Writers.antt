@@ -4,7 +4,7 @@ use Rattle.std.proofs.lemmas.Option.{same_Some}
 use Rattle.kp_ast.specs.declared.tree.{ResultDecl.ResultDecl, Decl.Decl, Block.Block, Job.Job}
 use Rattle.kp_ast.specs.declared.tree.Decl.TheVariants as decls
 use Rattle.kp_machine.specs.{Slots.Slot, Slots.targets_of, Slots.number_of, Slots.result_to, Machine.machine_of, Machine.result_for, Machine.write_stage_of}
-use Rattle.kp_synth_tables.specs.{declared.layout.Port.Port, Fits.port_for, Fits.port_at}
+use Rattle.kp_design.specs.{declared.layout.Port.Port, Fits.port_for, Fits.port_at}
 use Rattle.kp_sites.specs.{declared.sites.Site.Site, declared.sites.Writer.Writer, Sites.result_number, Sites.sites_from, Sites.writer_at, Sites.writer_by}
 use Rattle.kp_sites.specs.inner.Ported.{writer_with}
 

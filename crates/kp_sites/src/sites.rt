@@ -1,13 +1,13 @@
 //! The tables of a job.
 ghost use Rattle.std.specs.Prelude.{◌≡◌, ◌<◌, ◌++◌, None, IfOk, OnOk, length, get_or};
-ghost use Rattle.kp_machine.specs.Slots.{targets_of, number_of};
+ghost use Rattle.kp_machine.specs.Slots.{targets_of};
 ghost use Rattle.kp_sites.specs.Sites.{no_site, result_number, sited, sites_in, sites_from, writer_at, writers_to};
 ghost use Rattle.kp_sites.specs.inner.Ported.{writer_with};
 
-use kp_ast::{Block, Decl, Name, Stmt, StmtKind};
+use kp_ast::{Block, Decl, Stmt, StmtKind};
 use kp_base::NoMemory;
+use kp_design::{Layout, Port, target_number};
 use kp_stage::Design;
-use kp_synth_tables::{Layout, Port};
 use std::alloc::Global;
 use std::marker::Model;
 
@@ -148,22 +148,6 @@ fn add_sites(
         }
     }
     Ok(())
-}
-
-// The number of a target among the registers and files, or their number if none has the name.
-fn target_number(decls: &[Decl], name: &Name) -> usize
-    ensures { result ≡ number_of (targets_of decls.now) name.now }
-{
-    let mut number = 0;
-    for decl in decls {
-        if let Decl::Reg(named, _, _) | Decl::File(named, _, _) = decl {
-            if *name == named.name {
-                return number;
-            }
-            number += 1;
-        }
-    }
-    number
 }
 
 // How each target is written.

@@ -6,7 +6,7 @@ use Rattle.kp_bits.specs.Word.{Word}
 use Rattle.kp_ast.specs.declared.tree.Job.{Job}
 use Rattle.kp_stage.specs.{Counts.summary_of, Start.start_of, Stages.broken_of}
 use Rattle.kp_pipeline.specs.Sequential.{exec, seq}
-use Rattle.kp_synth_tables.proofs.Limits.{few}
+use Rattle.kp_design.proofs.Limits.{few}
 use Rattle.kp_machine.specs.{Machine.machine_of, Machine.sequential, Machine.state_of, Machine.values_in, Slots.targets_of, Words.after_one}
 use Rattle.kp_seq.specs.Running.{Running, state}
 use Rattle.kp_sites.proofs.Sizes.{record_room, writers_many}

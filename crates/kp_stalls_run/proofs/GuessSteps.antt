@@ -6,8 +6,9 @@ use Rattle.kp_bits.specs.Word.{Word, word}
 use Rattle.kp_ast.specs.declared.tree.Job.{Job}
 use Rattle.kp_net.specs.Nodes.{Cells}
 use Rattle.kp_pipeline.specs.{Sequential.PendingGuess, Pipeline.Inputs, Pipeline.PipelineState, Pipeline.StageState}
-use Rattle.kp_synth_tables.specs.declared.key.{Key.TheVariants.Pending, Key.TheVariants.Guess, GuessSlot.GuessSlot}
-use Rattle.kp_synth_tables.specs.Keys.{guesses_of, is_carried, target_at}
+use Rattle.kp_synth_registers.specs.declared.key.Key.TheVariants.{Pending, Guess}
+use Rattle.kp_design.specs.declared.guess.GuessSlot.{GuessSlot}
+use Rattle.kp_design.specs.{Numbers.guesses_of, Spans.is_carried, Numbers.target_at}
 use Rattle.kp_synth_registers.specs.Holding.{Holds, guess_passes, kept_in, pending_guess, some_guess, some_of}
 use Rattle.kp_stalls_run.specs.Guessed.{agreed, as_word, first_guess, guessed_value, guessed_word, is_other_guess}
 use Rattle.kp_stalls_run.specs.inner.Held.{first_word, held_from, is_disputed, is_other_value, value_of, word_of}

@@ -6,8 +6,9 @@ use Rattle.kp_ast.specs.declared.tree.{Stmt.Stmt, StmtKind.StmtKind}
 use Rattle.kp_ast.specs.declared.tree.StmtKind.TheVariants as stmts
 use Rattle.kp_machine.{specs.Slots.Slot, specs.Slots.number_of, specs.Slots.targets_of, specs.Slots.width_of, proofs.Cases.by_test}
 use Rattle.kp_pipeline.proofs.Lists.{all-append}
-use Rattle.kp_synth_tables.{proofs.Fitting.all_at, specs.declared.key.GuessSlot.GuessSlot}
-use Rattle.kp_synth_tables.specs.Keys.{guess_at, guesses_from, guesses_in, guesses_of, no_guess, no_slot, target_at, with_guess, with_read}
+use Rattle.kp_design.proofs.Fitting.{all_at}
+use Rattle.kp_design.specs.declared.guess.GuessSlot.{GuessSlot}
+use Rattle.kp_design.specs.Numbers.{guess_at, guesses_from, guesses_in, guesses_of, no_guess, no_slot, target_at, with_guess, with_read}
 
 named_width : (ss : List Slot) (name : List ℕ) → width_of ss name ≡ (get_or ss (number_of ss name) no_slot).width
 named_width [] name = refl

@@ -18,7 +18,8 @@ use Rattle.kp_run.{specs.Cycles.input_at, specs.Cycles.inputs_to, proofs.Steps.s
 use Rattle.kp_synth.specs.Carrying.{Carries}
 use Rattle.kp_synth_registers.specs.Holding.{Holds, inputs_of}
 use Rattle.kp_implements.specs.Traces.{AreQuiet, inputs_seen}
-use Rattle.kp_synth_tables.specs.Keys.{is_alive, keys_of}
+use Rattle.kp_design.specs.Spans.{is_alive}
+use Rattle.kp_synth_registers.specs.Keys.{keys_of}
 use Rattle.kp_stalls.specs.declared.cause.{Cause.Cause, Cause.TheVariants.Value, Cause.TheVariants.Squashed, Guess.Guess, Line.Line, Wait.Wait, Wrong.Wrong}
 use Rattle.kp_stalls.specs.{Claims.moment_at, Occupants.report}
 use Rattle.kp_sites.specs.Sites.{sited}

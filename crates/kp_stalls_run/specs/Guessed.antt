@@ -4,7 +4,7 @@ use Rattle.std.specs.List.{list_any}
 use Rattle.kp_bits.specs.Word.{Word, word}
 use Rattle.kp_ast.specs.declared.tree.Job.{Job}
 use Rattle.kp_pipeline.specs.Sequential.{PendingGuess}
-use Rattle.kp_synth_tables.specs.Keys.{target_at}
+use Rattle.kp_design.specs.Numbers.{target_at}
 
 -- the value of the first guess of register t
 abbrev pub first_guess : ℕ → List PendingGuess → Option ℕ

@@ -1,17 +1,18 @@
 // The values that were guessed, from the registers of a netlist that runs again.
 ghost use Rattle.std.specs.Prelude.{◌≡◌, ◌<◌, ◌≤◌, OnOk, get_or, length, map};
 ghost use Rattle.std.specs.List.{All, list_any};
-ghost use Rattle.kp_sites.specs.Sites.{no_site, sited};
+ghost use Rattle.kp_sites.specs.Sites.{no_site};
 ghost use Rattle.kp_synth.specs.Carrying.{Carries};
 ghost use Rattle.kp_implements.specs.Shows.{Shows};
-ghost use Rattle.kp_synth_tables.specs.Keys.{keys_of};
+ghost use Rattle.kp_synth_registers.specs.Keys.{keys_of};
 ghost use Rattle.kp_stalls_run.specs.Runs.{cause_with as cause_with_in, guess_with as guess_with_in, guessed_in, line_with as line_with_in, wrong_with as wrong_with_in};
-ghost use Rattle.kp_stalls_run.specs.inner.Replays.{HoldsState, names_guess as names_guess_in, names_one, run_at};
+ghost use Rattle.kp_stalls_run.specs.inner.Replays.{AreTables, HoldsState, names_guess as names_guess_in, names_one, run_at};
 
 use crate::guess_registers::guessed;
 use kp_base::NoMemory;
 use kp_bits::Bits;
 use kp_cycle::Sim;
+use kp_design::Layout;
 use kp_frontend::Accepted;
 use kp_net::Netlist;
 use kp_run::laws::a_job_gives_its_own_inputs;
@@ -19,7 +20,7 @@ use kp_run::step;
 use kp_sites::Sites;
 use kp_stalls::{Cause, Guess, Line, Wrong};
 use kp_synth::synth;
-use kp_synth_tables::Layout;
+use kp_synth_registers::Keys;
 use std::alloc::Global;
 
 /// Gives each guess that lines name the value that was guessed: a netlist runs again as far as the last of these lines. The only error is out of
@@ -56,13 +57,19 @@ fn names_guess(cause: Cause) -> bool
 // The tables that say which registers hold a guess of a read.
 struct Tables<'a> {
     layout: Layout<'a>,
+    keys: Keys,
     sites: Sites,
 }
 
 impl Drop for Tables<'_> {
     fn drop(self) {
-        let Tables { layout, sites } = self;
+        let Tables {
+            layout,
+            keys,
+            sites,
+        } = self;
         drop(layout);
+        drop(keys);
         drop(sites);
     }
 }
@@ -80,8 +87,13 @@ fn add_values_by(
     ensures { OnOk result (lines.new ≡ map (line_with_in job.now.design.job) lines.old) }
 {
     let layout = Layout::of(alloc, &job.design)?;
+    let keys = Keys::of(alloc, &layout)?;
     let sites = Sites::of(alloc, &job.design)?;
-    let tables = Tables { layout, sites };
+    let tables = Tables {
+        layout,
+        keys,
+        sites,
+    };
     let mut sim = Sim::open_with(alloc, net, 1)?;
     sim.save(0);
     let mut samples = job.sections.inputs.row(alloc, 0)?;
@@ -99,8 +111,7 @@ fn fill(
 )
     requires shows { Shows sim.old.net job.now.design.job }
     requires carries { Carries sim.old.net job.now.design.job }
-    requires layout { tables.now.layout ≡ job.now.design.job }
-    requires sites { tables.now.sites ≡ sited job.now.design.job }
+    requires tables { AreTables job.now.design.job tables.now }
     requires at { sim.old ≡ run_at job.now.design.job sim.old.net 0 }
     requires room { length room.old ≡ length job.now.sections.inputs }
     requires below { All (λ (l : Line). l.stage < job.now.design.job.stages.value) lines.old }
@@ -123,8 +134,7 @@ fn filled(
 ) -> Line
     requires shows { Shows sim.old.net job.now.design.job }
     requires carries { Carries sim.old.net job.now.design.job }
-    requires layout { tables.now.layout ≡ job.now.design.job }
-    requires sites { tables.now.sites ≡ sited job.now.design.job }
+    requires tables { AreTables job.now.design.job tables.now }
     requires at { sim.old ≡ run_at job.now.design.job sim.old.net cycle.old }
     requires room { length room.old ≡ length job.now.sections.inputs }
     requires stage { line.stage < job.now.design.job.stages.value }
@@ -173,8 +183,7 @@ fn start_for(_job: &Accepted, sim: &mut Sim<'_>, from: usize, to: usize) -> usiz
 
 // A line with the value of its guess, by the registers in its cycle.
 fn line_with(job: &Accepted, tables: &Tables<'_>, sim: &Sim<'_>, line: Line) -> Line
-    requires layout { tables.now.layout ≡ job.now.design.job }
-    requires sites { tables.now.sites ≡ sited job.now.design.job }
+    requires tables { AreTables job.now.design.job tables.now }
     requires registers { length sim.now.net.parts.regs ≡ length (keys_of job.now.design.job) }
     requires holds { HoldsState job.now.design.job sim.now.state line.cycle }
     requires stage { line.stage < job.now.design.job.stages.value }
@@ -196,8 +205,7 @@ fn cause_with(
     stage: usize,
     cause: Cause,
 ) -> Cause
-    requires layout { tables.now.layout ≡ job.now.design.job }
-    requires sites { tables.now.sites ≡ sited job.now.design.job }
+    requires tables { AreTables job.now.design.job tables.now }
     requires registers { length sim.now.net.parts.regs ≡ length (keys_of job.now.design.job) }
     requires holds { HoldsState job.now.design.job sim.now.state cycle }
     requires stage { stage < job.now.design.job.stages.value }
@@ -221,8 +229,7 @@ fn wrong_with(
     stage: usize,
     guess: Option<Guess>,
 ) -> Option<Guess>
-    requires layout { tables.now.layout ≡ job.now.design.job }
-    requires sites { tables.now.sites ≡ sited job.now.design.job }
+    requires tables { AreTables job.now.design.job tables.now }
     requires registers { length sim.now.net.parts.regs ≡ length (keys_of job.now.design.job) }
     requires holds { HoldsState job.now.design.job sim.now.state cycle }
     requires stage { stage < job.now.design.job.stages.value }
@@ -244,8 +251,7 @@ fn guessed_for(
     stage: usize,
     read: usize,
 ) -> Option<Bits>
-    requires layout { tables.now.layout ≡ job.now.design.job }
-    requires sites { tables.now.sites ≡ sited job.now.design.job }
+    requires tables { AreTables job.now.design.job tables.now }
     requires registers { length sim.now.net.parts.regs ≡ length (keys_of job.now.design.job) }
     requires holds { HoldsState job.now.design.job sim.now.state _cycle }
     requires stage { stage < job.now.design.job.stages.value }
@@ -254,7 +260,7 @@ fn guessed_for(
     // The invariant of the type, for the proof only.
     let _kept = job.design.job();
     let register = target_of(&tables.sites, read);
-    guessed(&tables.layout, sim, stage, register)
+    guessed(&tables.layout, &tables.keys, sim, stage, register)
 }
 
 // The number of the target of a read.

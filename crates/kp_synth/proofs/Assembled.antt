@@ -16,11 +16,13 @@ use Rattle.kp_net.specs.{declared.netlist.NetFile.NetFile, declared.netlist.Part
 use Rattle.kp_net.specs.Parts.{NodeIs, CellOk, AllCells, PortOk, RegOk, WriteOk, FileOk, PartsOk, no_port, no_reg, no_file}
 use Rattle.kp_net.specs.{Netlist.Net, Names.Differ, Names.IsSpelled, Names.is_reg_name, Names.is_file_name, Names.is_sample_name, Names.IsNamed}
 use Rattle.kp_net.specs.declared.node.Kind.TheVariants as kinds
-use Rattle.kp_synth_tables.specs.declared.key.Key.{Key}
-use Rattle.kp_synth_tables.specs.declared.key.Key.TheVariants.{Visible, Full, Pipe, Value, Guess, Hint}
-use Rattle.kp_synth_tables.specs.Keys.{target_at, sample_at, HasKey, keys_of, key_at, key_width, key_start}
-use Rattle.kp_synth_tables.{specs.Fits.IsWidth, specs.Fits.Fits, proofs.Apart.targets_apart, proofs.Fitting.fits, proofs.Limits.few, proofs.Limits.limits}
-use Rattle.kp_synth_tables.proofs.{Counting.keys_few, Places.key_had}
+use Rattle.kp_synth_registers.specs.declared.key.Key.{Key}
+use Rattle.kp_synth_registers.specs.declared.key.Key.TheVariants.{Visible, Full, Pipe, Value, Guess, Hint}
+use Rattle.kp_design.specs.Numbers.{target_at, sample_at}
+use Rattle.kp_synth_registers.specs.Keys.{HasKey, keys_of, key_at, key_width, key_start}
+use Rattle.kp_design.specs.Fits.{IsWidth, Fits}
+use Rattle.kp_design.proofs.{Apart.targets_apart, Fitting.fits, Limits.few, Limits.limits}
+use Rattle.kp_synth_registers.proofs.{Counting.keys_few, Places.key_had}
 use Rattle.kp_synth_registers.specs.{declared.outcome.Outcome.Outcome, Meaning.CellFits, Meaning.CellsFit, Meaning.node_at}
 use Rattle.kp_synth_next.specs.{declared.control.RowNodes.RowNodes, Nexts.Closes, Nexts.NextIs, Nexts.port_word, Nexts.PortFits, Nexts.no_node_id}
 use Rattle.kp_synth_next.specs.{Control.ShowRow, Closed.Starts, Closed.Closed}

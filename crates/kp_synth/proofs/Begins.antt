@@ -17,7 +17,8 @@ use Rattle.kp_stage.specs.{Start.AreRegs, Start.AreFiles, declared.start.Start.S
 use Rattle.kp_machine.specs.Slots.{Slot, targets_of, hints_of, is_register}
 use Rattle.kp_machine.specs.Machine.{hint_starts, registers_before, files_before, register_words, file_words, target_words, state_of}
 use Rattle.kp_machine.proofs.{Widths.Fine, Text.declared_right}
-use Rattle.kp_synth_tables.specs.{declared.key.Key.Key, declared.key.Key.TheVariants.Hint, Keys.no_slot, Keys.target_at, Keys.HasKey, Keys.key_width}
+use Rattle.kp_synth_registers.specs.{declared.key.Key.Key, declared.key.Key.TheVariants.Hint, Keys.HasKey, Keys.key_width}
+use Rattle.kp_design.specs.Numbers.{no_slot, target_at}
 use Rattle.kp_synth.specs.inner.Built.{no_word, reg_count, file_count, first_start, FirstsFit}
 use Rattle.kp_synth.proofs.{Numbers.is_file, Parts.not_zero}
 

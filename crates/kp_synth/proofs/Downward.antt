@@ -8,7 +8,7 @@ use Rattle.kp_fwd.specs.Forward.{enable_on, set_on, set_value as number_of_set}
 use Rattle.kp_synth_registers.specs.{declared.outcome.Set.Set, Meaning.IsTest, Meaning.set_value, Holding.Holds, Holding.optional}
 use Rattle.kp_machine.specs.{Machine.machine_of, Slots.targets_of}
 use Rattle.kp_net.specs.{declared.node.NodeId.NodeId, Nodes.Cells, Nodes.at, Nodes.on, Growth.Held, Growth.Kept}
-use Rattle.kp_synth_tables.specs.Keys.{target_at}
+use Rattle.kp_design.specs.Numbers.{target_at}
 use Rattle.kp_synth_stage.specs.declared.row.{Row.Row, Own.Own, Source.Source}
 use Rattle.kp_synth_stage.specs.Rows.{row_hits, address_is, rows_view, own_value, source_view, view_of, SourceOk, Sees}
 use Rattle.kp_synth_stage.proofs.Nearest.{source_view_kept}

@@ -10,8 +10,9 @@ use Rattle.kp_machine.specs.Slots.{Slot, targets_of, hints_of, is_register}
 use Rattle.kp_machine.specs.Machine.{machine_of, registers_before, files_before}
 use Rattle.kp_net.specs.{declared.node.NodeId.NodeId, Nodes.Cells, Nodes.word_at, Nodes.at, Growth.Held, Growth.Wire, Growth.Kept}
 use Rattle.kp_net.proofs.Growing.{wire_kept}
-use Rattle.kp_synth_tables.specs.{declared.key.Key.TheVariants.Visible, declared.key.Key.TheVariants.Hint, Keys.no_slot, Keys.target_at}
-use Rattle.kp_synth_tables.specs.Fits.{IsWidth, Fits}
+use Rattle.kp_synth_registers.specs.declared.key.Key.TheVariants.{Visible, Hint}
+use Rattle.kp_design.specs.Numbers.{no_slot, target_at}
+use Rattle.kp_design.specs.Fits.{IsWidth, Fits}
 use Rattle.kp_synth_registers.specs.{declared.registers.Reads.Reads, Holding.Holds, Holding.kept_in, Holding.own_word}
 use Rattle.kp_synth_registers.{specs.Meaning.IsTest, specs.Meaning.Gives, specs.Meaning.Ready, specs.Meaning.node_at, proofs.Growth.gives_kept}
 use Rattle.kp_synth_stage.specs.declared.row.{Own.TheVariants.Register, Own.TheVariants.File, Row.Row, Source.Source}

@@ -5,7 +5,7 @@ use Rattle.std.specs.{Prelude.decimal, Prelude.◌||◌, List.filter}
 use Rattle.kp_machine.{proofs.Cases.by_test, specs.Slots.Slot, proofs.Apart.has_name, proofs.Apart.Apart, proofs.Names.same_name}
 use Rattle.kp_ast.specs.Expressions.{is_same_name}
 use Rattle.kp_net.specs.Names.{same, among, Differ}
-use Rattle.kp_synth_tables.specs.Keys.{no_slot}
+use Rattle.kp_design.specs.Numbers.{no_slot}
 use Rattle.kp_synth_next.specs.Shows.{other_names}
 
 -- Each entry has a name of its own.

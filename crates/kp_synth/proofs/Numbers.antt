@@ -5,8 +5,9 @@ use Rattle.std.specs.Prelude.{◌==◌}
 use Rattle.kp_machine.{proofs.Cases.by_test, specs.Slots.Slot, specs.Slots.targets_of, specs.Slots.hints_of, specs.Slots.is_register}
 use Rattle.kp_machine.specs.Machine.{registers_before, files_before}
 use Rattle.kp_ast.specs.declared.tree.Job.{Job}
-use Rattle.kp_synth_tables.specs.declared.key.Key.{Key, TheVariants.Visible}
-use Rattle.kp_synth_tables.specs.Keys.{no_slot, target_at, visible_keys, later_keys, hint_keys, keys_of, place_in, place_of}
+use Rattle.kp_synth_registers.specs.{declared.key.Key.Key, declared.key.Key.TheVariants.Visible}
+use Rattle.kp_design.specs.Numbers.{no_slot, target_at}
+use Rattle.kp_synth_registers.specs.Keys.{visible_keys, later_keys, hint_keys, keys_of, place_in, place_of}
 use Rattle.kp_synth_next.specs.Shows.{files_of}
 use Rattle.kp_synth.proofs.Places.{comes_from, file_number}
 

@@ -8,7 +8,8 @@ use Rattle.kp_stage.specs.Start.{AreRegs}
 use Rattle.kp_machine.{specs.Slots.Slot, specs.Slots.slot, specs.Slots.targets_of, specs.Slots.samples_of, specs.Slots.is_register, proofs.Widths.Fine}
 use Rattle.kp_net.specs.declared.{node.NodeId.NodeId, netlist.WritePort.WritePort, netlist.NetReg.NetReg, netlist.NetFile.NetFile}
 use Rattle.kp_net.specs.Parts.{no_port, no_reg, no_file}
-use Rattle.kp_synth_tables.specs.{declared.key.Key.Key, declared.key.Key.TheVariants.Full, Keys.no_slot, Keys.target_at, Keys.sample_at}
+use Rattle.kp_synth_registers.specs.{declared.key.Key.Key, declared.key.Key.TheVariants.Full}
+use Rattle.kp_design.specs.Numbers.{no_slot, target_at, sample_at}
 use Rattle.kp_synth_next.specs.{Nexts.no_node_id, Shows.named_with, Shows.reg_slot, Shows.file_slot, Shows.port_slot, Shows.other_names}
 use Rattle.kp_synth.proofs.Numbers.{is_file}
 use Rattle.kp_synth.specs.inner.Built.{no_word, reg_count, file_count, visible_regs, other_reg, other_regs, net_files, net_ports}

@@ -12,7 +12,7 @@ use Rattle.kp_fwd.specs.Forward.{BitOk, enable_on}
 use Rattle.kp_synth_registers.specs.{declared.outcome.Set.Set, Holding.Holds, Holding.optional}
 use Rattle.kp_synth_registers.specs.Meaning.{IsTest, MayGive, SetFits, set_value}
 use Rattle.kp_synth_registers.proofs.Growth.{test_kept, may_give_kept, set_kept}
-use Rattle.kp_synth_tables.specs.{declared.layout.Port.Port, Keys.target_at, Spans.set_after, Fits.pipe_number, Fits.port_for, Fits.port_at, Fits.AddressFits}
+use Rattle.kp_design.specs.{declared.layout.Port.Port, Numbers.target_at, Spans.set_after, Fits.pipe_number, Fits.port_for, Fits.port_at, Fits.AddressFits}
 use Rattle.kp_synth_stage.specs.declared.row.{Row.Row, Source.Source, Own.Own}
 use Rattle.kp_synth_stage.specs.Rows.{AddressOk, address_is, RowOk, RowsOk, OwnOk, SourceOk}
 use Rattle.kp_synth_stage.proofs.Nearest.{source_kept, enable_kept}

@@ -6,7 +6,7 @@ use Rattle.kp_pipeline.specs.Pipeline.{candidate_hits, forwarded}
 use Rattle.kp_machine.specs.{Machine.machine_of, Slots.targets_of}
 use Rattle.kp_net.specs.Growth.{Held, Kept}
 use Rattle.kp_synth_registers.{specs.declared.outcome.Set.Set, proofs.Growth.set_kept}
-use Rattle.kp_synth_tables.specs.Keys.{target_at}
+use Rattle.kp_design.specs.Numbers.{target_at}
 use Rattle.kp_synth_stage.specs.{declared.row.Source.Source, Rows.SourceOk, Rows.SourcesOk}
 use Rattle.kp_synth_stage.proofs.Nearest.{source_kept, source_view_kept}
 use Rattle.kp_synth.specs.inner.{Seeing.Nearer, Whole.Few, Whole.AllNearer, Whole.SetMeans, Whole.SetsMean}

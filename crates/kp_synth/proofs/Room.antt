@@ -5,7 +5,7 @@ use Rattle.kp_ast.specs.declared.tree.Job.{Job}
 use Rattle.kp_width.{specs.Widths.widths_of, proofs.Unbroken.Unbroken}
 use Rattle.kp_stage.specs.{Counts.summary_of, Stages.broken_of}
 use Rattle.kp_net.specs.Growth.{Held}
-use Rattle.kp_synth_tables.proofs.{Fitting.fits, Limits.limits, Limits.samples_counted}
+use Rattle.kp_design.proofs.{Fitting.fits, Limits.limits, Limits.samples_counted}
 use Rattle.kp_synth_registers.specs.Meaning.{CellsFit}
 use Rattle.kp_synth_next.{specs.Bound.node_bound, proofs.Bounding.closing_few}
 use Rattle.kp_synth.{proofs.Rooms.stages_few, specs.inner.Rooms.reading_room, specs.inner.Rooms.inside_room, specs.inner.Rooms.closing_room}

@@ -12,8 +12,9 @@ use Rattle.kp_stage.specs.{Facts.stmts_in, Uses.sets, Counts.results_in, Counts.
 use Rattle.kp_stage.{specs.Sizes.size_of_stmt, specs.Sizes.size_of_block, specs.Stages.broken_of, proofs.Placed.set_once}
 use Rattle.kp_machine.{specs.Slots.targets_of, specs.Slots.pipes_of, specs.Slots.hints_of, specs.Slots.result_named, proofs.Cases.by_test}
 use Rattle.kp_machine.proofs.Stages.{stages_inside}
-use Rattle.kp_synth_tables.{specs.Keys.guesses_of, proofs.Fitting.fits}
-use Rattle.kp_synth_tables.proofs.Limits.{targets_counted, pipes_counted, hints_counted, guesses_counted}
+use Rattle.kp_design.specs.Numbers.{guesses_of}
+use Rattle.kp_design.proofs.Fitting.{fits}
+use Rattle.kp_design.proofs.Limits.{targets_counted, pipes_counted, hints_counted, guesses_counted}
 use Rattle.kp_synth_stage.specs.{Work.stmts_at, Work.extra_of, Work.cost_of, Work.costs_of, inner.Standing.StmtRight}
 use Rattle.kp_synth_stage.proofs.{Scoping.is_right, Setting.set_right}
 use Rattle.kp_synth.{specs.Stages.guess_room, specs.Stages.stages_room, proofs.Rules.StandFrom, proofs.Rules.stand_next, proofs.Rules.stand_here}

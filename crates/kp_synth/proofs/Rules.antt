@@ -7,9 +7,9 @@ use Rattle.kp_width.{specs.Widths.widths_of, proofs.Unbroken.Unbroken}
 use Rattle.kp_stage.specs.{Facts.stmts_in, Stages.broken_of, Design.Plan, Design.IsSound}
 use Rattle.kp_pipeline.proofs.Lists.{all-append}
 use Rattle.kp_machine.{specs.Slots.targets_of, proofs.Stages.stages_inside}
-use Rattle.kp_synth_tables.specs.declared.key.GuessSlot.{GuessSlot}
-use Rattle.kp_synth_tables.specs.Keys.{target_at, no_guess, guess_slot, with_read, with_guess, guesses_in, guesses_from, guesses_of}
-use Rattle.kp_synth_tables.proofs.Fitting.{width_there, all_at}
+use Rattle.kp_design.specs.declared.guess.GuessSlot.{GuessSlot}
+use Rattle.kp_design.specs.Numbers.{target_at, no_guess, guess_slot, with_read, with_guess, guesses_in, guesses_from, guesses_of}
+use Rattle.kp_design.proofs.Fitting.{width_there, all_at}
 use Rattle.kp_synth_stage.{specs.Work.stmts_at, specs.inner.Standing.StmtRight, proofs.Scoping.is_right}
 use Rattle.kp_synth_stage.proofs.Taking.{ReadRight, Asks, read_right}
 use Rattle.kp_synth.specs.inner.Whole.{GuessOk, GuessesOk, RulesGive}

@@ -7,9 +7,11 @@ use Rattle.kp_ast.specs.declared.tree.Decl.TheVariants as decls
 use Rattle.kp_stage.specs.Start.{AreRegs}
 use Rattle.kp_machine.specs.{Slots.Slot, Slots.targets_of, Slots.pipes_of, Slots.hints_of, Slots.is_register, Machine.registers_before}
 use Rattle.kp_machine.proofs.Widths.{Fine}
-use Rattle.kp_synth_tables.specs.Keys.{no_slot, no_guess, guesses_of, visible_keys, pipe_keys, result_keys, stage_keys, stages_keys, later_keys, hint_keys, keys_of, key_at}
-use Rattle.kp_synth_tables.specs.declared.key.Key.{Key, TheVariants.Visible, TheVariants.Full}
-use Rattle.kp_synth_tables.proofs.{Fitting.all_at, Listed.pipes, Listed.results, Listed.guesses, Listed.hints, Listed.each_both, Listed.each}
+use Rattle.kp_design.specs.Numbers.{no_slot, no_guess, guesses_of}
+use Rattle.kp_synth_registers.specs.Keys.{visible_keys, pipe_keys, result_keys, stage_keys, stages_keys, later_keys, hint_keys, keys_of, key_at}
+use Rattle.kp_synth_registers.specs.{declared.key.Key.Key, declared.key.Key.TheVariants.Visible, declared.key.Key.TheVariants.Full}
+use Rattle.kp_design.proofs.Fitting.{all_at}
+use Rattle.kp_synth_registers.proofs.Listed.{pipes, results, guesses, hints, each_both, each}
 use Rattle.kp_synth.{specs.inner.Built.no_word, specs.inner.Built.reg_count, proofs.Parts.not_zero}
 
 visible_count : (t : ℕ) (ds : List Decl) → Fine ds → length (visible_keys t (targets_of ds)) ≡ reg_count ds

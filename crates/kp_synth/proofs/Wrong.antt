@@ -7,8 +7,9 @@ use Rattle.kp_pipeline.specs.Sequential.{PendingGuess}
 use Rattle.kp_pipeline.specs.Pipeline.{PipelineState, StageState, Inputs, above, differs, some_differs, mismatches}
 use Rattle.kp_machine.specs.Machine.{machine_of}
 use Rattle.kp_net.specs.{declared.node.NodeId.NodeId, Nodes.Cells, Nodes.at, Nodes.on, Growth.Held, Growth.Wire, Growth.Kept}
-use Rattle.kp_synth_tables.specs.declared.key.{GuessSlot.GuessSlot, Key.TheVariants.Pending, Key.TheVariants.Guess}
-use Rattle.kp_synth_tables.specs.Keys.{target_at, no_guess, guesses_of, guess_at, is_carried}
+use Rattle.kp_design.specs.declared.guess.GuessSlot.{GuessSlot}
+use Rattle.kp_synth_registers.specs.declared.key.Key.TheVariants.{Pending, Guess}
+use Rattle.kp_design.specs.{Numbers.target_at, Numbers.no_guess, Numbers.guesses_of, Numbers.guess_at, Spans.is_carried}
 use Rattle.kp_synth_registers.specs.Holding.{Holds, kept_in, optional, some_of, some_guess, guess_passes, pending_guess}
 use Rattle.kp_synth_registers.specs.Meaning.{IsTest}
 use Rattle.kp_synth_stage.specs.{declared.row.Source.Source, Rows.Sees, Rows.view_of, Rows.source_view}

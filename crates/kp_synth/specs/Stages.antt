@@ -2,7 +2,7 @@
 use Rattle.std.specs.Prelude.{ℕ, zero, suc, ◌+◌, ◌*◌, [], length}
 use Rattle.kp_ast.specs.declared.tree.Job.{Job}
 use Rattle.kp_machine.specs.Slots.{targets_of, pipes_of, hints_of}
-use Rattle.kp_synth_tables.specs.Keys.{guesses_of}
+use Rattle.kp_design.specs.Numbers.{guesses_of}
 use Rattle.kp_synth_registers.specs.declared.outcome.Outcome.{Outcome}
 use Rattle.kp_synth_stage.specs.Work.{stmts_at, costs_of}
 

@@ -6,9 +6,9 @@ ghost use Rattle.kp_machine.specs.Slots.{targets_of};
 ghost use Rattle.kp_net.specs.Nodes.{Cells};
 ghost use Rattle.kp_net.specs.Growth.{Held, Wire, Grown};
 ghost use Rattle.kp_fwd.specs.Forward.{BitOk, enable_on};
-ghost use Rattle.kp_synth_tables.specs.Keys.{target_at};
+ghost use Rattle.kp_design.specs.Numbers.{target_at};
 ghost use Rattle.kp_synth_registers.specs.Holding.{Holds};
-ghost use Rattle.kp_synth_tables.specs.Fits.{EnableFits, AddressFits};
+ghost use Rattle.kp_design.specs.Fits.{EnableFits, AddressFits};
 ghost use Rattle.kp_synth_registers.specs.Meaning.{Ready, IsTest, SetFits, set_value};
 ghost use Rattle.kp_synth_stage.specs.Rows.{AddressOk, address_is, SourceOk, SourcesOk};
 ghost use Rattle.kp_synth.specs.inner.Seeing.{Nearer};
@@ -16,11 +16,11 @@ ghost use Rattle.kp_synth.specs.inner.Whole.{enabled_by, addressed_by, SetMeans,
 
 use crate::forwarded_result::row_of;
 use kp_base::NoMemory;
+use kp_design::Layout;
 use kp_net::NodeId;
 use kp_pool::Pool;
 use kp_synth_registers::{Reads, Set, pipe_in, result_in};
 use kp_synth_stage::{Row, Source};
-use kp_synth_tables::Layout;
 
 // Whether a result is enabled, by its enable pipe, if it has one.
 fn enable_in(

@@ -6,8 +6,8 @@ ghost use Rattle.kp_synth.specs.inner.Built.{file_count, net_files, net_ports, A
 use crate::labels::label;
 use kp_ast::Decl;
 use kp_base::{List, NoMemory};
+use kp_design::Layout;
 use kp_net::{NetFile, Port, WritePort};
-use kp_synth_tables::Layout;
 use std::alloc::Global;
 
 // A copy of the initial words of a file.

@@ -17,12 +17,12 @@ use crate::netlist::close;
 use crate::stages::{Stages, run_stages};
 use kp_base::NoMemory;
 use kp_build::Env;
+use kp_design::Layout;
 use kp_net::Netlist;
 use kp_pool::Pool;
 use kp_stage::{Design, Start};
 use kp_synth_registers::{Outcome, Reads, read_cells};
 use kp_synth_stage::Slots;
-use kp_synth_tables::Layout;
 use std::alloc::Global;
 
 /// The netlist of a design, and the nodes of its stages.

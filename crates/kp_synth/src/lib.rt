@@ -1,6 +1,6 @@
 //! The netlist of the pipelined machine of a design.
 //!
-//! `synth` combines the results of the lower crates: the tables of the design (kp_synth_tables), the nodes that read
+//! `synth` combines the results of the lower crates: the design by numbers (kp_design), the nodes that read
 //! the registers (kp_synth_registers), the nodes of a stage (kp_synth_stage), and the next
 //! values of registers and files (kp_synth_next). The other parts of the netlist, its registers, files and ports with
 //! their names and start values, are built here (`netlist`). What it means that a netlist shows (implements) the

@@ -6,7 +6,7 @@ ghost use Rattle.kp_machine.specs.Machine.{machine_of};
 ghost use Rattle.kp_machine.specs.Slots.{targets_of};
 ghost use Rattle.kp_net.specs.Nodes.{Cells, at, on};
 ghost use Rattle.kp_net.specs.Growth.{Held, Wire};
-ghost use Rattle.kp_synth_tables.specs.Keys.{target_at, guesses_of, guess_at, is_carried};
+ghost use Rattle.kp_design.specs.{Numbers.target_at, Numbers.guesses_of, Numbers.guess_at, Spans.is_carried};
 ghost use Rattle.kp_synth_registers.specs.Holding.{Holds, optional, guess_passes};
 ghost use Rattle.kp_synth_registers.specs.Meaning.{Ready, IsTest, Added};
 ghost use Rattle.kp_synth_stage.specs.Rows.{SourceOk, SourcesOk, source_view};
@@ -15,13 +15,13 @@ ghost use Rattle.kp_synth.specs.inner.Seeing.{SeesAbove};
 ghost use Rattle.kp_synth.specs.inner.Whole.{GuessOk, GuessesOk, is_wrong, Misses};
 
 use kp_base::NoMemory;
+use kp_design::{GuessSlot, Layout};
 use kp_engine::mismatch;
 use kp_net::NodeId;
 use kp_net_gates::{bit, either};
 use kp_pool::Pool;
-use kp_synth_registers::{Reads, kept};
+use kp_synth_registers::{Key, Reads, kept};
 use kp_synth_stage::{Source, Truth, source_at, source_truth};
-use kp_synth_tables::{GuessSlot, Key, Layout};
 use std::alloc::Global;
 
 // The truth of a read of a register.

@@ -8,7 +8,7 @@ ghost use Rattle.kp_machine.specs.Slots.{targets_of};
 ghost use Rattle.kp_net.specs.Growth.{Wire};
 ghost use Rattle.kp_net.specs.Names.{IsNamed};
 ghost use Rattle.kp_net.specs.Widths.{Distinct};
-ghost use Rattle.kp_synth_tables.specs.Keys.{key_at, key_width, keys_of};
+ghost use Rattle.kp_synth_registers.specs.Keys.{key_at, key_width, keys_of};
 ghost use Rattle.kp_synth_registers.specs.Meaning.{CellsFit, Ready, node_at};
 ghost use Rattle.kp_synth_next.specs.Control.{AllSay};
 ghost use Rattle.kp_synth_next.specs.Shows.{Shows};
@@ -18,12 +18,12 @@ use crate::files::{files, sample_ports};
 use crate::labels::label;
 use crate::registers::registers;
 use kp_base::{List, NoMemory};
+use kp_design::Layout;
 use kp_net::{Netlist, Parts};
 use kp_pool::Pool;
 use kp_stage::Start;
 use kp_synth_next::{Ends, close_nodes};
-use kp_synth_registers::{Outcome, Reads};
-use kp_synth_tables::Layout;
+use kp_synth_registers::{Keys, Outcome, Reads};
 use std::alloc::Global;
 
 // The parts other than the nodes. The job violates no rule.
@@ -32,9 +32,11 @@ fn assembled(
     alloc: Global,
     pool: &Pool,
     layout: &Layout<'_>,
+    keys: &Keys,
     start: &Start,
     ends: &Ends,
 ) -> Result<Parts, NoMemory>
+    requires keys { keys.now ≡ keys_of layout.now }
     requires start { IsStartOf layout.now start.now }
     requires nexts { length ends.now.nexts.items ≡ length (keys_of layout.now) }
     requires ports { length ends.now.ports.items ≡ length (targets_of layout.now.decls) }
@@ -51,6 +53,7 @@ fn assembled(
         alloc,
         pool,
         layout,
+        keys,
         start.regs.as_slice(),
         ends.nexts.as_slice(),
     )?;
@@ -95,6 +98,6 @@ pub(crate) fn close(
 {
     let mut pool = pool;
     let ends = close_nodes(alloc, &mut pool, layout, reads, outs)?;
-    let parts = assembled(alloc, &pool, layout, start, &ends)?;
+    let parts = assembled(alloc, &pool, layout, &reads.keys, start, &ends)?;
     Ok(pool.close(parts))
 }

@@ -18,11 +18,11 @@ use crate::stage::{Ran, run_stage};
 use crate::stage_inputs::{ext_in, hints_in, pipes_in};
 use kp_base::{List, NoMemory};
 use kp_build::Env;
+use kp_design::Layout;
 use kp_net::NodeId;
 use kp_pool::Pool;
 use kp_synth_registers::{Outcome, Reads, full_in};
 use kp_synth_stage::{Slots, Source};
-use kp_synth_tables::Layout;
 use std::alloc::Global;
 
 /// The inputs of a stage: the values of its pipes, the hints, whether it is full, and its bit of the stall word.

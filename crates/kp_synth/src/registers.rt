@@ -3,7 +3,7 @@ ghost use Rattle.std.specs.Prelude.{◌≡◌, ℕ, ◌++◌, ◌<◌, ◌≤◌
 ghost use Rattle.kp_bits.specs.Word.{word, IsWord};
 ghost use Rattle.kp_machine.specs.Machine.{hint_starts};
 ghost use Rattle.kp_net.specs.Growth.{Wire};
-ghost use Rattle.kp_synth_tables.specs.Keys.{HasKey, key_at, key_width, keys_of};
+ghost use Rattle.kp_synth_registers.specs.Keys.{HasKey, key_at, key_width, keys_of};
 ghost use Rattle.kp_synth_registers.specs.Meaning.{node_at};
 ghost use Rattle.kp_synth.specs.inner.Built.{reg_count, visible_regs, first_start, other_reg, other_regs, net_regs, FirstsFit, SpelledReg, AllSpelled, SpelledReg};
 
@@ -11,9 +11,10 @@ use crate::labels::{label, numbered};
 use kp_ast::Decl;
 use kp_base::NoMemory;
 use kp_bits::Bits;
+use kp_design::Layout;
 use kp_net::{NetReg, NodeId};
 use kp_pool::Pool;
-use kp_synth_tables::{Key, Layout};
+use kp_synth_registers::{Key, Keys};
 use std::alloc::Global;
 
 // The visible registers.
@@ -79,7 +80,7 @@ fn word_of(width: u8, value: u64) -> Bits
 }
 
 // A register that has no name in the job. Its number is `r`, and the first such register has the number `from`.
-#[tactic(auto, using(crate::proofs::Begins::first_word, kp_synth_tables::proofs::Places::key_had))]
+#[tactic(auto, using(crate::proofs::Begins::first_word, kp_synth_registers::proofs::Places::key_had))]
 fn other(
     alloc: Global,
     pool: &Pool,
@@ -88,9 +89,11 @@ fn other(
     nexts: &[NodeId],
     from: u32,
     r: u32,
+    key: Key,
 ) -> Result<NetReg, NoMemory>
     requires behind { from ≤ r }
     requires inside { r < length (keys_of layout.now) }
+    requires key { key ≡ key_at layout.now r }
     requires hints { hints.now ≡ hint_starts layout.now.decls }
     requires fits { FirstsFit layout.now }
     requires all { length nexts.now ≡ length (keys_of layout.now) }
@@ -98,7 +101,6 @@ fn other(
     ensures reg { IfOk result (λ reg. reg ≡ other_reg layout.now nexts.now from r (key_at layout.now r)) }
     ensures spelled { IfOk result (λ reg. SpelledReg reg) }
 {
-    let key = layout.key(r);
     let next = nexts[r as usize];
     let start = word_of(pool.width(next), start_value(layout, hints, key));
     let name = numbered(alloc, r - from)?;
@@ -111,9 +113,11 @@ fn add_others(
     regs: &mut Vec<NetReg>,
     pool: &Pool,
     layout: &Layout<'_>,
+    keys: &Keys,
     hints: &[u64],
     nexts: &[NodeId],
 ) -> Result<(), NoMemory>
+    requires keys { keys.now ≡ keys_of layout.now }
     requires within { length regs.old.items ≤ length (keys_of layout.now) }
     requires spelled { AllSpelled SpelledReg regs.old.items }
     requires hints { hints.now ≡ hint_starts layout.now.decls }
@@ -124,10 +128,11 @@ fn add_others(
         ≡ regs.old.items ++ other_regs layout.now nexts.now (length regs.old.items) (length regs.old.items) (drop (length regs.old.items) (keys_of layout.now))) }
     ensures spelled { OnOk result (AllSpelled SpelledReg regs.new.items) }
 {
-    let count = layout.key_count();
+    let count = keys.count();
     let from = regs.len() as u32;
     for r in from..count {
-        regs.push(other(alloc, pool, layout, hints, nexts, from, r)?)?;
+        let key = keys.key(r);
+        regs.push(other(alloc, pool, layout, hints, nexts, from, r, key)?)?;
     }
     Ok(())
 }
@@ -138,9 +143,11 @@ pub(crate) fn registers(
     alloc: Global,
     pool: &Pool,
     layout: &Layout<'_>,
+    keys: &Keys,
     starts: &[Bits],
     nexts: &[NodeId],
 ) -> Result<Vec<NetReg>, NoMemory>
+    requires keys { keys.now ≡ keys_of layout.now }
     requires starts { reg_count layout.now.decls ≤ length starts.now }
     requires few { reg_count layout.now.decls ≤ length (keys_of layout.now) }
     requires fits { FirstsFit layout.now }
@@ -152,6 +159,14 @@ pub(crate) fn registers(
     let decls = layout.job().decls.as_slice();
     let hints = starts_of_hints(alloc, decls)?;
     let mut regs = visible(alloc, decls, starts, nexts)?;
-    add_others(alloc, &mut regs, pool, layout, hints.as_slice(), nexts)?;
+    add_others(
+        alloc,
+        &mut regs,
+        pool,
+        layout,
+        keys,
+        hints.as_slice(),
+        nexts,
+    )?;
     Ok(regs)
 }

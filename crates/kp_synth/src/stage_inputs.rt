@@ -4,7 +4,7 @@ ghost use Rattle.kp_pipeline.specs.Pipeline.{PipelineState, Inputs};
 ghost use Rattle.kp_machine.specs.Slots.{targets_of, pipes_of, hints_of};
 ghost use Rattle.kp_net.specs.Growth.{Held, Wire, Grown};
 ghost use Rattle.kp_machine.specs.Machine.{registers_before, files_before};
-ghost use Rattle.kp_synth_tables.specs.Keys.{target_at};
+ghost use Rattle.kp_design.specs.Numbers.{target_at};
 ghost use Rattle.kp_synth_registers.specs.Meaning.{Ready, IsTest, Added};
 ghost use Rattle.kp_synth_stage.specs.Rows.{OwnOk, SourcesOk};
 ghost use Rattle.kp_synth_stage.specs.Work.{SlotsHave};
@@ -12,12 +12,12 @@ ghost use Rattle.kp_synth.specs.inner.Seeing.{SeesAbove, PipesIn, HintsIn};
 ghost use Rattle.kp_synth.specs.inner.Whole.{Few, OwnMeans, Bare};
 
 use kp_base::NoMemory;
+use kp_design::Layout;
 use kp_net::NodeId;
 use kp_net_gates::part;
 use kp_pool::Pool;
-use kp_synth_registers::{Reads, kept, pipe_in};
+use kp_synth_registers::{Key, Reads, kept, pipe_in};
 use kp_synth_stage::{Own, Slot, Source};
-use kp_synth_tables::{Key, Layout};
 use std::alloc::Global;
 
 // The values of the pipes in stage k.

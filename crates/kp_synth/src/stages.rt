@@ -12,12 +12,12 @@ use crate::pipeline_stage::{Built, stage_above, stage_in};
 use crate::stage_inputs::sources_in;
 use kp_base::NoMemory;
 use kp_build::Env;
+use kp_design::Layout;
 use kp_net::NodeId;
 use kp_net_gates::bit;
 use kp_pool::Pool;
 use kp_synth_registers::{Outcome, Reads};
 use kp_synth_stage::{Slots, Source};
-use kp_synth_tables::Layout;
 use std::alloc::Global;
 
 /// The nodes of the stages, the first stage first: what each does, and its names.

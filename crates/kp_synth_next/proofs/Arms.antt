@@ -6,7 +6,8 @@ use Rattle.kp_pipeline.specs.Sequential.{first_value, after_stage}
 use Rattle.kp_pipeline.specs.Pipeline.{PipelineState, Inputs, outcome, ue, stall, back, cycle, next_stage, next_hints}
 use Rattle.kp_machine.specs.{Slots.targets_of, Slots.pipes_of, Slots.hints_of, Machine.machine_of, Machine.result_for}
 use Rattle.kp_net.specs.{declared.node.NodeId.NodeId, Nodes.Cells, Nodes.at, Nodes.on, Growth.Held, Growth.Wire, Growth.Kept}
-use Rattle.kp_synth_tables.specs.{declared.key.Key.TheVariants.Hint, Keys.set_by, Keys.is_kept, Keys.is_stored, Keys.pipe_at}
+use Rattle.kp_synth_registers.specs.declared.key.Key.TheVariants.{Hint}
+use Rattle.kp_design.specs.{Spans.set_by, Spans.is_kept, Spans.is_stored, Numbers.pipe_at}
 use Rattle.kp_synth_registers.specs.{declared.outcome.Set.Set, declared.outcome.Outcome.Outcome, Holding.kept_in, Holding.optional}
 use Rattle.kp_synth_registers.specs.Meaning.{IsTest, Gives, MayGive, Says, set_value, put_value, PutFits}
 use Rattle.kp_synth_registers.proofs.Growth.{says_kept}

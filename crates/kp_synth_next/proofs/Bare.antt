@@ -8,7 +8,7 @@ use Rattle.kp_pipeline.specs.Sequential.{first_value, after_stage}
 use Rattle.kp_pipeline.specs.Pipeline.{PipelineState, Inputs, outcome, ue, cycle, next_stage, pipeline_start, stage_zero}
 use Rattle.kp_pipeline.{specs.Trimming.trimmed, specs.Trimming.trimmed_stage, proofs.Ends.run-ends}
 use Rattle.kp_machine.specs.{Slots.pipes_of, Machine.machine_of, Machine.result_for}
-use Rattle.kp_synth_tables.specs.{Spans.put_after, Keys.pipe_at, Keys.set_by, Keys.is_alive, Keys.is_piped, Keys.is_kept, Keys.is_stored, Fits.Fits}
+use Rattle.kp_design.specs.{Spans.put_after, Numbers.pipe_at, Spans.set_by, Spans.is_alive, Spans.is_piped, Spans.is_kept, Spans.is_stored, Fits.Fits}
 
 pub record Bare (job : Job) (st : PipelineState) : Type 0 where
   pub pipes : (x k : ℕ) → x < length (pipes_of job.decls) → k < put_after (pipe_at job x).name 0 job.blocks → (st.stage k).instruction.pipes x ≡ 0

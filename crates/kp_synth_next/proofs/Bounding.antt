@@ -3,7 +3,9 @@ use Rattle.std.proofs.{Common.◌≡◌, Common.ℕ, Common.zero, Common.suc, Co
 use Rattle.kp_ast.specs.declared.tree.Job.{Job}
 use Rattle.kp_stage.specs.Counts.{summary_of}
 use Rattle.kp_machine.specs.Slots.{targets_of, samples_of}
-use Rattle.kp_synth_tables.{specs.Keys.keys_of, proofs.Counting.keys_counted, proofs.Limits.targets_counted}
+use Rattle.kp_synth_registers.specs.Keys.{keys_of}
+use Rattle.kp_synth_registers.proofs.Counting.{keys_counted}
+use Rattle.kp_design.proofs.Limits.{targets_counted}
 use Rattle.kp_synth_next.specs.Bound.{node_bound, closing_cost}
 
 times_few : (n a q g : ℕ) → a ≤ 2 * q + 2 * g → n * a ≤ 2 * (n * q) + 2 * (n * g)

@@ -10,10 +10,12 @@ use Rattle.kp_machine.specs.{Slots.targets_of, Slots.pipes_of, Slots.hints_of, S
 use Rattle.kp_machine.proofs.Cases.{by_test}
 use Rattle.kp_net.specs.{declared.node.NodeId.NodeId, declared.netlist.WritePort.WritePort, Nodes.Cells, Nodes.at, Nodes.on, Growth.Held, Growth.Wire}
 use Rattle.kp_net.proofs.Values.{at_fits}
-use Rattle.kp_synth_tables.specs.declared.key.Key.{Key}
-use Rattle.kp_synth_tables.specs.declared.key.Key.TheVariants.{Visible, Full, Pipe, Valid, Value, Pending, Guess, Hint}
-use Rattle.kp_synth_tables.specs.Keys.{target_at, is_alive, is_piped, is_stored, HasKey, key_width, place_of, sample_at}
-use Rattle.kp_synth_tables.{specs.Fits.Fits, proofs.Places.has_place}
+use Rattle.kp_synth_registers.specs.declared.key.Key.{Key}
+use Rattle.kp_synth_registers.specs.declared.key.Key.TheVariants.{Visible, Full, Pipe, Valid, Value, Pending, Guess, Hint}
+use Rattle.kp_design.specs.{Numbers.target_at, Spans.is_alive, Spans.is_piped, Spans.is_stored, Numbers.sample_at}
+use Rattle.kp_synth_registers.specs.Keys.{HasKey, key_width, place_of}
+use Rattle.kp_design.specs.Fits.{Fits}
+use Rattle.kp_synth_registers.proofs.Places.{has_place}
 use Rattle.kp_synth_registers.specs.declared.outcome.Outcome.{Outcome}
 use Rattle.kp_synth_registers.specs.Holding.{Holds, kept_in, optional, own_word, word_bit, some_guess}
 use Rattle.kp_synth_next.proofs.{Bare.Bare, Bare.zero_trimmed, Bare.bare_next, Bare.absent_trimmed, Bare.unset_trimmed, Steps.GuessesNext, Steps.pending_next}

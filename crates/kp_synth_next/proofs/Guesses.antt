@@ -10,8 +10,8 @@ use Rattle.kp_machine.{specs.Machine.machine_of, specs.Machine.result_for, specs
 use Rattle.kp_net.specs.{Nodes.Cells, Nodes.at, Nodes.on, Growth.Held}
 use Rattle.kp_synth_registers.specs.{declared.outcome.Made.Made, declared.outcome.Outcome.Outcome, Holding.some_of, Holding.pending_guess}
 use Rattle.kp_synth_registers.specs.Meaning.{guesses_at, made_values, guess_value, MadeFit}
-use Rattle.kp_synth_tables.specs.declared.key.GuessSlot.{GuessSlot}
-use Rattle.kp_synth_tables.specs.Keys.{no_guess, with_read, with_guess, guesses_in, guesses_from, guesses_of, is_carried}
+use Rattle.kp_design.specs.declared.guess.GuessSlot.{GuessSlot}
+use Rattle.kp_design.specs.{Numbers.no_guess, Numbers.with_read, Numbers.with_guess, Numbers.guesses_in, Numbers.guesses_from, Numbers.guesses_of, Spans.is_carried}
 use Rattle.kp_synth_next.specs.Nexts.{no_made, outcome_at, made_at}
 
 -- Some guess passes one test or the other.

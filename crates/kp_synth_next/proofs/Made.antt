@@ -4,7 +4,7 @@ use Rattle.std.specs.Prelude.{slice_get}
 use Rattle.kp_ast.specs.declared.tree.{Block.Block, Job.Job}
 use Rattle.kp_stage.specs.Facts.{stmts_in}
 use Rattle.kp_net.specs.Growth.{Held, Wire}
-use Rattle.kp_synth_tables.specs.{declared.key.GuessSlot.GuessSlot, Keys.no_guess, Keys.guesses_in, Keys.guesses_from, Keys.guesses_of, Keys.guess_at}
+use Rattle.kp_design.specs.{declared.guess.GuessSlot.GuessSlot, Numbers.no_guess, Numbers.guesses_in, Numbers.guesses_from, Numbers.guesses_of, Numbers.guess_at}
 use Rattle.kp_synth_registers.specs.{declared.outcome.Made.Made, declared.outcome.Outcome.Outcome, Meaning.guesses_at, Meaning.MadeFit, Meaning.Says}
 use Rattle.kp_synth_next.{specs.Nexts.no_made, specs.Nexts.outcome_at, specs.Nexts.made_at, proofs.Guesses.Numbered, proofs.Guesses.numbered}
 

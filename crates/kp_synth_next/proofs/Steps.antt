@@ -8,9 +8,10 @@ use Rattle.kp_pipeline.specs.Pipeline.{PipelineState, StageState, Inputs, ue, cy
 use Rattle.kp_pipeline.proofs.Lists.{all-append}
 use Rattle.kp_machine.{specs.Machine.machine_of, specs.Machine.result_for, specs.Machine.write_stage_of, proofs.Cases.by_test}
 use Rattle.kp_net.specs.{Nodes.Cells, Nodes.at, Nodes.on, Growth.Held}
-use Rattle.kp_synth_tables.specs.declared.key.{Key.TheVariants.Pending, Key.TheVariants.Guess, GuessSlot.GuessSlot}
-use Rattle.kp_synth_tables.proofs.Fitting.{all_at}
-use Rattle.kp_synth_tables.specs.Keys.{no_guess, guesses_in, guesses_from, guesses_of, guess_at, is_carried}
+use Rattle.kp_synth_registers.specs.declared.key.Key.TheVariants.{Pending, Guess}
+use Rattle.kp_design.specs.declared.guess.GuessSlot.{GuessSlot}
+use Rattle.kp_design.proofs.Fitting.{all_at}
+use Rattle.kp_design.specs.{Numbers.no_guess, Numbers.guesses_in, Numbers.guesses_from, Numbers.guesses_of, Numbers.guess_at, Spans.is_carried}
 use Rattle.kp_synth_registers.specs.declared.outcome.Outcome.{Outcome}
 use Rattle.kp_synth_registers.specs.Holding.{Holds, kept_in, some_of, some_guess, guess_passes, pending_guess}
 use Rattle.kp_synth_registers.specs.Meaning.{Says}

@@ -6,9 +6,11 @@ use Rattle.kp_net.specs.{Nodes.Cells, Nodes.at, Nodes.on, Growth.Held, Growth.Wi
 use Rattle.kp_synth_registers.{proofs.Growth.test_kept, proofs.Growth.gives_kept, specs.declared.outcome.Outcome.Outcome}
 use Rattle.kp_synth_registers.specs.Holding.{Holds, kept_in, optional}
 use Rattle.kp_synth_registers.specs.Meaning.{Says, IsTest, Gives, MayGive, node_at}
-use Rattle.kp_synth_tables.{proofs.Places.carried, proofs.Places.key_had, specs.declared.key.Key.Key}
-use Rattle.kp_synth_tables.specs.declared.key.Key.TheVariants.{Visible, Full, Pipe, Valid, Value, Pending, Guess, Hint}
-use Rattle.kp_synth_tables.specs.Keys.{guesses_of, guess_at, HasKey, keys_of, key_at, key_width, target_at}
+use Rattle.kp_synth_registers.proofs.Places.{carried, key_had}
+use Rattle.kp_synth_registers.specs.declared.key.Key.{Key}
+use Rattle.kp_synth_registers.specs.declared.key.Key.TheVariants.{Visible, Full, Pipe, Valid, Value, Pending, Guess, Hint}
+use Rattle.kp_design.specs.Numbers.{guesses_of, guess_at, target_at}
+use Rattle.kp_synth_registers.specs.Keys.{HasKey, keys_of, key_at, key_width}
 use Rattle.kp_synth_next.specs.{declared.control.Control.Control, Control.AllSay, Control.Updating, Control.Controls, Control.NextsFrom, Control.PortsFrom}
 use Rattle.kp_synth_next.specs.Nexts.{outcome_at, made_at, leaves_pending, leaves_with, NextIs, PortFits, port_word, Closes}
 use Rattle.kp_synth_next.proofs.Made.{made_wires}

@@ -14,10 +14,11 @@ use Rattle.kp_machine.proofs.Cases.{by_test}
 use Rattle.kp_net.specs.Netlist.{Net, Input, State, cells_of, start_regs, start_of, port_after, state_after, row_of, states_from, rows_from, last_from, last_of}
 use Rattle.kp_net.specs.declared.{node.Node.Node, netlist.WritePort.WritePort, netlist.NetReg.NetReg, netlist.NetFile.NetFile}
 use Rattle.kp_net.specs.{Nodes.Cells, Nodes.at, Nodes.on, Growth.Held, Growth.Wire, Parts.no_reg, Parts.no_file}
-use Rattle.kp_synth_tables.specs.Keys.{target_at, keys_of, key_at, key_width, key_start, place_of, HasKey, guesses_of, guess_at, is_carried, is_alive, is_piped, is_stored}
-use Rattle.kp_synth_tables.specs.declared.key.Key.{Key}
-use Rattle.kp_synth_tables.specs.declared.key.Key.TheVariants.{Visible, Full, Pipe, Valid, Value, Pending, Hint}
-use Rattle.kp_synth_tables.proofs.Places.{has_place}
+use Rattle.kp_design.specs.{Numbers.target_at, Numbers.guesses_of, Numbers.guess_at, Spans.is_carried, Spans.is_alive, Spans.is_piped, Spans.is_stored}
+use Rattle.kp_synth_registers.specs.Keys.{keys_of, key_at, key_width, key_start, place_of, HasKey}
+use Rattle.kp_synth_registers.specs.declared.key.Key.{Key}
+use Rattle.kp_synth_registers.specs.declared.key.Key.TheVariants.{Visible, Full, Pipe, Valid, Value, Pending, Hint}
+use Rattle.kp_synth_registers.proofs.Places.{has_place}
 use Rattle.kp_synth_registers.specs.declared.outcome.Outcome.{Outcome}
 use Rattle.kp_synth_registers.specs.Holding.{Holds, kept_in, optional, own_word, word_bit, inputs_of, some_guess, guess_passes}
 use Rattle.kp_synth_next.specs.{Nexts.port_word, Nexts.PortFits, inner.After.CellsAfter, Closed.next_in, Closed.port_in, Closed.Closed}

@@ -7,8 +7,9 @@ use Rattle.kp_pipeline.specs.Pipeline.{PipelineState, Inputs, ue, outcome, next_
 use Rattle.kp_machine.specs.Slots.{pipes_of, targets_of, is_register}
 use Rattle.kp_machine.specs.Machine.{machine_of, result_for, write_stage_of, is_enabled_by, address_by, enabled_of, address_in}
 use Rattle.kp_net.specs.{declared.node.NodeId.NodeId, Nodes.Cells, Nodes.at, Nodes.on, Growth.Held, Growth.Wire, Growth.Kept}
-use Rattle.kp_synth_tables.specs.{declared.layout.Port.Port, declared.key.Key.TheVariants.Visible, Keys.target_at}
-use Rattle.kp_synth_tables.specs.Fits.{pipe_number, port_for, port_at, ResultFits, AddressFits}
+use Rattle.kp_design.specs.{declared.layout.Port.Port, Numbers.target_at}
+use Rattle.kp_synth_registers.specs.declared.key.Key.TheVariants.{Visible}
+use Rattle.kp_design.specs.Fits.{pipe_number, port_for, port_at, ResultFits, AddressFits}
 use Rattle.kp_synth_registers.specs.{Holding.Holds, Holding.optional, Holding.kept_in, Holding.own_word, Meaning.IsTest, Meaning.Gives, Meaning.MayGive}
 use Rattle.kp_synth_next.specs.{Nexts.port_word, inner.Written.writes, inner.Written.written_value, inner.Written.enabled_pipe, inner.Written.address_pipe}
 use Rattle.kp_synth_next.proofs.Bits.{test_kept}

@@ -6,8 +6,9 @@ use Rattle.kp_pipeline.specs.Pipeline.{PipelineState, Inputs, ue, back}
 use Rattle.kp_machine.specs.{Slots.targets_of, Slots.is_register, Machine.machine_of, Machine.state_of, Machine.registers_before, Machine.files_before}
 use Rattle.kp_net.specs.{declared.node.NodeId.NodeId, declared.netlist.WritePort.WritePort, Nodes.Cells, Nodes.at, Growth.Held, Parts.no_reg, Parts.no_file}
 use Rattle.kp_net.specs.Netlist.{Net}
-use Rattle.kp_synth_tables.specs.declared.key.Key.TheVariants.{Visible}
-use Rattle.kp_synth_tables.specs.{Keys.target_at, Keys.keys_of, Keys.key_at, Keys.key_width, Keys.key_start, Keys.place_of, Fits.Fits}
+use Rattle.kp_synth_registers.specs.declared.key.Key.TheVariants.{Visible}
+use Rattle.kp_design.specs.{Numbers.target_at, Fits.Fits}
+use Rattle.kp_synth_registers.specs.Keys.{keys_of, key_at, key_width, key_start, place_of}
 use Rattle.kp_synth_registers.specs.{declared.outcome.Outcome.Outcome, Holding.Holds, Holding.word_bit}
 use Rattle.kp_synth_next.specs.Nexts.{Closes, GuessesFit}
 

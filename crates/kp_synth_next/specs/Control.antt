@@ -6,7 +6,8 @@ use Rattle.kp_machine.specs.{Slots.targets_of, Slots.is_register, Machine.machin
 use Rattle.kp_net.specs.{declared.netlist.WritePort.WritePort, declared.node.NodeId.NodeId, Growth.Held, Growth.Wire, Nodes.Cells, Nodes.at}
 use Rattle.kp_synth_registers.specs.{declared.outcome.Outcome.Outcome, Holding.Holds, Holding.word_bit}
 use Rattle.kp_synth_registers.specs.Meaning.{IsTest, Gives, Says, node_at}
-use Rattle.kp_synth_tables.specs.Keys.{keys_of, key_at, key_width, target_at}
+use Rattle.kp_synth_registers.specs.Keys.{keys_of, key_at, key_width}
+use Rattle.kp_design.specs.Numbers.{target_at}
 use Rattle.kp_synth_next.specs.declared.control.{Control.Control, RowNodes.RowNodes}
 use Rattle.kp_synth_next.specs.Nexts.{outcome_at, NextIs, PortFits, port_word}
 

@@ -4,9 +4,10 @@ use Rattle.kp_ast.specs.declared.tree.Job.{Job}
 use Rattle.kp_pipeline.specs.Pipeline.{PipelineState, Inputs, ue, cycle, next_visible}
 use Rattle.kp_machine.specs.{Slots.targets_of, Slots.is_register, Machine.machine_of}
 use Rattle.kp_net.specs.{declared.node.NodeId.NodeId, declared.netlist.WritePort.WritePort, Nodes.Cells, Nodes.at, Nodes.on, Growth.Held, Growth.Wire}
-use Rattle.kp_synth_tables.specs.declared.key.Key.{Key}
-use Rattle.kp_synth_tables.specs.declared.key.Key.TheVariants.{Visible, Full, Pipe, Valid, Value, Pending, Guess, Hint}
-use Rattle.kp_synth_tables.specs.{declared.key.GuessSlot.GuessSlot, Keys.target_at, Keys.guess_at, Keys.guesses_of, Keys.key_width, Keys.key_at, Keys.keys_of}
+use Rattle.kp_synth_registers.specs.declared.key.Key.{Key}
+use Rattle.kp_synth_registers.specs.declared.key.Key.TheVariants.{Visible, Full, Pipe, Valid, Value, Pending, Guess, Hint}
+use Rattle.kp_design.specs.{declared.guess.GuessSlot.GuessSlot, Numbers.target_at, Numbers.guess_at, Numbers.guesses_of}
+use Rattle.kp_synth_registers.specs.Keys.{key_width, key_at, keys_of}
 use Rattle.kp_synth_registers.specs.{declared.outcome.Made.Made, declared.outcome.Outcome.Outcome, Holding.Holds, Holding.kept_in, Meaning.Says}
 
 abbrev pub no_node_id : NodeId

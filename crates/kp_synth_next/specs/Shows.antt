@@ -11,7 +11,8 @@ use Rattle.kp_machine.specs.Machine.{machine_of, state_of, start_hints, pipe_of,
 use Rattle.kp_net.specs.declared.netlist.{NetReg.NetReg, NetFile.NetFile, Port.Port}
 use Rattle.kp_net.specs.Netlist.{Net, Input, State, cells_of, start_of as net_start, state_after, states_from, rows_from, run, last_of}
 use Rattle.kp_net.specs.Widths.{wide}
-use Rattle.kp_synth_tables.specs.Keys.{target_at, keys_of, is_alive}
+use Rattle.kp_design.specs.{Numbers.target_at, Spans.is_alive}
+use Rattle.kp_synth_registers.specs.Keys.{keys_of}
 use Rattle.kp_synth_registers.specs.Holding.{Holds, word_bit, inputs_of}
 
 -- A name and a width, and for a file the width of its addresses.

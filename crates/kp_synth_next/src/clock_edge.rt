@@ -2,7 +2,7 @@
 ghost use Rattle.std.specs.Prelude.{◌≡◌, ℕ, ◌+◌, ◌*◌, ◌≤◌, length, get_or, None, IfOk};
 ghost use Rattle.kp_machine.specs.Slots.{targets_of};
 ghost use Rattle.kp_net.specs.Growth.{Held, Grown};
-ghost use Rattle.kp_synth_tables.specs.Keys.{keys_of};
+ghost use Rattle.kp_synth_registers.specs.Keys.{keys_of};
 ghost use Rattle.kp_synth_registers.specs.Meaning.{Ready, node_at};
 ghost use Rattle.kp_synth_next.specs.Control.{AllSay, ShowRow};
 ghost use Rattle.kp_synth_next.specs.Nexts.{Closes};
@@ -13,10 +13,10 @@ use crate::outputs::row_nodes;
 use crate::rollback::steer;
 use crate::write_ports::write_ports;
 use kp_base::NoMemory;
+use kp_design::Layout;
 use kp_net::{NodeId, WritePort};
 use kp_pool::Pool;
 use kp_synth_registers::{Outcome, Reads};
-use kp_synth_tables::Layout;
 use std::alloc::Global;
 
 /// The nodes that close a netlist.

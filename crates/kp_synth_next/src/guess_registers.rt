@@ -4,17 +4,17 @@ ghost use Rattle.kp_pipeline.specs.Pipeline.{PipelineState, Inputs, ue};
 ghost use Rattle.kp_machine.specs.Machine.{machine_of};
 ghost use Rattle.kp_net.specs.Nodes.{Cells, at, on};
 ghost use Rattle.kp_net.specs.Growth.{Held, Wire, Grown};
-ghost use Rattle.kp_synth_tables.specs.declared.key.Key.TheVariants.{Pending, Guess};
-ghost use Rattle.kp_synth_tables.specs.Keys.{guesses_of, guess_at, is_carried};
+ghost use Rattle.kp_synth_registers.specs.declared.key.Key.TheVariants.{Pending, Guess};
+ghost use Rattle.kp_design.specs.{Numbers.guesses_of, Numbers.guess_at, Spans.is_carried};
 ghost use Rattle.kp_synth_registers.specs.Holding.{Holds, kept_in};
 ghost use Rattle.kp_synth_registers.specs.Meaning.{Ready, IsTest, Says};
 ghost use Rattle.kp_synth_next.specs.Nexts.{outcome_at, made_at, leaves_pending, leaves_with};
 
+use kp_design::{GuessSlot, Layout};
 use kp_net::NodeId;
 use kp_net_gates::{choose, pick};
 use kp_pool::Pool;
-use kp_synth_registers::{Made, Outcome, Reads, kept};
-use kp_synth_tables::{GuessSlot, Key, Layout};
+use kp_synth_registers::{Key, Made, Outcome, Reads, kept};
 
 // The guess of an instruction that leaves a stage: it is made there, or was pending there.
 #[tactic(auto, using(crate::proofs::Made::made_inside, crate::proofs::Made::made_wires))]

@@ -5,8 +5,8 @@ ghost use Rattle.kp_machine.specs.Slots.{targets_of, pipes_of, hints_of};
 ghost use Rattle.kp_machine.specs.Machine.{machine_of};
 ghost use Rattle.kp_net.specs.Nodes.{Cells, at, on};
 ghost use Rattle.kp_net.specs.Growth.{Held, Wire, Grown};
-ghost use Rattle.kp_synth_tables.specs.declared.key.Key.TheVariants.{Visible, Full, Pipe, Valid, Value, Pending, Guess, Hint};
-ghost use Rattle.kp_synth_tables.specs.Keys.{HasKey, key_width, keys_of};
+ghost use Rattle.kp_synth_registers.specs.declared.key.Key.TheVariants.{Visible, Full, Pipe, Valid, Value, Pending, Guess, Hint};
+ghost use Rattle.kp_synth_registers.specs.Keys.{HasKey, key_width, keys_of};
 ghost use Rattle.kp_synth_registers.specs.Holding.{Holds};
 ghost use Rattle.kp_synth_registers.specs.Meaning.{Ready, Says};
 ghost use Rattle.kp_synth_next.specs.Nexts.{NextIs};
@@ -18,10 +18,10 @@ use crate::pipeline_registers::{next_full, next_hint, next_pipe};
 use crate::result_registers::next_result;
 use crate::write_ports::next_register;
 use kp_base::NoMemory;
+use kp_design::Layout;
 use kp_net::NodeId;
 use kp_pool::Pool;
-use kp_synth_registers::{Made, Outcome, Reads, Set};
-use kp_synth_tables::{Key, Layout};
+use kp_synth_registers::{Key, Made, Outcome, Reads, Set};
 use std::alloc::Global;
 
 // The full bit of a stage.
@@ -230,8 +230,9 @@ pub fn next_nodes(
     ensures grown { Grown pool.old pool.new (9 * length (keys_of layout.now)) }
 {
     let mut nexts = Vec::new(alloc);
-    for r in 0..layout.key_count() {
-        nexts.push(next_node(pool, layout, reads, outs, control, layout.key(r)))?;
+    for r in 0..reads.keys.count() {
+        let key = reads.keys.key(r);
+        nexts.push(next_node(pool, layout, reads, outs, control, key))?;
     }
     Ok(nexts)
 }

@@ -8,11 +8,11 @@ ghost use Rattle.kp_synth_registers.specs.Meaning.{node_at, Ready, IsTest};
 ghost use Rattle.kp_synth_next.specs.Control.{Controls, ShowRow};
 
 use crate::control::{Control, RowNodes};
+use kp_design::Layout;
 use kp_net::{NodeId, Operands};
 use kp_net_gates::join;
 use kp_pool::Pool;
 use kp_synth_registers::{Reads, full_in};
-use kp_synth_tables::Layout;
 use std::alloc::Global;
 
 // The first nodes in reverse order.

@@ -4,15 +4,15 @@ ghost use Rattle.kp_pipeline.specs.Pipeline.{PipelineState, Inputs, ue, back, cy
 ghost use Rattle.kp_machine.specs.Slots.{pipes_of, hints_of};
 ghost use Rattle.kp_machine.specs.Machine.{machine_of};
 ghost use Rattle.kp_net.specs.Growth.{Held, Wire, Grown};
-ghost use Rattle.kp_synth_tables.specs.Keys.{pipe_at, hint_at};
+ghost use Rattle.kp_design.specs.Numbers.{pipe_at, hint_at};
 ghost use Rattle.kp_synth_registers.specs.Meaning.{Ready, IsTest, Gives, Says};
 
+use kp_design::Layout;
 use kp_engine::full_next;
 use kp_net::NodeId;
 use kp_net_gates::choose;
 use kp_pool::Pool;
-use kp_synth_registers::{Outcome, Reads, kept, pipe_in};
-use kp_synth_tables::{Key, Layout};
+use kp_synth_registers::{Key, Outcome, Reads, kept, pipe_in};
 
 /// The next full bit of the stage after a stage.
 pub(crate) fn next_full(

@@ -6,15 +6,15 @@ ghost use Rattle.kp_machine.specs.Slots.{targets_of};
 ghost use Rattle.kp_machine.specs.Machine.{machine_of};
 ghost use Rattle.kp_net.specs.Nodes.{Cells, at, on};
 ghost use Rattle.kp_net.specs.Growth.{Held, Wire, Grown};
-ghost use Rattle.kp_synth_tables.specs.Keys.{target_at, is_kept};
+ghost use Rattle.kp_design.specs.{Numbers.target_at, Spans.is_kept};
 ghost use Rattle.kp_synth_registers.specs.Holding.{optional};
 ghost use Rattle.kp_synth_registers.specs.Meaning.{Ready, IsTest, MayGive, Says};
 
+use kp_design::Layout;
 use kp_net::NodeId;
 use kp_net_gates::{choose, either, pick};
 use kp_pool::Pool;
 use kp_synth_registers::{Outcome, Reads, Set, result_in};
-use kp_synth_tables::Layout;
 
 // The first of two optional values that exists.
 #[tactic(auto, using(crate::proofs::Arms::first_is))]

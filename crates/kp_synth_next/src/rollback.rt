@@ -9,12 +9,12 @@ ghost use Rattle.kp_synth_next.specs.Nexts.{outcome_at};
 ghost use Rattle.kp_synth_next.specs.Control.{AllSay, Controls};
 
 use crate::control::Control;
+use kp_design::Layout;
 use kp_engine::{sweep, update_of};
 use kp_net::NodeId;
 use kp_net_gates::bit;
 use kp_pool::Pool;
 use kp_synth_registers::{Outcome, Reads, full_in};
-use kp_synth_tables::Layout;
 
 // Whether each stage mismatches, with 0 for those that don't exist.
 fn misses_of(pool: &mut Pool, layout: &Layout<'_>, outs: &[Outcome]) -> [NodeId; 12]

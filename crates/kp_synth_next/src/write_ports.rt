@@ -5,9 +5,9 @@ ghost use Rattle.kp_machine.specs.Slots.{targets_of, is_register};
 ghost use Rattle.kp_machine.specs.Machine.{machine_of};
 ghost use Rattle.kp_net.specs.Nodes.{Cells, at, on};
 ghost use Rattle.kp_net.specs.Growth.{Held, Wire, Grown};
-ghost use Rattle.kp_synth_tables.specs.Keys.{target_at, is_kept};
+ghost use Rattle.kp_design.specs.{Numbers.target_at, Spans.is_kept};
 ghost use Rattle.kp_synth_registers.specs.Holding.{Holds};
-ghost use Rattle.kp_synth_tables.specs.Fits.{port_at, EnableFits, ResultFits};
+ghost use Rattle.kp_design.specs.Fits.{port_at, EnableFits, ResultFits};
 ghost use Rattle.kp_synth_registers.specs.Meaning.{Ready, IsTest, Gives, Says};
 ghost use Rattle.kp_synth_next.specs.Control.{AllSay, Updating, PortsFrom};
 ghost use Rattle.kp_synth_next.specs.Nexts.{port_word, PortFits};
@@ -15,11 +15,11 @@ ghost use Rattle.kp_synth_next.specs.inner.Written.{writes, written_value, addre
 
 use crate::result_registers::leaves;
 use kp_base::NoMemory;
+use kp_design::{Layout, Port};
 use kp_net::{NodeId, WritePort};
 use kp_net_gates::{both, choose, constant};
 use kp_pool::Pool;
-use kp_synth_registers::{Outcome, Reads, Set, kept, pipe_in};
-use kp_synth_tables::{Key, Layout, Port};
+use kp_synth_registers::{Key, Outcome, Reads, Set, kept, pipe_in};
 use std::alloc::Global;
 
 // Whether the result of a target is written at the end of the cycle, at any address. The update enable is that of its

@@ -10,7 +10,8 @@ use Rattle.kp_net.specs.{declared.node.NodeId.NodeId, Nodes.Cells, Nodes.word_of
 use Rattle.kp_net.{specs.Growth.Held, specs.Growth.Wire, specs.Growth.Kept, specs.Growth.AddsOnly, proofs.Growing.wire_kept, proofs.Growing.kept_then}
 use Rattle.kp_net.proofs.Values.{at_fits}
 use Rattle.kp_net.specs.declared.node.Kind.TheVariants as kinds
-use Rattle.kp_synth_tables.specs.{declared.key.Key.TheVariants.Visible, Keys.key_width, Keys.key_at, Keys.keys_of, Keys.target_at, Keys.sample_at}
+use Rattle.kp_synth_registers.specs.{declared.key.Key.TheVariants.Visible, Keys.key_width, Keys.key_at, Keys.keys_of}
+use Rattle.kp_design.specs.Numbers.{target_at, sample_at}
 use Rattle.kp_synth_registers.specs.{Holding.Holds, Holding.kept_in, Holding.own_word, declared.registers.Reads.Reads}
 use Rattle.kp_synth_registers.specs.{Meaning.Gives, Meaning.node_at, Meaning.Added, Meaning.Ready, inner.First.FirstRead, inner.First.FirstSamples}
 use Rattle.kp_synth_registers.proofs.Growth.{gives_kept, asked_added}
@@ -62,12 +63,13 @@ one_sample job p q j x nodes n e a h w g = record {
 }
 
 -- all of them
-pub ready_read : (job : Job) (o p q : Held) (i j : ℕ) (reads : Reads) → Kept o p i → Kept p q j → length reads.registers ≡ length (keys_of job) → FirstRead job o reads.registers
+pub ready_read : (job : Job) (o p q : Held) (i j : ℕ) (reads : Reads) → reads.keys ≡ keys_of job → Kept o p i → Kept p q j → length reads.registers ≡ length (keys_of job) → FirstRead job o reads.registers
     → length reads.samples ≡ length (samples_of job.decls) → FirstSamples job p reads.samples
     → Wire q reads.ext job.stages.value → ((c : Cells) → at c q.nodes reads.ext.0 ≡ c.ext % 2 ^ job.stages.value) → Ready job q reads
-ready_read job o p q i j reads a b e h f g w v =
+ready_read job o p q i j reads k a b e h f g w v =
     let ab = kept_then o p q i j a b in
     record {
+      keys = k;
       same = e;
       wires = λ r l. wire_kept o q (i + j) (node_at reads.registers r) _ ab (h.wires r (omega (arith, l, e)));
       values = λ c r l. (let m : r < length reads.registers = omega (arith, l, e) in ab.same c (node_at reads.registers r).0 (h.wires r m).inside ∙ h.values c r m);

@@ -10,7 +10,7 @@ use Rattle.kp_net.specs.declared.node.Kind.TheVariants as kinds
 use Rattle.kp_synth_registers.specs.Meaning.{IsTest, Gives, MayGive, node_at, CellFits, CellsFit, Added, Ready, Says, put_value, set_value, guess_value, made_values, PutFits, SetFits, MadeFit}
 use Rattle.kp_synth_registers.specs.declared.{outcome.Set.Set, outcome.Made.Made, outcome.Outcome.Outcome, registers.Reads.Reads}
 use Rattle.kp_synth_registers.specs.Holding.{optional, pending_guess}
-use Rattle.kp_synth_tables.specs.declared.key.GuessSlot.{GuessSlot}
+use Rattle.kp_design.specs.declared.guess.GuessSlot.{GuessSlot}
 
 pub test_kept : (job : Job) (p q : Held) (j w : ℕ) (n : NodeId) (f : PipelineState → Inputs → Bool) → Kept p q j → Wire p n w → IsTest job p n f → IsTest job q n f
 unfolding IsTest
@@ -31,6 +31,7 @@ may_give_kept job p q j w bit value f a b v e = λ c st i m. same_optional _ _ _
 -- the nodes that read the cells
 pub ready_kept : (job : Job) (p q : Held) (k : ℕ) (reads : Reads) → Kept p q k → Ready job p reads → Ready job q reads
 ready_kept job p q k reads a h = record {
+  keys = h.keys;
   same = h.same;
   wires = λ r l. wire_kept p q k (node_at reads.registers r) _ a (h.wires r l);
   values = λ c r l. a.same c (node_at reads.registers r).0 (h.wires r l).inside ∙ h.values c r l;

@@ -4,8 +4,8 @@ use Rattle.kp_ast.specs.declared.tree.Job.{Job}
 use Rattle.kp_pipeline.specs.Pipeline.{StageState}
 use Rattle.kp_machine.specs.Slots.{targets_of, pipes_of}
 use Rattle.kp_net.specs.{declared.node.NodeId.NodeId, Nodes.Cells, Nodes.at, Nodes.on, Growth.Held}
-use Rattle.kp_synth_tables.specs.declared.key.Key.TheVariants.{Full, Pipe, Valid, Value}
-use Rattle.kp_synth_tables.specs.Keys.{is_kept, is_piped, is_stored}
+use Rattle.kp_synth_registers.specs.declared.key.Key.TheVariants.{Full, Pipe, Valid, Value}
+use Rattle.kp_design.specs.Spans.{is_kept, is_piped, is_stored}
 use Rattle.kp_synth_registers.specs.{Holding.kept_in, Holding.optional, Meaning.IsTest, Meaning.Gives, Meaning.MayGive}
 
 test_of : (c : Cells) (p : Held) (n : NodeId) (v : ℕ) → at c p.nodes n.0 ≡ v → on c p.nodes n.0 ≡ (v == 1)

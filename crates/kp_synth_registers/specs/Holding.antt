@@ -6,10 +6,11 @@ use Rattle.kp_pipeline.specs.Machine.{State}
 use Rattle.kp_pipeline.specs.{Sequential.PendingGuess, Pipeline.PipelineState, Pipeline.Inputs, Pipeline.stage_zero}
 use Rattle.kp_machine.specs.{Slots.targets_of, Slots.pipes_of, Slots.hints_of, Slots.samples_of, Slots.is_register, Machine.files_before}
 use Rattle.kp_net.specs.{Nodes.Cells, Netlist.Input}
-use Rattle.kp_synth_tables.specs.declared.key.Key.{Key}
-use Rattle.kp_synth_tables.specs.declared.key.Key.TheVariants.{Visible, Full, Pipe, Valid, Value, Pending, Guess, Hint}
-use Rattle.kp_synth_tables.specs.declared.key.GuessSlot.{GuessSlot}
-use Rattle.kp_synth_tables.specs.Keys.{target_at, sample_at, guesses_of, is_carried, is_kept, is_piped, is_stored, key_width, place_of}
+use Rattle.kp_synth_registers.specs.declared.key.Key.{Key}
+use Rattle.kp_synth_registers.specs.declared.key.Key.TheVariants.{Visible, Full, Pipe, Valid, Value, Pending, Guess, Hint}
+use Rattle.kp_design.specs.declared.guess.GuessSlot.{GuessSlot}
+use Rattle.kp_design.specs.{Numbers.target_at, Numbers.sample_at, Numbers.guesses_of, Spans.is_carried, Spans.is_kept, Spans.is_piped, Spans.is_stored}
+use Rattle.kp_synth_registers.specs.Keys.{key_width, place_of}
 
 -- The value of the register of a key: what a node of the key's width reads there.
 unfoldable pub kept_in : Job → Cells → Key → ℕ

@@ -9,8 +9,9 @@ use Rattle.kp_net.specs.Growth.{Held, Wire, Kept}
 use Rattle.kp_net.specs.declared.node.Kind.TheVariants as kinds
 use Rattle.kp_synth_registers.specs.declared.{outcome.Made.Made, outcome.Set.Set, outcome.Outcome.Outcome, registers.Reads.Reads}
 use Rattle.kp_synth_registers.specs.Holding.{Holds, optional, pending_guess}
-use Rattle.kp_synth_tables.specs.declared.key.GuessSlot.{GuessSlot}
-use Rattle.kp_synth_tables.specs.Keys.{target_at, pipe_at, hint_at, sample_at, guesses_in, key_width, key_at, keys_of}
+use Rattle.kp_design.specs.declared.guess.GuessSlot.{GuessSlot}
+use Rattle.kp_design.specs.Numbers.{target_at, pipe_at, hint_at, sample_at, guesses_in}
+use Rattle.kp_synth_registers.specs.Keys.{key_width, key_at, keys_of}
 
 -- A node has the value of this test of the state and the inputs.
 unfoldable pub IsTest : Job → Held → NodeId → (PipelineState → Inputs → Bool) → Type 0
@@ -49,6 +50,7 @@ pub record Added (job : Job) (p q : Held) (k : ℕ) : Type 0 where
 -- The nodes that were built before those of the stages: one reads each register, in the order of the keys, one has
 -- the value of each sample, and one reads the stall word.
 pub record Ready (job : Job) (p : Held) (reads : Reads) : Type 0 where
+  pub keys : reads.keys ≡ keys_of job
   pub same : length reads.registers ≡ length (keys_of job)
   pub wires : (r : ℕ) → r < length (keys_of job) → Wire p (node_at reads.registers r) (key_width job (key_at job r))
   pub values : (c : Cells) (r : ℕ) → r < length (keys_of job) → at c p.nodes (node_at reads.registers r).0 ≡ c.reg r % 2 ^ key_width job (key_at job r)

@@ -5,20 +5,25 @@ ghost use Rattle.kp_machine.specs.Slots.{targets_of, samples_of, is_register};
 ghost use Rattle.kp_machine.specs.Machine.{files_before};
 ghost use Rattle.kp_net.specs.Nodes.{Cells, at};
 ghost use Rattle.kp_net.specs.Growth.{Held, Wire};
-ghost use Rattle.kp_synth_tables.specs.Keys.{HasKey, key_width, key_at, keys_of, target_at, sample_at};
-ghost use Rattle.kp_synth_tables.specs.Fits.{IsWidth};
+ghost use Rattle.kp_synth_registers.specs.Keys.{HasKey, key_width, key_at, keys_of};
+ghost use Rattle.kp_design.specs.Numbers.{target_at, sample_at};
+ghost use Rattle.kp_design.specs.Fits.{IsWidth};
 ghost use Rattle.kp_synth_registers.specs.Holding.{Holds};
 ghost use Rattle.kp_synth_registers.specs.Meaning.{Gives, Ready, Added};
 ghost use Rattle.kp_synth_registers.specs.inner.First.{FirstRead, FirstSamples};
 
+use crate::key::Key;
+use crate::keys::Keys;
 use kp_base::{List, NoMemory};
+use kp_design::Layout;
 use kp_net::{Kind, Node, NodeId};
 use kp_pool::Pool;
-use kp_synth_tables::{Key, Layout};
 use std::alloc::Global;
 
 /// The nodes that are built before those of the stages. Their meaning in contracts is `Ready`.
 pub struct Reads {
+    /// What each register stores.
+    pub keys: Keys,
     /// One for each register, in the order of the keys: it has the value of the register.
     pub registers: List<NodeId>,
     /// One for each sample: it has the value of the sample.
@@ -30,10 +35,12 @@ pub struct Reads {
 impl Drop for Reads {
     fn drop(self) {
         let Reads {
+            keys,
             registers,
             samples,
             ext: _,
         } = self;
+        drop(keys);
         drop(registers);
         drop(samples);
     }
@@ -102,15 +109,21 @@ fn stall_word(pool: &mut Pool, layout: &Layout<'_>) -> NodeId
 }
 
 // The nodes of the registers.
-fn registers(alloc: Global, pool: &mut Pool, layout: &Layout<'_>) -> Result<List<NodeId>, NoMemory>
+fn registers(
+    alloc: Global,
+    pool: &mut Pool,
+    layout: &Layout<'_>,
+    keys: &Keys,
+) -> Result<List<NodeId>, NoMemory>
+    requires keys { keys.now ≡ keys_of layout.now }
     requires room { length (keys_of layout.now) ≤ pool.old.spare }
     ensures count { IfOk result (λ nodes. length nodes ≡ length (keys_of layout.now)) }
     ensures read { IfOk result (λ nodes. FirstRead layout.now pool.new nodes) }
     ensures added { OnOk result (Added layout.now pool.old pool.new (length (keys_of layout.now))) }
 {
     let mut nodes = Vec::new(alloc);
-    for r in 0..layout.key_count() {
-        let width = width_of(layout, layout.key(r));
+    for r in 0..keys.count() {
+        let width = width_of(layout, keys.key(r));
         nodes.push(register(pool, layout, r, width))?;
     }
     Ok(List::new(nodes))
@@ -136,10 +149,12 @@ pub fn read_cells(alloc: Global, pool: &mut Pool, layout: &Layout<'_>) -> Result
     ensures ready { IfOk result (λ reads. Ready layout.now pool.new reads) }
     ensures added { OnOk result (Added layout.now pool.old pool.new (length (keys_of layout.now) + length (samples_of layout.now.decls) + 1)) }
 {
-    let registers = registers(alloc, pool, layout)?;
+    let keys = Keys::of(alloc, layout)?;
+    let registers = registers(alloc, pool, layout, &keys)?;
     let samples = samples(alloc, pool, layout)?;
     let ext = stall_word(pool, layout);
     Ok(Reads {
+        keys,
         registers,
         samples,
         ext,

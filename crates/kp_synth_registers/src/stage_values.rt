@@ -4,26 +4,28 @@ ghost use Rattle.kp_pipeline.specs.Pipeline.{PipelineState, Inputs};
 ghost use Rattle.kp_machine.specs.Slots.{targets_of, pipes_of, samples_of};
 ghost use Rattle.kp_net.specs.Nodes.{Cells, at, on};
 ghost use Rattle.kp_net.specs.Growth.{Held, Wire, Grown};
-ghost use Rattle.kp_synth_tables.specs.Keys.{target_at, pipe_at, sample_at, HasKey, key_width, is_kept};
+ghost use Rattle.kp_design.specs.{Numbers.target_at, Numbers.pipe_at, Numbers.sample_at, Spans.is_kept};
+ghost use Rattle.kp_synth_registers.specs.Keys.{HasKey, key_width};
 ghost use Rattle.kp_synth_registers.specs.Holding.{kept_in};
 ghost use Rattle.kp_synth_registers.specs.Meaning.{Ready, IsTest, Gives, MayGive};
 
+use crate::key::Key;
 use crate::outcome::Set;
 use crate::registers::Reads;
+use kp_design::Layout;
 use kp_net::NodeId;
 use kp_net_gates::{bit, constant};
 use kp_pool::Pool;
-use kp_synth_tables::{Key, Layout};
 
 /// The node that reads the register of a key.
-#[tactic(auto, using(kp_synth_tables::proofs::Places::has_place), unfolding(crate::specs::Holding::kept_in))]
+#[tactic(auto, using(crate::proofs::Places::has_place, crate::proofs::Places::place_is), unfolding(crate::specs::Holding::kept_in))]
 pub fn kept(pool: &Pool, layout: &Layout<'_>, reads: &Reads, key: Key) -> NodeId
     requires has { HasKey layout.now key }
     requires ready { Ready layout.now pool.now reads.now }
     ensures wire { Wire pool.now result (key_width layout.now key) }
     ensures value { (c : Cells) → at c pool.now.nodes result.0 ≡ kept_in layout.now c key }
 {
-    let r = layout.place(key);
+    let r = reads.keys.place(key);
     reads.registers.as_slice()[r as usize]
 }
 

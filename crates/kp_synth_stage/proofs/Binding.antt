@@ -15,7 +15,7 @@ use Rattle.kp_build.proofs.{Lists.grown_same, Names.node_with}
 use Rattle.kp_build.specs.Names.{Scope, node_of, with_node, word_of, AreInside}
 use Rattle.kp_synth_registers.specs.{declared.outcome.Made.Made, Holding.pending_guess, Meaning.guess_value, Meaning.made_values, Meaning.MadeFit}
 use Rattle.kp_synth_registers.proofs.Growth.{put_kept, put_fits, set_kept, set_fits, made_fit, made_kept}
-use Rattle.kp_synth_tables.specs.{declared.key.GuessSlot.GuessSlot, Keys.guess_slot, Keys.with_read, Keys.with_guess, Keys.guesses_in}
+use Rattle.kp_design.specs.{declared.guess.GuessSlot.GuessSlot, Numbers.guess_slot, Numbers.with_read, Numbers.with_guess, Numbers.guesses_in}
 use Rattle.kp_synth_stage.specs.{Work.stmts_at, Work.Fits, Work.Means, Scopes.Binds, Scopes.Bound}
 use Rattle.kp_synth_stage.specs.{inner.Standing.slots_at, inner.Standing.own_slots, declared.work.Work.Work}
 use Rattle.kp_synth_stage.specs.inner.Standing as work

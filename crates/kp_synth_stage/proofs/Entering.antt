@@ -16,7 +16,8 @@ use Rattle.kp_machine.proofs.{LookUp.or_else, LookUp.look_up-append, Cases.by_te
 use Rattle.kp_net.specs.{declared.node.NodeId.NodeId, Nodes.Cells, Nodes.word_at, Nodes.at, Nodes.on, Growth.Held, Growth.Wire, Growth.Kept}
 use Rattle.kp_net.proofs.{Values.word_is, Growing.wire_kept}
 use Rattle.kp_build.{specs.Names.Nodes, specs.Names.node_of, specs.Names.Scope, specs.Names.word_of, proofs.Names.node_with}
-use Rattle.kp_synth_tables.{proofs.Fitting.width_there, specs.Keys.no_slot, specs.Keys.pipe_at, specs.Keys.hint_at, specs.Keys.target_at}
+use Rattle.kp_design.proofs.Fitting.{width_there}
+use Rattle.kp_design.specs.Numbers.{no_slot, pipe_at, hint_at, target_at}
 use Rattle.kp_synth_registers.specs.Meaning.{node_at, PutFits, SetFits, MadeFit, put_value, set_value, made_values}
 use Rattle.kp_synth_stage.specs.Scopes.{declared, scope_at, is_bound, is_value, Binds, Bound}
 use Rattle.kp_synth_stage.specs.inner.Standing.{names_with, env_of, WorkOk, Stands, Enters, slots_at}

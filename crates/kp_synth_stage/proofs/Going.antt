@@ -3,7 +3,7 @@ use Rattle.std.proofs.Common.{◌≡◌, ◌∙◌, ℕ, zero, suc, ◌+◌, Lis
 use Rattle.std.{proofs.lemmas.List.Sums.fold-append, proofs.lemmas.List.take_all, specs.Prelude.slice_get}
 use Rattle.kp_machine.specs.{Machine.stage_tree, Trees.entered}
 use Rattle.kp_synth_registers.specs.Meaning.{guesses_at}
-use Rattle.kp_synth_tables.specs.Keys.{guesses_in}
+use Rattle.kp_design.specs.Numbers.{guesses_in}
 use Rattle.kp_net.specs.{declared.node.NodeId.NodeId, Growth.Held, Growth.Kept}
 use Rattle.kp_ast.specs.{Expressions.look_up, declared.tree.Decl.Decl, declared.tree.Stmt.Stmt, declared.tree.Job.Job}
 use Rattle.kp_synth_stage.specs.{declared.row.Source.Source, declared.work.Work.Work, Rows.SourcesOk}

@@ -10,7 +10,7 @@ use Rattle.kp_synth_stage.specs.Reading.{lacks, value_or_zero, Matched, given, A
 use Rattle.kp_synth_stage.specs.declared.row.{Row.Row, Own.Own, Own.TheVariants.Register, Own.TheVariants.File, Source.Source}
 use Rattle.kp_fwd.specs.{declared.entries.Candidate.Candidate, Forward.CandidateOk, Forward.first_ok, Forward.first_value, Forward.BitOk, Forward.enable_on}
 use Rattle.kp_machine.specs.{Slots.targets_of, Slots.is_register, Machine.files_before}
-use Rattle.kp_synth_tables.specs.Keys.{target_at}
+use Rattle.kp_design.specs.Numbers.{target_at}
 use Rattle.kp_ast.specs.declared.tree.Job.{Job}
 use Rattle.kp_bits.specs.Word as bits
 use Rattle.kp_net.specs.declared.node.Kind.TheVariants as kinds

@@ -12,8 +12,9 @@ use Rattle.kp_pipeline.specs.Sequential.{PendingGuess}
 use Rattle.kp_net.specs.{declared.node.NodeId.NodeId, Nodes.Cells, Nodes.word_at, Nodes.at, Nodes.on, Growth.Held, Growth.Wire, Growth.Kept}
 use Rattle.kp_net.proofs.{Growing.wire_kept, Growing.kept_then, Values.word_is}
 use Rattle.kp_synth_registers.specs.{declared.outcome.Made.Made, Holding.pending_guess, Meaning.made_values, Meaning.guess_value, Meaning.MadeFit}
-use Rattle.kp_synth_tables.{proofs.Fitting.width_there, specs.declared.key.GuessSlot.GuessSlot}
-use Rattle.kp_synth_tables.specs.Keys.{target_at, guess_slot, with_read}
+use Rattle.kp_design.proofs.Fitting.{width_there}
+use Rattle.kp_design.specs.declared.guess.GuessSlot.{GuessSlot}
+use Rattle.kp_design.specs.Numbers.{target_at, guess_slot, with_read}
 use Rattle.kp_synth_stage.specs.{declared.row.Source.Source, declared.row.Answer.Answer, declared.work.Work.Work, Rows.SourcesOk}
 use Rattle.kp_synth_stage.specs.Doing.{after_stmt, target_of, miss_of, hazard_of, guess_of, read_value, read_lacks}
 use Rattle.kp_synth_stage.specs.{Scopes.scope_at, Scopes.Bound, inner.Standing.slots_at, inner.Standing.own_slots, inner.Standing.WorkOk, inner.Standing.Stands, inner.Standing.GoesBy}

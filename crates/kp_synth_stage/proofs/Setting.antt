@@ -23,7 +23,8 @@ use Rattle.kp_fwd.specs.Forward.{enable_on}
 use Rattle.kp_build.specs.Names.{Scope, Gives}
 use Rattle.kp_synth_registers.specs.{declared.outcome.Set.Set, Holding.optional, Meaning.SetFits, Meaning.set_value}
 use Rattle.kp_synth_registers.proofs.Growth.{set_kept, set_fits}
-use Rattle.kp_synth_tables.{proofs.Fitting.width_there, specs.Keys.target_at}
+use Rattle.kp_design.proofs.Fitting.{width_there}
+use Rattle.kp_design.specs.Numbers.{target_at}
 use Rattle.kp_synth_stage.specs.{declared.work.Work.Work, Scopes.scope_at, Scopes.Bound}
 use Rattle.kp_synth_stage.specs.inner.Standing.{StmtRight, WorkOk, Stands, GoesBy}
 use Rattle.kp_synth_stage.specs.inner.Statements.{width_in, OptionRight, OptionGives, target_named}

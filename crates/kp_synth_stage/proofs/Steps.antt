@@ -20,7 +20,8 @@ use Rattle.kp_machine.proofs.{Scopes.fresh_none, Scopes.found_sense, Scopes.IsSl
 use Rattle.kp_machine.specs.Trees as trees
 use Rattle.kp_net.specs.{declared.node.NodeId.NodeId, Nodes.Cells, Nodes.word_at, Nodes.at, Widths.AllRight, Growth.Held, Growth.Wire, Growth.Kept}
 use Rattle.kp_build.specs.Names.{Scope, Gives}
-use Rattle.kp_synth_tables.{proofs.Fitting.width_there, specs.Keys.no_slot, specs.Keys.pipe_at, specs.Keys.hint_at}
+use Rattle.kp_design.proofs.Fitting.{width_there}
+use Rattle.kp_design.specs.Numbers.{no_slot, pipe_at, hint_at}
 use Rattle.kp_synth_registers.specs.Meaning.{put_value, PutFits}
 use Rattle.kp_synth_stage.specs.{declared.row.Source.Source, declared.work.Work.Work, Doing.Doing, Doing.after_stmt, Doing.outcome_of}
 use Rattle.kp_synth_stage.specs.{Work.Fits, Work.Means, Scopes.scope_at, Scopes.Bound}

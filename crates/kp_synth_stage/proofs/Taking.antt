@@ -22,7 +22,8 @@ use Rattle.kp_net.specs.{declared.node.NodeId.NodeId, Nodes.Cells, Nodes.at, Nod
 use Rattle.kp_net.proofs.{Growing.wire_kept, Growing.kept_then, Values.at_fits}
 use Rattle.kp_fwd.specs.Forward.{BitOk, enable_on}
 use Rattle.kp_build.specs.Names.{Scope}
-use Rattle.kp_synth_tables.{proofs.Fitting.width_there, proofs.Fitting.address_there, proofs.Fitting.no_address, specs.Keys.target_at}
+use Rattle.kp_design.proofs.Fitting.{width_there, address_there, no_address}
+use Rattle.kp_design.specs.Numbers.{target_at}
 use Rattle.kp_synth_registers.specs.Meaning.{PutFits}
 use Rattle.kp_synth_stage.specs.declared.row.{Source.Source, Answer.Answer}
 use Rattle.kp_synth_stage.specs.Rows.{asked, source_view, view_of, SourceOk, SourcesOk, Sees, AskOk}

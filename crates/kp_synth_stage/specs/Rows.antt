@@ -4,7 +4,7 @@ use Rattle.kp_ast.specs.declared.tree.Job.{Job}
 use Rattle.kp_machine.specs.{Machine.files_before, Slots.is_register, Slots.targets_of}
 use Rattle.kp_net.specs.{Growth.Held, Growth.Wire, Nodes.Cells, Nodes.at, Nodes.on, declared.node.NodeId.NodeId}
 use Rattle.kp_fwd.specs.Forward.{BitOk, enable_on}
-use Rattle.kp_synth_tables.specs.Keys.{target_at}
+use Rattle.kp_design.specs.Numbers.{target_at}
 use Rattle.kp_synth_registers.specs.Holding.{optional}
 use Rattle.kp_synth_stage.specs.declared.row.{Own.Own, Own.TheVariants.File, Own.TheVariants.Register, Row.Row, Source.Source}
 

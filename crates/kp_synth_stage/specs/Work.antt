@@ -5,7 +5,7 @@ use Rattle.kp_stage.specs.{Facts.stmts_in, Sizes.size_of_kind}
 use Rattle.kp_pipeline.specs.Sequential.{StageOutcome, run}
 use Rattle.kp_machine.specs.{Machine.stage_tree, Slots.Slot, Slots.hints_of, Slots.pipes_of, Slots.samples_of, Slots.targets_of}
 use Rattle.kp_net.specs.{Growth.Held, Growth.Wire, Nodes.Cells, Nodes.at, Nodes.on, declared.node.NodeId.NodeId}
-use Rattle.kp_synth_tables.specs.{Keys.hint_at, Keys.no_slot, Keys.pipe_at, Keys.target_at, declared.key.GuessSlot.GuessSlot}
+use Rattle.kp_design.specs.{Numbers.hint_at, Numbers.no_slot, Numbers.pipe_at, Numbers.target_at, declared.guess.GuessSlot.GuessSlot}
 use Rattle.kp_synth_registers.specs.Meaning.{MadeFit, PutFits, SetFits, guesses_at, made_values, node_at, put_value, set_value}
 use Rattle.kp_synth_stage.specs.{Rows.Sees, declared.row.Source.Source, declared.slots.Slots.Slots, declared.work.Work.Work}
 use Rattle.kp_ast.specs.declared.tree.StmtKind.TheVariants as stmts

@@ -5,7 +5,7 @@ ghost use Rattle.kp_net.specs.Widths.{wide};
 ghost use Rattle.kp_net.specs.Growth.{Held, Wire, Grown};
 ghost use Rattle.kp_fwd.specs.Forward.{addresses_agree, CandidateOk, SameWidth, BitOk, enable_on};
 ghost use Rattle.kp_machine.specs.Slots.{targets_of};
-ghost use Rattle.kp_synth_tables.specs.Keys.{target_at};
+ghost use Rattle.kp_design.specs.Numbers.{target_at};
 ghost use Rattle.kp_synth_registers.specs.Holding.{optional};
 ghost use Rattle.kp_synth_registers.specs.Meaning.{Added, PutFits};
 ghost use Rattle.kp_synth_stage.specs.Rows.{asked, address_is, row_hits, rows_view, own_value, source_view, AddressOk, RowOk, RowsOk, SourceOk, AskOk};

@@ -11,7 +11,7 @@ ghost use Rattle.kp_synth_stage.specs.declared.row.Source.{Source as ASource};
 ghost use Rattle.kp_synth_stage.specs.inner.Standing.{WorkOk, StmtRight, GoesBy};
 ghost use Rattle.kp_synth_stage.specs.Work.{cost_of, AreSlots};
 ghost use Rattle.kp_stage.specs.Sizes.{size_of_kind};
-ghost use Rattle.kp_synth_tables.specs.Keys.{target_at};
+ghost use Rattle.kp_design.specs.Numbers.{target_at};
 ghost use Rattle.kp_synth_stage.specs.Rows.{SourcesOk};
 ghost use Rattle.kp_synth_stage.specs.Doing.{target_of};
 ghost use Rattle.kp_synth_stage.specs.Scopes.{scope_at, Bound};

@@ -2,7 +2,7 @@
 use Rattle.std.specs.Prelude.{◌≡◌, ℕ, ◌+◌, ◌*◌, ◌≤◌, List, length}
 use Rattle.kp_ast.specs.declared.tree.Job.{Job}
 use Rattle.kp_stage.specs.{declared.counts.Summary.Summary, Counts.summary_of}
-use Rattle.kp_synth_tables.specs.Keys.{keys_of}
+use Rattle.kp_synth_registers.specs.Keys.{keys_of}
 use Rattle.kp_net.specs.{Netlist.Net, Widths.Distinct}
 use Rattle.kp_vlog.specs.{Canon.canon, Denote.Denotes}
 use Rattle.kp_implements.specs.{Shows.Shows, Shows.IsInOrder, Anew.BeginsAnew}

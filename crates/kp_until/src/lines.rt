@@ -12,7 +12,7 @@ use crate::expected::{Bound, Check, Expected, LineFault, LineRule};
 use crate::part::{Index, Part, PartFault, ValueFault, ends_in, front, part_of, value_of};
 use kp_base::{NoMemory, Run, lines_in, words_in};
 use kp_bits::{Bits, read_number};
-use kp_synth_tables::Layout;
+use kp_design::Layout;
 use std::alloc::{AllocFailed, Global};
 
 /// Why a text was not read.

@@ -8,7 +8,7 @@ ghost use Rattle.kp_until.specs.Parts.{is_open, is_dot, ends_in, front, address_
 
 use kp_ast::Decl;
 use kp_bits::{Bits, Literal, LiteralFault, read_literal, read_number, read_numeral};
-use kp_synth_tables::Layout;
+use kp_design::Layout;
 
 /// Which words of a target.
 #[derive(Clone, Copy)]

@@ -5,7 +5,7 @@ ghost use Rattle.kp_until.specs.Untils.{compared, until_of, with_part, IsUntil};
 
 use crate::part::{Part, PartFault, ValueFault, ends_in, find, front, part_of, single, value_of};
 use kp_bits::{Bits, read_number};
-use kp_synth_tables::Layout;
+use kp_design::Layout;
 
 /// A condition on the state after some instructions.
 #[derive(Clone, Copy)]

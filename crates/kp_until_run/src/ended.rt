@@ -13,11 +13,11 @@ use crate::hunt::{Found, search};
 use crate::reach::reach;
 use crate::trail::{advance, opened};
 use kp_base::NoMemory;
+use kp_design::Layout;
 use kp_frontend::Accepted;
 use kp_net::Netlist;
 use kp_run::{Column, columns_in};
 use kp_seq::SeqMachine;
-use kp_synth_tables::Layout;
 use kp_until::Until;
 use std::alloc::Global;
 

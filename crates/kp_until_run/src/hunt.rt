@@ -10,10 +10,10 @@ ghost use Rattle.kp_until_run.specs.inner.Hunting.{given, Follows, IsFoundAt, Is
 use crate::trail::Trail;
 use kp_base::NoMemory;
 use kp_bits::Bits;
+use kp_design::Layout;
 use kp_frontend::Accepted;
 use kp_run::Column;
 use kp_seq::SeqMachine;
-use kp_synth_tables::Layout;
 use kp_until::Until;
 use std::alloc::Global;
 

@@ -11,8 +11,8 @@ ghost use Rattle.kp_until_run.specs.Missed.{AreMet, IsMissed, IsSaid};
 ghost use Rattle.kp_until_run.specs.inner.Ends.{end_of};
 
 use kp_bits::Bits;
+use kp_design::Layout;
 use kp_seq::SeqMachine;
-use kp_synth_tables::Layout;
 use kp_until::{Bound, Check};
 
 /// What is said of a check that isn't met.

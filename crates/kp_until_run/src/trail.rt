@@ -11,10 +11,10 @@ ghost use Rattle.kp_until_run.specs.inner.Hunting.{digest, digest_of, given, Fol
 
 use kp_base::NoMemory;
 use kp_bits::Bits;
+use kp_design::Layout;
 use kp_frontend::Accepted;
 use kp_run::{Column, take};
 use kp_seq::SeqMachine;
-use kp_synth_tables::Layout;
 use std::alloc::Global;
 
 /// How many instructions back a state is compared with the present one, at most.

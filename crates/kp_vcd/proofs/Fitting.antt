@@ -13,7 +13,7 @@ use Rattle.kp_pipeline.specs.{Machine.Machine, Pipeline.PipelineState, Pipeline.
 use Rattle.kp_pipeline.specs.Rows.{Row, bits, one_if, rows_from}
 use Rattle.kp_machine.specs.{Machine.machine_of, Machine.state_of, Machine.start_hints, Machine.inputs_from, Slots.targets_of}
 use Rattle.kp_machine.{proofs.Widths.Fine, proofs.Widths.job_fine, specs.Words.no_slot}
-use Rattle.kp_synth_tables.proofs.Limits.{limits, targets_counted}
+use Rattle.kp_design.proofs.Limits.{limits, targets_counted}
 use Rattle.kp_run.proofs.Machines.{stages_fit}
 use Rattle.kp_vcd.specs.{declared.dump.Signal.Signal, Recording.Values, Forms.is_name, Fitting.IsSignal, Fitting.FitsForm}
 use Rattle.kp_vcd.specs.Dumps.{wire, register_signals, signals_of, number, output_values, register_values, values_at, own_run, vcd_dump}

@@ -3,7 +3,7 @@ use Rattle.std.proofs.Common.{◌≡◌, ◌∙◌, ℕ, Bool, List, [], length,
 use Rattle.kp_ast.specs.declared.tree.Job.{Job}
 use Rattle.kp_net.specs.Netlist.{Net}
 use Rattle.kp_implements.specs.Shows.{Shows}
-use Rattle.kp_synth_tables.specs.Keys.{keys_of}
+use Rattle.kp_synth_registers.specs.Keys.{keys_of}
 use Rattle.kp_synth.specs.Carrying.{Carries}
 use Rattle.kp_depth.specs.{declared.stages.Depths.Depths, Depths.IsDepth, Text.depth_text}
 use Rattle.kp_view.specs.Depths.{IsDepthText}

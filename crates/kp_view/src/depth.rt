@@ -7,9 +7,9 @@ ghost use Rattle.kp_view.specs.Ends.{Ends};
 use crate::failure::Failure;
 use kp_base::{NoMemory, Sink, write_all};
 use kp_depth::{depth_text, depths_of};
+use kp_design::Layout;
 use kp_frontend::Accepted;
 use kp_synth::synth;
-use kp_synth_tables::Layout;
 use kp_view_words::Memories;
 use std::alloc::Global;
 

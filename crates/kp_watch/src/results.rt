@@ -5,8 +5,8 @@ ghost use Rattle.kp_watch.specs.inner.Results.{result_number, AreResults};
 
 use kp_ast::Decl;
 use kp_base::NoMemory;
+use kp_design::target_number;
 use kp_frontend::Accepted;
-use kp_run::number_of;
 use std::alloc::Global;
 
 /// For each of `count` targets the number of its result, or the number of results if it has none. The only error is out of memory.
@@ -30,7 +30,7 @@ fn result_number(decls: &[Decl], t: usize) -> u32
     let mut number = 0;
     for decl in decls {
         if let Decl::Target(r) = decl {
-            if number_of(decls, &r.target.name) == t {
+            if target_number(decls, &r.target.name) == t {
                 return number;
             }
             number += 1;

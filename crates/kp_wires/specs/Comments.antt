@@ -3,7 +3,7 @@
 use Rattle.std.specs.Prelude.{ℕ, zero, suc, ◌+◌, ◌-◌, ◌/◌, ◌%◌, ◌==◌, nat_lt, if◌then◌else◌, List, [], ◌∷◌, ◌++◌, length, get_or, flat_map, codes, decimal}
 use Rattle.kp_ast.specs.declared.tree.Job.{Job}
 use Rattle.kp_net.specs.Netlist.{Net}
-use Rattle.kp_synth_tables.specs.Keys.{key_at}
+use Rattle.kp_synth_registers.specs.Keys.{key_at}
 use Rattle.kp_vlog.specs.Canon.{canon, text_of}
 use Rattle.kp_core_ports.specs.{Core.with_ports, Core.is_in_line, Names.stored, declared.port.Port.Port}
 use Rattle.kp_wires.specs.{Table.below, Texts.called, declared.wire.Wire.Wire}

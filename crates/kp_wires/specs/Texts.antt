@@ -5,8 +5,9 @@ use Rattle.kp_ast.specs.declared.tree.StmtKind.TheVariants as stmts
 use Rattle.kp_machine.specs.Slots.{targets_of}
 use Rattle.kp_net.specs.{Netlist.Net, Parts.no_reg, Widths.wide, declared.netlist.NetReg.NetReg}
 use Rattle.kp_vlog.specs.Canon.{text_of}
-use Rattle.kp_synth_tables.specs.{Keys.guess_at, Keys.key_at, Keys.keys_of, declared.key.Key.Key}
-use Rattle.kp_synth_tables.specs.declared.key.Key.TheVariants.{Visible, Full, Pipe, Valid, Value, Pending, Guess, Hint}
+use Rattle.kp_design.specs.Numbers.{guess_at}
+use Rattle.kp_synth_registers.specs.{Keys.key_at, Keys.keys_of, declared.key.Key.Key}
+use Rattle.kp_synth_registers.specs.declared.key.Key.TheVariants.{Visible, Full, Pipe, Valid, Value, Pending, Guess, Hint}
 use Rattle.kp_synth_stage.specs.Work.{stmts_at}
 use Rattle.kp_core_ports.specs.Names.{hint_name, pipe_name, target_name}
 use Rattle.kp_wires.specs.{Table.below, declared.wire.Signal.Signal, declared.wire.Wire.Wire}

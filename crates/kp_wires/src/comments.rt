@@ -1,7 +1,7 @@
 // A module with comments.
 ghost use Rattle.std.specs.Prelude.{◌≡◌, ◌<◌, ◌≤◌, ◌+◌, ◌^◌, ◌++◌, ◌∷◌, [], flat_map, if◌then◌else◌, length, IfOk, OnOk};
 ghost use Rattle.kp_machine.specs.Slots.{hints_of, pipes_of, targets_of};
-ghost use Rattle.kp_synth_tables.specs.Keys.{key_at, keys_of};
+ghost use Rattle.kp_synth_registers.specs.Keys.{keys_of};
 ghost use Rattle.kp_vlog.specs.Canon.{canon};
 ghost use Rattle.kp_core_ports.specs.{Core.is_in_line, Names.names_of, Names.stored, Ports.AllExist};
 ghost use Rattle.kp_wires.specs.Comments.{body_note, byte_text, comment_of, end_of, next_line, commented_text, entries, entry, entry_tail, file_lines, node_note, note_at, rest_note, with_comments};
@@ -12,8 +12,9 @@ use itoa::Buffer;
 use kp_ast::Job;
 use kp_base::NoMemory;
 use kp_core_ports::{Names, Port, add, add_stored, canonical_text, with_ports};
+use kp_design::Layout;
 use kp_net::Netlist;
-use kp_synth_tables::Layout;
+use kp_synth_registers::{Key, Keys};
 use std::alloc::Global;
 
 /// The module of a netlist of a job, with these ports, and with a comment on each register and each wire of the table. The only error is out of memory.
@@ -45,7 +46,8 @@ fn commented(
 {
     let names = Names::of(alloc, layout.job().decls.as_slice())?;
     let plain = canonical_text(alloc, net)?;
-    with_comments(alloc, plain.as_slice(), net, layout, &names, wires)
+    let keys = Keys::of(alloc, layout)?;
+    with_comments(alloc, plain.as_slice(), net, layout, &keys, &names, wires)
 }
 
 // A text with a comment at the end of each line of which something is said.
@@ -54,9 +56,11 @@ fn with_comments(
     text: &[u8],
     net: &Netlist,
     layout: &Layout<'_>,
+    keys: &Keys,
     names: &Names,
     wires: &[Wire],
 ) -> Result<Vec<u8>, NoMemory>
+    requires keys { keys.now ≡ keys_of layout.now }
     requires regs { length net.now.parts.regs ≡ length (keys_of layout.now) }
     requires targets { names.now.targets.items ≡ names_of (targets_of layout.now.decls) }
     requires pipes { names.now.pipes.items ≡ names_of (pipes_of layout.now.decls) }
@@ -67,7 +71,9 @@ fn with_comments(
     let mut line = 0;
     for n in 0..text.len() {
         let byte = text[n];
-        add_byte(alloc, &mut whole, net, layout, names, wires, line, byte)?;
+        add_byte(
+            alloc, &mut whole, net, layout, keys, names, wires, line, byte,
+        )?;
         line = next_line(line, byte);
     }
     Ok(whole)
@@ -89,18 +95,20 @@ fn add_byte(
     out: &mut Vec<u8>,
     net: &Netlist,
     layout: &Layout<'_>,
+    keys: &Keys,
     names: &Names,
     wires: &[Wire],
     line: usize,
     byte: u8,
 ) -> Result<(), NoMemory>
+    requires keys { keys.now ≡ keys_of layout.now }
     requires regs { length net.now.parts.regs ≡ length (keys_of layout.now) }
     requires targets { names.now.targets.items ≡ names_of (targets_of layout.now.decls) }
     requires pipes { names.now.pipes.items ≡ names_of (pipes_of layout.now.decls) }
     requires hints { names.now.hints.items ≡ names_of (hints_of layout.now.decls) }
     ensures { OnOk result (out.new.items ≡ out.old.items ++ byte_text (note_at net.now layout.now wires.now) line byte) }
 {
-    add_end(alloc, out, net, layout, names, wires, line, byte)?;
+    add_end(alloc, out, net, layout, keys, names, wires, line, byte)?;
     out.push(byte)?;
     Ok(())
 }
@@ -111,11 +119,13 @@ fn add_end(
     out: &mut Vec<u8>,
     net: &Netlist,
     layout: &Layout<'_>,
+    keys: &Keys,
     names: &Names,
     wires: &[Wire],
     line: usize,
     byte: u8,
 ) -> Result<(), NoMemory>
+    requires keys { keys.now ≡ keys_of layout.now }
     requires regs { length net.now.parts.regs ≡ length (keys_of layout.now) }
     requires targets { names.now.targets.items ≡ names_of (targets_of layout.now.decls) }
     requires pipes { names.now.pipes.items ≡ names_of (pipes_of layout.now.decls) }
@@ -125,7 +135,7 @@ fn add_end(
     if is_in_line(byte) {
         return Ok(());
     }
-    let note = note_at(alloc, net, layout, names, wires, line)?;
+    let note = note_at(alloc, net, layout, keys, names, wires, line)?;
     add_comment(out, note.as_slice())
 }
 
@@ -163,10 +173,12 @@ fn note_at(
     alloc: Global,
     net: &Netlist,
     layout: &Layout<'_>,
+    keys: &Keys,
     names: &Names,
     wires: &[Wire],
     line: usize,
 ) -> Result<Vec<u8>, NoMemory>
+    requires keys { keys.now ≡ keys_of layout.now }
     requires regs { length net.now.parts.regs ≡ length (keys_of layout.now) }
     requires targets { names.now.targets.items ≡ names_of (targets_of layout.now.decls) }
     requires pipes { names.now.pipes.items ≡ names_of (pipes_of layout.now.decls) }
@@ -176,7 +188,7 @@ fn note_at(
     if line == 0 {
         return Ok(Vec::new(alloc));
     }
-    body_note(alloc, net, layout, names, wires, line - 1)
+    body_note(alloc, net, layout, keys, names, wires, line - 1)
 }
 
 // The same of a line after the first.
@@ -184,10 +196,12 @@ fn body_note(
     alloc: Global,
     net: &Netlist,
     layout: &Layout<'_>,
+    keys: &Keys,
     names: &Names,
     wires: &[Wire],
     line: usize,
 ) -> Result<Vec<u8>, NoMemory>
+    requires keys { keys.now ≡ keys_of layout.now }
     requires regs { length net.now.parts.regs ≡ length (keys_of layout.now) }
     requires targets { names.now.targets.items ≡ names_of (targets_of layout.now.decls) }
     requires pipes { names.now.pipes.items ≡ names_of (pipes_of layout.now.decls) }
@@ -196,7 +210,7 @@ fn body_note(
 {
     let regs = net.parts().regs.as_slice().len();
     if line < regs {
-        return register_note(alloc, layout, names, line as u32);
+        return register_note(alloc, layout, names, keys.key(line as u32));
     }
     rest_note(alloc, net, layout.job(), names, wires, line - regs)
 }
@@ -206,16 +220,15 @@ fn register_note(
     alloc: Global,
     layout: &Layout<'_>,
     names: &Names,
-    register: u32,
+    key: Key,
 ) -> Result<Vec<u8>, NoMemory>
-    requires inside { register < length (keys_of layout.now) }
     requires targets { names.now.targets.items ≡ names_of (targets_of layout.now.decls) }
     requires pipes { names.now.pipes.items ≡ names_of (pipes_of layout.now.decls) }
     requires hints { names.now.hints.items ≡ names_of (hints_of layout.now.decls) }
-    ensures { IfOk result (λ note. note.items ≡ stored layout.now (key_at layout.now register)) }
+    ensures { IfOk result (λ note. note.items ≡ stored layout.now key) }
 {
     let mut note = Vec::new(alloc);
-    add_stored(&mut note, layout, names, layout.key(register))?;
+    add_stored(&mut note, layout, names, key)?;
     Ok(note)
 }
 

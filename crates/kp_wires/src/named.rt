@@ -2,7 +2,8 @@
 ghost use Rattle.std.specs.Prelude.{◌≡◌, ◌<◌, ◌++◌, length, flat_map, IfOk, OnOk};
 ghost use Rattle.kp_machine.specs.Slots.{hints_of, pipes_of, targets_of};
 ghost use Rattle.kp_net.specs.Widths.{wide};
-ghost use Rattle.kp_synth_tables.specs.Keys.{guess_at, keys_of};
+ghost use Rattle.kp_design.specs.Numbers.{guess_at};
+ghost use Rattle.kp_synth_registers.specs.Keys.{key_at, keys_of};
 ghost use Rattle.kp_core_ports.specs.Names.{names_of};
 ghost use Rattle.kp_wires.specs.Texts.{guess_call, is_in_stage, lines_head, lines_tail, name_head, named_lines, node_tail, own_register, own_wire, register_called, register_line, register_tail, registers_in, scope_head, scope_text, squashed_line, updates_line, wire_line};
 
@@ -11,8 +12,9 @@ use crate::call::{add_call, add_called};
 use itoa::Buffer;
 use kp_base::NoMemory;
 use kp_core_ports::{Names, add, name_at};
+use kp_design::Layout;
 use kp_net::{NetReg, Netlist, NodeId};
-use kp_synth_tables::{Key, Layout};
+use kp_synth_registers::{Key, Keys};
 use std::alloc::Global;
 
 /// The lines that name the registers and the wires of each stage of a module, for its end. The only error is out of memory.
@@ -27,9 +29,10 @@ pub fn named_lines(
     ensures { IfOk result (λ text. text.items ≡ named_lines net.now layout.now wires.now) }
 {
     let names = Names::of(alloc, layout.job().decls.as_slice())?;
+    let keys = Keys::of(alloc, layout)?;
     let mut text = lines_head(alloc)?;
     for k in 0..layout.stages() {
-        add_scope(&mut text, net, layout, &names, wires, k)?;
+        add_scope(&mut text, net, layout, &keys, &names, wires, k)?;
     }
     add_lines_tail(&mut text)?;
     Ok(text)
@@ -59,10 +62,12 @@ fn add_scope(
     out: &mut Vec<u8>,
     net: &Netlist,
     layout: &Layout<'_>,
+    keys: &Keys,
     names: &Names,
     wires: &[Wire],
     k: u32,
 ) -> Result<(), NoMemory>
+    requires keys { keys.now ≡ keys_of layout.now }
     requires regs { length net.now.parts.regs ≡ length (keys_of layout.now) }
     requires targets { names.now.targets.items ≡ names_of (targets_of layout.now.decls) }
     requires pipes { names.now.pipes.items ≡ names_of (pipes_of layout.now.decls) }
@@ -70,7 +75,7 @@ fn add_scope(
     ensures { OnOk result (out.new.items ≡ out.old.items ++ scope_text net.now layout.now wires.now k) }
 {
     add_scope_head(out, k)?;
-    add_registers(out, net, layout, names, k)?;
+    add_registers(out, net, layout, keys, names, k)?;
     add_wires(out, net, layout, names, wires, k)?;
     add_updates(out, k)?;
     add_squashed(out, k)
@@ -120,16 +125,18 @@ fn add_registers(
     out: &mut Vec<u8>,
     net: &Netlist,
     layout: &Layout<'_>,
+    keys: &Keys,
     names: &Names,
     k: u32,
 ) -> Result<(), NoMemory>
+    requires keys { keys.now ≡ keys_of layout.now }
     requires regs { length net.now.parts.regs ≡ length (keys_of layout.now) }
     requires targets { names.now.targets.items ≡ names_of (targets_of layout.now.decls) }
     requires pipes { names.now.pipes.items ≡ names_of (pipes_of layout.now.decls) }
     ensures { OnOk result (out.new.items ≡ out.old.items ++ registers_in net.now layout.now k) }
 {
-    for register in 0..layout.key_count() {
-        add_own_register(out, net, layout, names, k, register)?;
+    for register in 0..keys.count() {
+        add_own_register(out, net, layout, names, k, register, keys.key(register))?;
     }
     Ok(())
 }
@@ -142,14 +149,15 @@ fn add_own_register(
     names: &Names,
     k: u32,
     register: u32,
+    key: Key,
 ) -> Result<(), NoMemory>
     requires regs { length net.now.parts.regs ≡ length (keys_of layout.now) }
     requires inside { register < length (keys_of layout.now) }
+    requires key { key ≡ key_at layout.now register }
     requires targets { names.now.targets.items ≡ names_of (targets_of layout.now.decls) }
     requires pipes { names.now.pipes.items ≡ names_of (pipes_of layout.now.decls) }
     ensures { OnOk result (out.new.items ≡ out.old.items ++ own_register net.now layout.now k register) }
 {
-    let key = layout.key(register);
     if is_in_stage(k, key) {
         let reg = &net.parts().regs.as_slice()[register as usize];
         add_register_line(out, layout, names, key, reg)?;

@@ -5,14 +5,14 @@ ghost use Rattle.kp_synth_stage.specs.Work.{stmts_at};
 ghost use Rattle.kp_wires.specs.declared.wire.Signal.TheVariants.{Aim, Put};
 ghost use Rattle.kp_wires.specs.Table.{is_constant, wire_of, bound_wire, stmt_wire, set_wires, bound_wires, put_wires, all_set_wires, aim_wires, stage_wires, wires_of};
 
-use crate::call::stmts_of;
 use crate::{Signal, Wire};
+use crate::call::stmts_of;
 use kp_ast::{Job, Stmt, StmtKind};
 use kp_base::NoMemory;
 use kp_build::Env;
+use kp_design::Layout;
 use kp_net::{Kind, Netlist, NodeId};
 use kp_synth_registers::Outcome;
-use kp_synth_tables::Layout;
 use std::alloc::Global;
 
 /// The table of the wires of a netlist, from the nodes of what its stages do and of their names. The only error is out of memory.

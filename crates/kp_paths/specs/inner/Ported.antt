@@ -1,6 +1,6 @@
 -- A cell from what the tables of a design say of its target.
 use Rattle.std.specs.Prelude.{ℕ, Bool, not, ◌&&◌, ◌||◌, ◌==◌, nat_le, nat_lt, if◌then◌else◌, Option, Some, None}
-use Rattle.kp_synth_tables.specs.declared.layout.Port.{Port}
+use Rattle.kp_design.specs.declared.layout.Port.{Port}
 use Rattle.kp_paths.specs.declared.cell.Cell.{Cell, TheVariants.Reads, TheVariants.Empty, TheVariants.Maybe, TheVariants.Bypass}
 use Rattle.kp_paths.specs.Cells.{unmet}
 

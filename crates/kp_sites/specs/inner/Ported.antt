@@ -1,6 +1,6 @@
 -- How a target is written, by the tables of a design.
 use Rattle.std.specs.Prelude.{ℕ, Option, Some, None}
-use Rattle.kp_synth_tables.specs.declared.layout.Port.{Port}
+use Rattle.kp_design.specs.declared.layout.Port.{Port}
 use Rattle.kp_sites.specs.declared.sites.Writer.{Writer}
 
 -- from its port and the number of its result

@@ -5,8 +5,9 @@ use Rattle.kp_bits.specs.Word.{Word}
 use Rattle.kp_ast.specs.declared.tree.Job.{Job}
 use Rattle.kp_pipeline.specs.Sequential.{PendingGuess}
 use Rattle.kp_net.specs.Nodes.{Cells}
-use Rattle.kp_synth_tables.specs.declared.key.{Key.TheVariants.Pending, Key.TheVariants.Guess, GuessSlot.GuessSlot}
-use Rattle.kp_synth_tables.specs.Keys.{is_carried, target_at}
+use Rattle.kp_synth_registers.specs.declared.key.Key.TheVariants.{Pending, Guess}
+use Rattle.kp_design.specs.declared.guess.GuessSlot.{GuessSlot}
+use Rattle.kp_design.specs.{Spans.is_carried, Numbers.target_at}
 use Rattle.kp_synth_registers.specs.Holding.{kept_in, pending_guess}
 use Rattle.kp_stalls_run.specs.Guessed.{as_word, first_guess, is_other_guess}
 

@@ -8,8 +8,9 @@ use Rattle.kp_machine.specs.{Slots.hints_of, Machine.hint_starts}
 use Rattle.kp_net.specs.declared.{node.NodeId.NodeId, netlist.Port.Port, netlist.WritePort.WritePort, netlist.NetReg.NetReg, netlist.NetFile.NetFile}
 use Rattle.kp_net.specs.{declared.netlist.Parts.Parts, Growth.Held, Netlist.Net}
 use Rattle.kp_net.specs.Names.{IsSpelled, is_module_name, is_reg_name, is_file_name, is_sample_name}
-use Rattle.kp_synth_tables.specs.declared.key.Key.{Key, TheVariants.Hint}
-use Rattle.kp_synth_tables.specs.Keys.{target_at, sample_at, hint_at, key_width, keys_of}
+use Rattle.kp_synth_registers.specs.{declared.key.Key.Key, declared.key.Key.TheVariants.Hint}
+use Rattle.kp_design.specs.Numbers.{target_at, sample_at, hint_at}
+use Rattle.kp_synth_registers.specs.Keys.{key_width, keys_of}
 use Rattle.kp_synth_next.specs.{declared.control.RowNodes.RowNodes, Nexts.no_node_id}
 
 abbrev pub no_word : Word

@@ -2,7 +2,7 @@
 use Rattle.std.specs.Prelude.{ℕ, ◌+◌, ◌*◌, length}
 use Rattle.kp_ast.specs.declared.tree.Job.{Job}
 use Rattle.kp_machine.specs.Slots.{targets_of, samples_of}
-use Rattle.kp_synth_tables.specs.Keys.{keys_of}
+use Rattle.kp_synth_registers.specs.Keys.{keys_of}
 use Rattle.kp_synth.specs.Stages.{stages_room}
 
 -- the nodes that read registers, samples and the stall word

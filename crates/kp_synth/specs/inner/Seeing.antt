@@ -5,7 +5,7 @@ use Rattle.kp_pipeline.specs.Pipeline.{PipelineState, Inputs, above, outcome, hi
 use Rattle.kp_machine.specs.Machine.{machine_of}
 use Rattle.kp_net.specs.{declared.node.NodeId.NodeId, Nodes.Cells, Nodes.at, Nodes.on, Growth.Held}
 use Rattle.kp_synth_registers.specs.{Holding.Holds, Holding.optional, Meaning.Gives, Meaning.guesses_at, Meaning.node_at}
-use Rattle.kp_synth_tables.specs.Keys.{target_at}
+use Rattle.kp_design.specs.Numbers.{target_at}
 use Rattle.kp_synth_stage.specs.{declared.row.Row.Row, declared.row.Source.Source, declared.work.Work.Work, Rows.Sees, Rows.row_hits, Rows.source_view}
 use Rattle.kp_synth_stage.specs.Work.{Means}
 

@@ -5,7 +5,7 @@ use Rattle.kp_pipeline.specs.{Sequential.PendingGuess, Pipeline.PipelineState, P
 use Rattle.kp_machine.specs.{Machine.machine_of, Slots.targets_of}
 use Rattle.kp_net.specs.{declared.node.NodeId.NodeId, Nodes.Cells, Nodes.on, Growth.Held}
 use Rattle.kp_synth_registers.specs.{declared.outcome.Set.Set, Holding.Holds, Holding.some_of, Holding.guess_passes, Meaning.SetFits, Meaning.set_value}
-use Rattle.kp_synth_tables.specs.{declared.key.GuessSlot.GuessSlot, Keys.target_at, Keys.guesses_of, Keys.guess_at}
+use Rattle.kp_design.specs.{declared.guess.GuessSlot.GuessSlot, Numbers.target_at, Numbers.guesses_of, Numbers.guess_at}
 use Rattle.kp_synth_stage.specs.{declared.row.Source.Source, declared.row.Own.Own, Rows.own_value, Rows.SourceOk}
 use Rattle.kp_synth.specs.inner.Seeing.{Nearer}
 

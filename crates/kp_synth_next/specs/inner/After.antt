@@ -3,7 +3,8 @@ use Rattle.std.specs.Prelude.{◌≡◌, ℕ, ◌<◌, ◌^◌, length, Option, 
 use Rattle.kp_ast.specs.declared.tree.Job.{Job}
 use Rattle.kp_machine.specs.{Slots.targets_of, Slots.is_register, Machine.files_before}
 use Rattle.kp_net.specs.{declared.node.NodeId.NodeId, declared.netlist.WritePort.WritePort, Nodes.Cells, Nodes.at, Growth.Held}
-use Rattle.kp_synth_tables.specs.Keys.{target_at, keys_of}
+use Rattle.kp_design.specs.Numbers.{target_at}
+use Rattle.kp_synth_registers.specs.Keys.{keys_of}
 use Rattle.kp_synth_next.specs.Nexts.{port_word}
 
 -- The cells after a cycle have the values of the next nodes and the write ports.

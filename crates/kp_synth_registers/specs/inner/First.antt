@@ -2,7 +2,8 @@
 use Rattle.std.specs.Prelude.{◌≡◌, ℕ, ◌<◌, ◌^◌, ◌%◌, List, length}
 use Rattle.kp_ast.specs.declared.tree.Job.{Job}
 use Rattle.kp_net.specs.{declared.node.NodeId.NodeId, Nodes.Cells, Nodes.at, Growth.Held, Growth.Wire}
-use Rattle.kp_synth_tables.specs.Keys.{key_width, key_at, sample_at}
+use Rattle.kp_synth_registers.specs.Keys.{key_width, key_at}
+use Rattle.kp_design.specs.Numbers.{sample_at}
 use Rattle.kp_synth_registers.specs.Meaning.{Gives, node_at}
 
 -- The first registers are read.

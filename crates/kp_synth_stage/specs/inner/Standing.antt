@@ -8,7 +8,7 @@ use Rattle.kp_stage.specs.{Facts.Facts, Facts.facts_of, declared.rules.Rule.Rule
 use Rattle.kp_machine.specs.{Slots.Slot, Slots.hints_of, Slots.pipes_of, Slots.samples_of, Slots.words_of, Trees.entered}
 use Rattle.kp_net.specs.{Growth.Held, Nodes.Cells, declared.node.NodeId.NodeId}
 use Rattle.kp_build.specs.Names.{Nodes, Scope, with_node, word_of}
-use Rattle.kp_synth_tables.specs.{Keys.guesses_in, Keys.with_guess, declared.key.GuessSlot.GuessSlot}
+use Rattle.kp_design.specs.{Numbers.guesses_in, Numbers.with_guess, declared.guess.GuessSlot.GuessSlot}
 use Rattle.kp_synth_stage.specs.{Rows.Sees, Work.Fits, Work.Means, Work.NodesHave, Work.stmts_at, declared.row.Source.Source, declared.work.Work.Work}
 use Rattle.kp_synth_stage.specs.Doing.{Doing, after_stmt, after_stmts, begun, outcome_of}
 use Rattle.kp_synth_stage.specs.Scopes.{Bound, is_bound, scope_at}

@@ -1,5 +1,5 @@
 use Rattle.std.proofs.Common.{◌≡◌, ◌≤◌, length}
-use Rattle.kp_synth_tables.specs.Keys.{keys_of}
+use Rattle.kp_synth_registers.specs.Keys.{keys_of}
 use Rattle.kp_core_ports.specs.Names.{lines_below}
 use Rattle.kp_core_ports.proofs.table.names_text.Given as goal
 

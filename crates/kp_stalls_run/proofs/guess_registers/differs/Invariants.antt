@@ -1,6 +1,6 @@
 use Rattle.std.{proofs.Common.◌≡◌, proofs.Common.drop, specs.List.list_any}
 use Rattle.kp_net.specs.Netlist.{cells_of, stalled}
-use Rattle.kp_synth_tables.specs.Keys.{guesses_of}
+use Rattle.kp_design.specs.Numbers.{guesses_of}
 use Rattle.kp_stalls_run.specs.{Guessed.is_other_guess, inner.Held.held_from}
 use Rattle.kp_stalls_run.proofs.guess_registers.differs.Given as goal
 

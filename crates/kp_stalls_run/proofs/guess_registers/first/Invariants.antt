@@ -1,6 +1,6 @@
 use Rattle.std.proofs.Common.{◌≡◌, drop}
 use Rattle.kp_net.specs.Netlist.{cells_of, stalled}
-use Rattle.kp_synth_tables.specs.Keys.{guesses_of}
+use Rattle.kp_design.specs.Numbers.{guesses_of}
 use Rattle.kp_stalls_run.specs.inner.Held.{first_word}
 use Rattle.kp_stalls_run.proofs.guess_registers.first.Given as goal
 

@@ -2,7 +2,8 @@ use Rattle.std.proofs.Common.{◌∙◌, ap, sym}
 use Rattle.kp_bits.specs.Word.{Word, word}
 use Rattle.kp_net.specs.Netlist.{cells_of, stalled}
 use Rattle.kp_synth_registers.specs.Holding.{kept_in}
-use Rattle.kp_synth_tables.specs.{declared.key.GuessSlot.GuessSlot, declared.key.Key.TheVariants.Guess, Keys.guess_at, Keys.is_carried}
+use Rattle.kp_design.specs.{declared.guess.GuessSlot.GuessSlot, Numbers.guess_at, Spans.is_carried}
+use Rattle.kp_synth_registers.specs.declared.key.Key.TheVariants.{Guess}
 use Rattle.kp_stalls_run.proofs.{Sizes.guess_sized, GuessSteps.is_pending}
 use Rattle.kp_stalls_run.proofs.guess_registers.pending.Goals as goal
 

@@ -2,7 +2,7 @@ use Rattle.std.proofs.{Common.◌∙◌, Common.le-leb, Common.refl, Common.sym,
 use Rattle.kp_net.{specs.Widths.wide, proofs.Growing.kept_none, proofs.Growing.kept_then}
 use Rattle.kp_synth_registers.proofs.Growth.{ready_kept}
 use Rattle.kp_synth_stage.specs.Rows.{RowOk}
-use Rattle.kp_synth_tables.specs.{Keys.target_at, Fits.ResultFits}
+use Rattle.kp_design.specs.{Numbers.target_at, Fits.ResultFits}
 use Rattle.kp_synth.proofs.{Ports.no_candidate, Ports.candidate_by, Ports.row_nearer, Ports.source_more, Downward.nearer_none}
 use Rattle.kp_synth.proofs.bypass_entries.add_row.Goals as goal
 

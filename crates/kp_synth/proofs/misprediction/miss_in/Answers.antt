@@ -3,7 +3,7 @@ use Rattle.kp_synth_registers.{specs.Meaning.Added, proofs.Growth.test_kept, pro
 use Rattle.kp_synth_stage.proofs.Nearest.{sources_kept}
 use Rattle.kp_synth.proofs.{Stalling.sees_above_kept, Wrong.no_misses, Wrong.all_misses, Wrong.guess_step, Wrong.guess_left}
 use Rattle.kp_synth.specs.Stages.{guess_room}
-use Rattle.kp_synth_tables.specs.Keys.{guesses_of}
+use Rattle.kp_design.specs.Numbers.{guesses_of}
 use Rattle.kp_synth.proofs.misprediction.miss_in.Goals as goal
 
 pub loop-g-init : goal.loop-g-init

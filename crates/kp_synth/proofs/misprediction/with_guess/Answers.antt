@@ -1,5 +1,5 @@
 use Rattle.std.proofs.Common.{◌≡◌, ◌∙◌, ◌-◌, ◌*◌, sym, ap, subst, false, ◌&&◌, arith}
-use Rattle.kp_synth_tables.specs.{declared.key.GuessSlot.GuessSlot, Keys.guess_at, Keys.is_carried}
+use Rattle.kp_design.specs.{declared.guess.GuessSlot.GuessSlot, Numbers.guess_at, Spans.is_carried}
 use Rattle.kp_synth.{specs.inner.Whole.is_wrong, specs.inner.Whole.GuessesOk, specs.inner.Whole.GuessOk, proofs.Wrong.one_miss, proofs.Wrong.not_carried}
 use Rattle.kp_synth_registers.{specs.Holding.guess_passes, proofs.Growth.grown_added, proofs.Growth.added_then, proofs.Growth.added_more}
 use Rattle.kp_synth.proofs.misprediction.with_guess.Goals as goal

@@ -3,7 +3,7 @@ use Rattle.kp_ast.specs.declared.tree.Job.{Job}
 use Rattle.kp_width.{specs.Widths.widths_of, proofs.Unbroken.Unbroken}
 use Rattle.kp_stage.specs.Stages.{broken_of}
 use Rattle.kp_machine.proofs.Widths.{job_fine}
-use Rattle.kp_synth_tables.proofs.Limits.{few as is_few}
+use Rattle.kp_design.proofs.Limits.{few as is_few}
 use Rattle.kp_synth.proofs.{Begins.hints_fit, Begins.regs_given, Begins.files_given, Visible.keys_count}
 use Rattle.kp_synth.proofs.netlist.assembled.Goals as goal
 

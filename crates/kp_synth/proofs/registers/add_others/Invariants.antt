@@ -1,5 +1,5 @@
 use Rattle.std.proofs.Common.{◌≡◌, ◌≤◌, ◌++◌, drop}
-use Rattle.kp_synth_tables.specs.Keys.{keys_of}
+use Rattle.kp_synth_registers.specs.Keys.{keys_of}
 use Rattle.kp_synth.specs.inner.Built.{other_regs, AllSpelled, SpelledReg}
 use Rattle.kp_synth.proofs.registers.add_others.Given as goal
 

@@ -2,7 +2,7 @@ use Rattle.std.proofs.Common.{◌≡◌, ℕ, ◌<◌, ◌∷◌, [], List, leng
 use Rattle.kp_pipeline.specs.Pipeline.{PipelineState, Inputs}
 use Rattle.kp_machine.specs.Slots.{hints_of}
 use Rattle.kp_net.specs.{declared.node.NodeId.NodeId, Growth.Wire}
-use Rattle.kp_synth_tables.specs.Keys.{hint_at}
+use Rattle.kp_design.specs.Numbers.{hint_at}
 use Rattle.kp_synth_registers.specs.Meaning.{Gives}
 use Rattle.kp_synth_stage.proofs.Binding.{kept_same}
 use Rattle.kp_synth.{specs.inner.Seeing.HintsIn, proofs.Entered.FirstOf, proofs.Entered.one_first, proofs.Entered.hint_gives}

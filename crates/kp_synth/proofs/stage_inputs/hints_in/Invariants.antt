@@ -1,5 +1,5 @@
 use Rattle.std.proofs.Common.{◌≡◌, length}
-use Rattle.kp_synth_tables.specs.Keys.{hint_at}
+use Rattle.kp_design.specs.Numbers.{hint_at}
 use Rattle.kp_synth.proofs.Entered.{FirstOf}
 use Rattle.kp_synth.proofs.stage_inputs.hints_in.Given as goal
 

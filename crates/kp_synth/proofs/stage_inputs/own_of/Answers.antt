@@ -1,5 +1,5 @@
 use Rattle.std.proofs.Common.{◌∙◌, sym}
-use Rattle.kp_synth_tables.specs.Keys.{target_at}
+use Rattle.kp_design.specs.Numbers.{target_at}
 use Rattle.kp_synth.proofs.Entered.{register_means, file_means}
 use Rattle.kp_synth.proofs.stage_inputs.own_of.Goals as goal
 

@@ -1,7 +1,7 @@
 use Rattle.std.proofs.Common.{◌≡◌, ℕ, ◌∷◌, [], List, length, length-append, sym, ap, subst, arith}
 use Rattle.kp_pipeline.specs.Pipeline.{PipelineState, Inputs}
 use Rattle.kp_net.{specs.declared.node.NodeId.NodeId, specs.Growth.Wire, proofs.Growing.grown_then}
-use Rattle.kp_synth_tables.specs.Keys.{pipe_at}
+use Rattle.kp_design.specs.Numbers.{pipe_at}
 use Rattle.kp_synth_registers.{specs.Meaning.Gives, proofs.Growth.ready_kept}
 use Rattle.kp_synth.{specs.inner.Seeing.PipesIn, proofs.Entered.FirstOf, proofs.Entered.one_first}
 use Rattle.kp_synth.proofs.stage_inputs.pipes_in.Goals as goal

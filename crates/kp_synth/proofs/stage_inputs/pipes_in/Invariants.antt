@@ -1,6 +1,6 @@
 use Rattle.std.proofs.Common.{◌≡◌, length}
 use Rattle.kp_net.specs.Growth.{Grown}
-use Rattle.kp_synth_tables.specs.Keys.{pipe_at}
+use Rattle.kp_design.specs.Numbers.{pipe_at}
 use Rattle.kp_synth.proofs.Entered.{FirstOf}
 use Rattle.kp_synth.proofs.stage_inputs.pipes_in.Given as goal
 

@@ -1,7 +1,7 @@
 use Rattle.std.proofs.Common.{◌≡◌, ◌∙◌, ◌==◌, ◌-◌, ℕ, Bool, cond, sym, ap, arith}
 use Rattle.kp_pipeline.specs.Pipeline.{ue}
 use Rattle.kp_machine.specs.Machine.{machine_of}
-use Rattle.kp_synth_tables.specs.declared.key.Key.TheVariants.{Pending, Guess}
+use Rattle.kp_synth_registers.specs.declared.key.Key.TheVariants.{Pending, Guess}
 use Rattle.kp_synth_registers.specs.Holding.{kept_in}
 use Rattle.kp_synth_next.proofs.Transport.{pending_kept, guessed_kept}
 use Rattle.kp_synth_next.proofs.next_values.guess_node.Goals as goal

@@ -1,6 +1,6 @@
 use Rattle.std.proofs.Common.{subst}
 use Rattle.kp_net.specs.Growth.{Wire}
-use Rattle.kp_synth_tables.specs.Fits.{EnableFits}
+use Rattle.kp_design.specs.Fits.{EnableFits}
 use Rattle.kp_synth_next.proofs.Writes.{writes_none, writes_some}
 use Rattle.kp_synth_next.proofs.write_ports.enable_of.Goals as goal
 

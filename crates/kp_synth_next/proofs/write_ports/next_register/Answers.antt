@@ -1,5 +1,5 @@
 use Rattle.std.proofs.Common.{◌≡◌, ◌∙◌, Some, None, subst, sym}
-use Rattle.kp_synth_tables.specs.Fits.{port_at, ResultFits}
+use Rattle.kp_design.specs.Fits.{port_at, ResultFits}
 use Rattle.kp_synth_next.proofs.Writes.{register_none, register_some}
 use Rattle.kp_synth_next.proofs.write_ports.next_register.Goals as goal
 

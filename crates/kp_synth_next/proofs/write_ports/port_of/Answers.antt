@@ -1,5 +1,5 @@
 use Rattle.std.proofs.Common.{◌≡◌, ◌∙◌, None, sym}
-use Rattle.kp_synth_tables.specs.Fits.{port_at}
+use Rattle.kp_design.specs.Fits.{port_at}
 use Rattle.kp_synth_next.proofs.Writes.{port_none}
 use Rattle.kp_synth_next.proofs.write_ports.port_of.Goals as goal
 

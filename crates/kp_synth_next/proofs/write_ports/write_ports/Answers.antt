@@ -2,7 +2,7 @@ use Rattle.std.proofs.Common.{◌≡◌, ◌∙◌, ◌<◌, ℕ, [], ◌∷◌,
 use Rattle.kp_pipeline.specs.Pipeline.{PipelineState, Inputs, next_visible}
 use Rattle.kp_machine.specs.{Slots.targets_of, Slots.is_register, Machine.machine_of}
 use Rattle.kp_net.{specs.Nodes.Cells, proofs.Growing.grown_then, proofs.Growing.grown_more}
-use Rattle.kp_synth_tables.specs.Keys.{target_at}
+use Rattle.kp_design.specs.Numbers.{target_at}
 use Rattle.kp_synth_registers.{specs.Holding.Holds, proofs.Growth.ready_kept}
 use Rattle.kp_synth_next.specs.{Nexts.PortFits, Nexts.port_word, Control.PortsFrom}
 use Rattle.kp_synth_next.proofs.{Squashes.all_say_kept, Transport.updating_kept, Transport.ports_more}

@@ -1,5 +1,5 @@
 use Rattle.std.proofs.Common.{◌+◌, ℕ, List, subst, arith}
-use Rattle.kp_synth_tables.specs.declared.key.GuessSlot.{GuessSlot}
+use Rattle.kp_design.specs.declared.guess.GuessSlot.{GuessSlot}
 use Rattle.kp_synth_registers.proofs.Growth.{grown_added, added_then, added_more}
 use Rattle.kp_synth_stage.{specs.Work.stmts_at, specs.Work.Fits, specs.Work.costs_of, proofs.Nearest.sources_kept, proofs.Going.slots_end, proofs.Going.does, proofs.Going.knows}
 use Rattle.kp_synth_stage.proofs.block.run_block.Goals as goal

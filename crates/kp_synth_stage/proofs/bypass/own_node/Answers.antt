@@ -1,7 +1,7 @@
 use Rattle.std.proofs.Common.{◌∙◌, ◌%◌, ◌^◌, ap, sym, subst}
 use Rattle.kp_net.specs.declared.node.Kind.TheVariants as kinds
 use Rattle.kp_net.{specs.Growth.Wire, proofs.Growing.wire_kept}
-use Rattle.kp_synth_tables.specs.Keys.{target_at}
+use Rattle.kp_design.specs.Numbers.{target_at}
 use Rattle.kp_synth_registers.proofs.Growth.{asked_added}
 use Rattle.kp_synth_stage.specs.{declared.row.Own.Own, Rows.own_value, Rows.asked, Rows.AskOk}
 use Rattle.kp_synth_stage.proofs.Nearest.{word_value, file_own}

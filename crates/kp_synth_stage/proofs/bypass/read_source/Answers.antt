@@ -4,7 +4,7 @@ use Rattle.kp_fwd.specs.Forward.{enable_on}
 use Rattle.kp_synth_registers.{specs.Holding.optional, proofs.Growth.grown_added, proofs.Growth.added_then, proofs.Growth.added_more}
 use Rattle.kp_synth_stage.specs.{Reading.given, Rows.asked, Rows.source_view}
 use Rattle.kp_synth_stage.proofs.Nearest.{ask_inside, asked_kept, source_kept, source_view_kept, orzero_kept, lacks_is}
-use Rattle.kp_synth_tables.specs.Keys.{target_at}
+use Rattle.kp_design.specs.Numbers.{target_at}
 use Rattle.kp_synth_stage.proofs.bypass.read_source.Goals as goal
 
 pub source_truth-requires-clause-source : goal.source_truth-requires-clause-source

@@ -1,6 +1,6 @@
 use Rattle.std.proofs.Common.{◌∙◌, ◌*◌, ◌+◌, ℕ, List, length, ap, sym, subst, arith}
 use Rattle.kp_net.specs.{Nodes.at, Widths.wide, Growth.Wire}
-use Rattle.kp_synth_tables.specs.Keys.{target_at}
+use Rattle.kp_design.specs.Numbers.{target_at}
 use Rattle.kp_synth_registers.proofs.Growth.{grown_added, added_then, added_more}
 use Rattle.kp_synth_stage.specs.{declared.row.Row.Row, Rows.asked, Rows.own_value, Rows.rows_view, Rows.RowsOk, Reading.ask_width}
 use Rattle.kp_synth_stage.proofs.Nearest.{ask_inside, ask_wide, ask_kept, asked_kept, rows_kept, rows_view_kept}

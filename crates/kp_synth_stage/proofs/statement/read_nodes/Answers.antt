@@ -3,7 +3,7 @@ use Rattle.std.specs.Prelude.{slice_get}
 use Rattle.kp_stage.specs.Sizes.{size_of_option, size_of_kind}
 use Rattle.kp_machine.specs.Slots.{Slot, number_of}
 use Rattle.kp_net.specs.Growth.{Wire}
-use Rattle.kp_synth_tables.specs.Keys.{target_at}
+use Rattle.kp_design.specs.Numbers.{target_at}
 use Rattle.kp_synth_registers.proofs.Growth.{grown_added, added_then, added_more}
 use Rattle.kp_synth_stage.{specs.Rows.SourceOk, specs.Rows.AskOk, specs.Doing.target_of, proofs.Binding.kept_same}
 use Rattle.kp_synth_stage.proofs.Taking.{ReadRight, AskNodes, read_right, ask_nodes, source_there, put_there, read_gives, guess_kept}

@@ -6,7 +6,7 @@ use Rattle.kp_stage.specs.Sizes.{size_of_option}
 use Rattle.kp_machine.specs.Slots.{Slot, targets_of}
 use Rattle.kp_net.specs.Nodes.{at as value_at, on}
 use Rattle.kp_pipeline.specs.Sequential.{first_value}
-use Rattle.kp_synth_tables.specs.Keys.{target_at}
+use Rattle.kp_design.specs.Numbers.{target_at}
 use Rattle.kp_synth_registers.specs.{Holding.optional, Meaning.SetFits, Meaning.set_value}
 use Rattle.kp_synth_registers.proofs.Growth.{grown_added, added_then, added_more}
 use Rattle.kp_synth_stage.{specs.Work.cost_of, specs.inner.Statements.target_named, proofs.Binding.kept_same, proofs.Taking.bit_of}

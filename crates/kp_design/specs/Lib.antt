@@ -1,0 +1,4 @@
+pub mod Numbers
+pub mod Spans
+pub mod Fits
+pub mod inner

@@ -1,0 +1,7 @@
+use Rattle.std.proofs.Common.{◌≡◌, ◌++◌, drop}
+use Rattle.kp_machine.specs.Slots.{targets_of}
+use Rattle.kp_synth_registers.specs.Keys.{result_keys}
+use Rattle.kp_synth_registers.proofs.keys.add_results.Given as goal
+
+abbrev pub invariant-loop-t : goal.invariant-loop-t
+invariant-loop-t l = l.keys.items ++ result_keys l.layout l.stage l.t (drop l.t (targets_of l.layout.decls)) ≡ l.fn.keys.items ++ result_keys l.layout l.stage 0 (targets_of l.layout.decls)

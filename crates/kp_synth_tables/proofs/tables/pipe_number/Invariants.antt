@@ -1,9 +1,0 @@
-use Rattle.std.proofs.Common.{◌≡◌, ◌≤◌, ◌+◌, drop}
-use Rattle.kp_machine.specs.Slots.{pipes_of, number_of}
-use Rattle.kp_synth_tables.proofs.tables.pipe_number.Given as goal
-
-abbrev pub invariant-loop-decl : goal.invariant-loop-decl
-invariant-loop-decl l = record {
-  few : l.n ≤ l.decl-index;
-  rest : l.n + number_of (pipes_of (drop l.decl-index l.decls)) l.name ≡ number_of (pipes_of l.decls) l.name;
-}

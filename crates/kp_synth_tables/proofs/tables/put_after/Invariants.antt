@@ -1,6 +1,0 @@
-use Rattle.std.proofs.Common.{◌≡◌, drop}
-use Rattle.kp_synth_tables.specs.Spans.{put_after}
-use Rattle.kp_synth_tables.proofs.tables.put_after.Given as goal
-
-abbrev pub invariant-loop-k : goal.invariant-loop-k
-invariant-loop-k l = put_after l.name l.k (drop l.k l.blocks) ≡ put_after l.name 0 l.blocks

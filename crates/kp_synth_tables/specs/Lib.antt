@@ -1,4 +1,0 @@
-pub mod Spans
-pub mod Keys
-pub mod Fits
-pub mod inner
