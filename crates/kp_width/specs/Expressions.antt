@@ -105,17 +105,30 @@ abbrev pub call_of : List Decl → ℕ → Scoped → List ℕ → List Part →
 call_of ds done s name es at =
     called_of ds done s name (length es) at >>= (λ m. arguments_of m.from (params_of ds m.from) 0 es >>= (λ x. ok m.width))
 
+-- the width of some kinds of expressions from the widths of their parts
+abbrev pub value_in : Scoped → List ℕ → Place → Check WidthFinding ℕ
+value_in s name at = used s Position.Value name at >>= (λ m. ok m.width)
+
+abbrev pub concatenation_by : Place → List Part → Check WidthFinding ℕ
+concatenation_by at parts = sum_of 0 parts >>= (λ w. concatenation_of at w)
+
+abbrev pub slice_by : ℕ → ℕ → Place → Part → Check WidthFinding ℕ
+slice_by hi lo at a = a.width >>= (λ w. slice_of hi lo at w)
+
+abbrev pub extension_by : Num → Place → Part → Check WidthFinding ℕ
+extension_by n at a = a.width >>= (λ w. extension_of n at w)
+
 -- one level: the width of an expression from the widths of its parts
 abbrev pub width_of_kind : List Decl → ℕ → Scoped → ExprKind-F (Place → Check WidthFinding ℕ) Part → Place → Check WidthFinding ℕ
 width_of_kind ds done s (level.Lit l) at = literal_of l at
-width_of_kind ds done s (level.Name name) at = used s Position.Value name at >>= (λ m. ok m.width)
+width_of_kind ds done s (level.Name name) at = value_in s name at
 width_of_kind ds done s (level.Not a) at = a.width
 width_of_kind ds done s (level.Binary op a b) at = a.width >>= (λ x. b.width >>= (λ y. binary_of op at a.at b.at x y))
 width_of_kind ds done s (level.Mux test a b) at = test.width >>= (λ t. a.width >>= (λ x. b.width >>= (λ y. choice_of at a.at b.at t x y)))
-width_of_kind ds done s (level.Concat parts) at = sum_of 0 parts >>= (λ w. concatenation_of at w)
-width_of_kind ds done s (level.Slice a hi lo) at = a.width >>= (λ w. slice_of hi lo at w)
-width_of_kind ds done s (level.Zext a n) at = a.width >>= (λ w. extension_of n at w)
-width_of_kind ds done s (level.Sext a n) at = a.width >>= (λ w. extension_of n at w)
+width_of_kind ds done s (level.Concat parts) at = concatenation_by at parts
+width_of_kind ds done s (level.Slice a hi lo) at = slice_by hi lo at a
+width_of_kind ds done s (level.Zext a n) at = extension_by n at a
+width_of_kind ds done s (level.Sext a n) at = extension_by n at a
 width_of_kind ds done s (level.Call name args) at = call_of ds done s name args at
 
 abbrev pub part_of_level : Expr-F (Place → Check WidthFinding ℕ) Part → Part

@@ -1,6 +1,6 @@
 // The widths of expressions, and their checks.
-ghost use Rattle.std.specs.Prelude.{◌≡◌, ◌<◌, ◌+◌, ◌-◌, ◌≤◌, Ok, map, drop, length, slice_get, min};
-ghost use Rattle.kp_width.specs.Expressions.{literal_of, is_test, is_width, binary_of, choice_of, slice_of, extension_of, sum_of, concatenation_of, is_declared, params_of, width_at, arguments_of, called_of, condition_of, part_of, value_of, width_of};
+ghost use Rattle.std.specs.Prelude.{◌≡◌, ◌+◌, ◌≤◌, map, drop, length, slice_get, min};
+ghost use Rattle.kp_width.specs.Expressions.{literal_of, is_test, is_width, value_in, binary_of, choice_of, slice_by, extension_by, sum_of, concatenation_by, is_declared, params_of, width_at, arguments_of, call_of, called_of, condition_of, part_of, value_of, width_of};
 ghost use Rattle.kp_width.specs.Statements.{address_of};
 
 use crate::fault::{Destination, Position, WidthFault, found_at};
@@ -23,10 +23,7 @@ pub(crate) fn width(
     let at = e.place;
     match &e.kind {
         ExprKind::Lit(literal) => literal_width(*literal, at),
-        ExprKind::Name(name) => {
-            let meaning = names.used(Position::Value, name, at)?;
-            Ok(meaning.width)
-        }
+        ExprKind::Name(name) => value_width(names, name, at),
         ExprKind::Not(a) => width(decls, done, names, a.get()),
         ExprKind::Binary(op, a, b) => {
             let x = width(decls, done, names, a.get())?;
@@ -39,26 +36,152 @@ pub(crate) fn width(
             let y = width(decls, done, names, no.get())?;
             choice_width(at, yes.get().place, no.get().place, t, x, y)
         }
-        ExprKind::Concat(parts) => {
-            let all = sum(decls, done, names, parts.as_slice())?;
-            concatenation_width(at, all)
-        }
-        ExprKind::Slice(a, hi, lo) => {
-            let w = width(decls, done, names, a.get())?;
-            slice_width(*hi, *lo, at, w)
-        }
+        ExprKind::Concat(parts) => concatenation_width(decls, done, names, parts.as_slice(), at),
+        ExprKind::Slice(a, hi, lo) => slice_width(decls, done, names, a.get(), *hi, *lo, at),
         ExprKind::Zext(a, number) | ExprKind::Sext(a, number) => {
-            let w = width(decls, done, names, a.get())?;
-            extended_width(*number, at, w)
+            extended_width(decls, done, names, a.get(), *number, at)
         }
-        ExprKind::Call(name, args) => {
-            let args = args.as_slice();
-            let meaning = called(decls, done, names, name, args.len(), at)?;
-            let params = params(decls, meaning.from);
-            check_args(decls, done, names, meaning.from, params, args)?;
-            Ok(meaning.width)
-        }
+        ExprKind::Call(name, args) => call_width(decls, done, names, name, args.as_slice(), at),
     }
+}
+
+// Names, and the kinds with one part or a list of parts, have functions of their own: so `width` keeps few results, and a small expression costs little.
+
+fn value_width(names: &Names, name: &Name, at: Place) -> Result<u8, Finding<WidthFault>>
+    ensures { result ≡ (value_in names.now name.now at).found }
+{
+    let meaning = names.used(Position::Value, name, at)?;
+    Ok(meaning.width)
+}
+
+fn binary_width(
+    op: BinOp,
+    at: Place,
+    left_at: Place,
+    right_at: Place,
+    a: u8,
+    b: u8,
+) -> Result<u8, Finding<WidthFault>>
+    ensures { result ≡ (binary_of op at left_at right_at a b).found }
+{
+    if op.is_shift() {
+        return Ok(a);
+    }
+    if a != b {
+        let fault = WidthFault::Operands {
+            op,
+            left: a,
+            right: b,
+            left_at,
+            right_at,
+        };
+        return Err(found_at(at, fault));
+    }
+    Ok(if is_test_op(op) { 1 } else { a })
+}
+
+fn choice_width(
+    at: Place,
+    left_at: Place,
+    right_at: Place,
+    test: u8,
+    a: u8,
+    b: u8,
+) -> Result<u8, Finding<WidthFault>>
+    ensures { result ≡ (choice_of at left_at right_at test a b).found }
+{
+    if test != 1 {
+        return Err(found_at(at, WidthFault::Condition { found: test }));
+    }
+    if a != b {
+        let fault = WidthFault::Branches {
+            left: a,
+            right: b,
+            left_at,
+            right_at,
+        };
+        return Err(found_at(at, fault));
+    }
+    Ok(a)
+}
+
+#[cycle(width)]
+fn concatenation_width(
+    decls: &[Decl],
+    done: usize,
+    names: &Names,
+    parts: &[Expr],
+    at: Place,
+) -> Result<u8, Finding<WidthFault>>
+    requires { done ≤ length decls.now }
+    ensures { result ≡ (concatenation_by at (map (part_of decls.now done names.now) parts.now)).found }
+{
+    let all = sum(decls, done, names, parts)?;
+    if !is_in_range(u64::from(all)) {
+        return Err(found_at(at, WidthFault::JoinedWidth));
+    }
+    Ok(all)
+}
+
+#[cycle(width)]
+fn slice_width(
+    decls: &[Decl],
+    done: usize,
+    names: &Names,
+    a: &Expr,
+    hi: u64,
+    lo: u64,
+    at: Place,
+) -> Result<u8, Finding<WidthFault>>
+    requires { done ≤ length decls.now }
+    ensures { result ≡ (slice_by hi lo at (part_of decls.now done names.now a.now)).found }
+{
+    let width = width(decls, done, names, a)?;
+    if hi < lo || hi >= u64::from(width) {
+        return Err(found_at(at, WidthFault::Slice { hi, lo, width }));
+    }
+    Ok((hi - lo + 1) as u8)
+}
+
+#[cycle(width)]
+fn extended_width(
+    decls: &[Decl],
+    done: usize,
+    names: &Names,
+    a: &Expr,
+    number: Num,
+    at: Place,
+) -> Result<u8, Finding<WidthFault>>
+    requires { done ≤ length decls.now }
+    ensures { result ≡ (extension_by number at (part_of decls.now done names.now a.now)).found }
+{
+    let from = width(decls, done, names, a)?;
+    let to = number.value;
+    if !is_in_range(to) {
+        return Err(found_at(number.at, WidthFault::DeclaredWidth { width: to }));
+    }
+    if to < u64::from(from) {
+        return Err(found_at(at, WidthFault::Extension { from, to }));
+    }
+    Ok(to as u8)
+}
+
+#[cycle(width)]
+fn call_width(
+    decls: &[Decl],
+    done: usize,
+    names: &Names,
+    name: &Name,
+    args: &[Expr],
+    at: Place,
+) -> Result<u8, Finding<WidthFault>>
+    requires { done ≤ length decls.now }
+    ensures { result ≡ (call_of decls.now done names.now name.now (map (part_of decls.now done names.now) args.now) at).found }
+{
+    let meaning = called(decls, done, names, name, args.len(), at)?;
+    let params = params(decls, meaning.from);
+    check_args(decls, done, names, meaning.from, params, args)?;
+    Ok(meaning.width)
 }
 
 // The sum of the widths, saturating at 65.
@@ -176,88 +299,6 @@ pub(crate) fn literal_width(literal: Literal, at: Place) -> Result<u8, Finding<W
         return Err(found_at(at, WidthFault::LiteralValue { value, width }));
     }
     Ok(literal.width as u8)
-}
-
-fn binary_width(
-    op: BinOp,
-    at: Place,
-    left_at: Place,
-    right_at: Place,
-    a: u8,
-    b: u8,
-) -> Result<u8, Finding<WidthFault>>
-    ensures { result ≡ (binary_of op at left_at right_at a b).found }
-{
-    if op.is_shift() {
-        return Ok(a);
-    }
-    if a != b {
-        let fault = WidthFault::Operands {
-            op,
-            left: a,
-            right: b,
-            left_at,
-            right_at,
-        };
-        return Err(found_at(at, fault));
-    }
-    Ok(if is_test_op(op) { 1 } else { a })
-}
-
-fn choice_width(
-    at: Place,
-    left_at: Place,
-    right_at: Place,
-    test: u8,
-    a: u8,
-    b: u8,
-) -> Result<u8, Finding<WidthFault>>
-    ensures { result ≡ (choice_of at left_at right_at test a b).found }
-{
-    if test != 1 {
-        return Err(found_at(at, WidthFault::Condition { found: test }));
-    }
-    if a != b {
-        let fault = WidthFault::Branches {
-            left: a,
-            right: b,
-            left_at,
-            right_at,
-        };
-        return Err(found_at(at, fault));
-    }
-    Ok(a)
-}
-
-fn concatenation_width(at: Place, all: u8) -> Result<u8, Finding<WidthFault>>
-    ensures { result ≡ (concatenation_of at all).found }
-{
-    if !is_in_range(u64::from(all)) {
-        return Err(found_at(at, WidthFault::JoinedWidth));
-    }
-    Ok(all)
-}
-
-fn slice_width(hi: u64, lo: u64, at: Place, w: u8) -> Result<u8, Finding<WidthFault>>
-    ensures { result ≡ (slice_of hi lo at w).found }
-{
-    if hi < lo || hi >= u64::from(w) {
-        return Err(found_at(at, WidthFault::Slice { hi, lo, width: w }));
-    }
-    Ok((hi - lo + 1) as u8)
-}
-
-fn extended_width(number: Num, at: Place, w: u8) -> Result<u8, Finding<WidthFault>>
-    ensures { result ≡ (extension_of number at w).found }
-{
-    let to = number.value;
-    if !is_in_range(to) {
-        return Err(found_at(number.at, WidthFault::DeclaredWidth { width: to }));
-    }
-    if to < u64::from(w) {
-        return Err(found_at(at, WidthFault::Extension { from: w, to }));
-    }
-    Ok(number.value as u8)
 }
 
 pub(crate) fn is_in_range(w: u64) -> bool
