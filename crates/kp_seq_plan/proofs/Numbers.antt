@@ -1,76 +1,16 @@
 -- What machine words of 64 bits make of numbers that fit a width, and that a value of a width is held.
 use Rattle.std.proofs.Common.{◌≡◌, ◌≢◌, ◌∙◌, ℕ, ◌+◌, ◌-◌, ◌*◌, ◌/◌, ◌%◌, ◌^◌, ◌<◌, ◌≤◌, ◌==◌, ◌&&◌, ◌||◌, Option, Some, None, Bool, true, false, cond, refl, ap, sym, subst, arith, bit_and, bit_or, ⊎_elim, ◌⊎◌}
-use Rattle.std.proofs.lemmas.Bool.{cases_lt, cond-true, cond-false, eqb-true, eq-eqb, ne_eqb, ltb-true, lt-ltb, le-ltb, le-leb, lt-leb, and_left, and_right}
-use Rattle.std.proofs.{Math.Nat.mod-eq_of_lt, Math.Nat.mul-add, Math.Nat.add-mul-mod_self_left, lemmas.Nat.and_mask, lemmas.Nat.pow-add, lemmas.Nat.pow_pos}
+use Rattle.std.proofs.lemmas.Bool.{cases_lt, cond-true, cond-false, eqb-true, eq-eqb, ne_eqb, lt-ltb, le-ltb, le-leb, lt-leb, and_left, and_right}
+use Rattle.std.proofs.{Math.Nat.mod-eq_of_lt, lemmas.Nat.pow_pos}
 use Rattle.std.specs.{Prelude.nat_lt, Prelude.nat_le, Option.option_map, Option.option_and_then}
-use Rattle.kp_bits.specs.Word.{Word, word, IsWord, not_of, and_of, or_of, xor_of, add_of, sub_of, mul_of, eq_of, lt_of, shl_of, shr_of, mux_of, concat_of, slice_of, zext_of, sext_of}
-use Rattle.kp_bits.proofs.Words.{not_word, and_word, or_word, xor_word, add_word, sub_word, mul_word, eq_word, lt_word, shl_word, shr_word, concat_word, slice_word, zext_word, sext_word}
-use Rattle.kp_bits.specs.{Operators.is_shift, Operators.binary_of, Checked.where_so, Checked.checked_slice, Checked.checked_zext, Checked.checked_sext}
-use Rattle.kp_bits.specs.declared.operator.BinOp.{BinOp}
-use Rattle.kp_bits.proofs.Powers.{low_of, concat_value, half_of, pow_le, sub_above}
-use Rattle.kp_seq_plan.specs.{Codes.applied, Lowering.Holds, inner.Parts.binary_found, inner.Parts.binary_width, inner.Parts.mux_found, inner.Parts.join_found}
+use Rattle.kp_bits.specs.Word.{Word, word, IsWord, not_of, mux_of, concat_of, slice_of, zext_of, sext_of}
+use Rattle.kp_bits.specs.{Checked.where_so, Checked.checked_slice, Checked.checked_zext, Checked.checked_sext}
+use Rattle.kp_bits.specs.{declared.operator.BinOp.BinOp, Operators.is_shift, Operators.result_width, Operators.binary_of, Operators.on_words}
+use Rattle.kp_bits.proofs.{Words.not_word, Words.concat_word, Words.slice_word, Words.zext_word, Words.sext_word, Powers.half_of, Powers.pow_le}
+use Rattle.kp_bits.proofs.{Operators.binary_word, Operators.binary_width, Operators.computed, Machine.wrapped, Machine.not_number, Machine.join_number, Machine.slice_number}
+use Rattle.kp_seq_plan.specs.{Lowering.Holds, inner.Parts.binary_found, inner.Parts.mux_found, inner.Parts.join_found}
 
 -- numbers
-ones : (x m w : ℕ) → m ≡ 2 ^ w - 1 → bit_and x m ≡ x % 2 ^ w
-ones x m w e = ap (bit_and x) e ∙ and_mask x w
-
-low_six : (b : ℕ) → b < 64 → bit_and b 63 ≡ b
-low_six b h = and_mask b 6 ∙ mod-eq_of_lt h
-
-pub wrapped : (a b t : ℕ) → b ≤ a → a < t → (a + (t - b)) % t ≡ a - b
-wrapped a b t h k = let e : a + (t - b) ≡ a + t - b = omega arith in ap (λ x. x % t) e ∙ sub_above a b t k h
-
-not_number : (w x m : ℕ) → w ≤ 64 → x < 2 ^ w → m ≡ 2 ^ w - 1 → (m + (2 ^ 64 - x)) % 2 ^ 64 ≡ 2 ^ w - 1 - x
-not_number w x m h f e =
-    let p = pow_le w 64 h in
-    let a : x ≤ m = omega arith in
-    let b : m < 2 ^ 64 = omega (arith, pow_pos w) in
-    wrapped m x (2 ^ 64) a b ∙ ap (λ n. n - x) e
-
-add_number : (w n m : ℕ) → w ≤ 64 → m ≡ 2 ^ w - 1 → bit_and (n % 2 ^ 64) m ≡ n % 2 ^ w
-add_number w n m h e = ones (n % 2 ^ 64) m w e ∙ low_of n w h
-
-sub_by : (a b m j t : ℕ) → t ≡ m * j + m → b ≤ m → (a + (t - b)) % m ≡ (a + m - b) % m
-sub_by a b m j t e h =
-    let q : a + (t - b) ≡ (a + m - b) + m * j = omega arith in
-    ap (λ x. x % m) q ∙ add-mul-mod_self_left (a + m - b) m j
-
-whole : (w : ℕ) → w ≤ 64 → 2 ^ 64 ≡ 2 ^ w * (2 ^ (64 - w) - 1) + 2 ^ w
-whole w h =
-    let e : 64 ≡ w + (64 - w) = omega arith in
-    let k : 2 ^ (64 - w) ≡ (2 ^ (64 - w) - 1) + 1 = omega (arith, pow_pos (64 - w)) in
-    let one : 2 ^ w * 1 ≡ 2 ^ w = omega arith in
-    ap (λ n. 2 ^ n) e ∙ pow-add 2 w (64 - w) ∙ ap (λ n. 2 ^ w * n) k ∙ mul-add (2 ^ w) (2 ^ (64 - w) - 1) 1 ∙ ap (λ n. 2 ^ w * (2 ^ (64 - w) - 1) + n) one
-
-sub_number : (w a b m : ℕ) → w ≤ 64 → b < 2 ^ w → m ≡ 2 ^ w - 1 → bit_and ((a + (2 ^ 64 - b)) % 2 ^ 64) m ≡ (a + 2 ^ w - b) % 2 ^ w
-sub_number w a b m h f e =
-    let l : b ≤ 2 ^ w = omega arith in
-    add_number w (a + (2 ^ 64 - b)) m h e ∙ sub_by a b (2 ^ w) (2 ^ (64 - w) - 1) (2 ^ 64) (whole w h) l
-
-cond_same : (t : Bool) (x y z : ℕ) → (t ≡ true → x ≡ y) → cond t x z ≡ cond t y z
-cond_same true x y z h = h refl
-cond_same false x y z h = refl
-
-shift_below : (b w : ℕ) → w ≤ 64 → nat_lt b w ≡ true → bit_and b 63 ≡ b
-shift_below b w h t = let l = ltb-true b w t in low_six b (omega arith)
-
-shl_number : (w a b m : ℕ) → w ≤ 64 → m ≡ 2 ^ w - 1
-    → cond (nat_lt b w) (bit_and (a * 2 ^ bit_and b 63 % 2 ^ 64) m) 0 ≡ cond (nat_lt b w) (a * 2 ^ b % 2 ^ w) 0
-shl_number w a b m h e =
-    cond_same (nat_lt b w) (bit_and (a * 2 ^ bit_and b 63 % 2 ^ 64) m) (a * 2 ^ b % 2 ^ w) 0
-    (λ t. add_number w (a * 2 ^ bit_and b 63) m h e ∙ ap (λ k. a * 2 ^ k % 2 ^ w) (shift_below b w h t))
-
-shr_number : (w a b : ℕ) → w ≤ 64 → cond (nat_lt b w) (a / 2 ^ bit_and b 63) 0 ≡ cond (nat_lt b w) (a / 2 ^ b) 0
-shr_number w a b h =
-    cond_same (nat_lt b w) (a / 2 ^ bit_and b 63) (a / 2 ^ b) 0 (λ t. ap (λ k. a / 2 ^ k) (shift_below b w h t))
-
-join_number : (a b i j : ℕ) → 1 ≤ i → a < 2 ^ i → b < 2 ^ j → i + j ≤ 64 → bit_or (a * 2 ^ bit_and j 63 % 2 ^ 64) b ≡ a * 2 ^ j + b
-join_number a b i j h f g l =
-    ap (λ k. bit_or (a * 2 ^ k % 2 ^ 64) b) (low_six j (omega arith)) ∙ concat_value a b i j f g l
-
-slice_number : (x hi lo m : ℕ) → lo < 64 → m ≡ 2 ^ (hi + 1 - lo) - 1 → bit_and (x / 2 ^ bit_and lo 63) m ≡ x / 2 ^ lo % 2 ^ (hi + 1 - lo)
-slice_number x hi lo m h e = ones (x / 2 ^ bit_and lo 63) m (hi + 1 - lo) e ∙ ap (λ k. x / 2 ^ k % 2 ^ (hi + 1 - lo)) (low_six lo h)
-
 sext_number : (i w x top more : ℕ) → i ≤ w → w ≤ 64 → x < 2 ^ i → top ≡ 2 ^ (i - 1) - 1 → more ≡ 2 ^ w - 2 ^ i
     → cond (nat_lt top x) ((x + more) % 2 ^ 64) x ≡ cond (nat_lt x (2 ^ (i - 1))) x (x + (2 ^ w - 2 ^ i))
 sext_number i w x top more h k f t m =
@@ -110,19 +50,10 @@ module _ (o p : Option Word) (i j x y m : ℕ) (h : Holds o i x) (k : Holds p j 
       ∙ ap (λ z. binary_found op (Some a) z) k.there
       ∙ ap (λ c. where_so c (binary_of op a b)) test
 
-  pub binary_held : (op : BinOp) → (is_shift op || i == j) ≡ true → Holds (binary_found op o p) (binary_width op i) (applied op x y i m)
-  binary_held BinOp.And test = became _ (and_of a b) i _ (found BinOp.And test) (and_word a b h.word) refl refl
-  binary_held BinOp.Or test = became _ (or_of a b) i _ (found BinOp.Or test) (or_word a b h.word k.word (eqb-true i j test)) refl refl
-  binary_held BinOp.Xor test = became _ (xor_of a b) i _ (found BinOp.Xor test) (xor_word a b h.word k.word (eqb-true i j test)) refl refl
-  binary_held BinOp.Add test = became _ (add_of a b) i _ (found BinOp.Add test) (add_word a b h.word) refl (sym (add_number i (x + y) m h.word.at_most e))
-  binary_held BinOp.Sub test =
-      let f : y < 2 ^ i = subst (λ n. y < 2 ^ n) (sym (eqb-true i j test)) k.word.fits in
-      became _ (sub_of a b) i _ (found BinOp.Sub test) (sub_word a b h.word) refl (sym (sub_number i x y m h.word.at_most f e))
-  binary_held BinOp.Mul test = became _ (mul_of a b) i _ (found BinOp.Mul test) (mul_word a b h.word) refl (sym (add_number i (x * y) m h.word.at_most e))
-  binary_held BinOp.Eq test = became _ (eq_of a b) 1 _ (found BinOp.Eq test) (eq_word a b) refl refl
-  binary_held BinOp.Lt test = became _ (lt_of a b) 1 _ (found BinOp.Lt test) (lt_word a b) refl refl
-  binary_held BinOp.Shl test = became _ (shl_of a b) i _ (found BinOp.Shl test) (shl_word a b h.word) refl (sym (shl_number i x y m h.word.at_most e))
-  binary_held BinOp.Shr test = became _ (shr_of a b) i _ (found BinOp.Shr test) (shr_word a b h.word) refl (sym (shr_number i x y h.word.at_most))
+  pub binary_held : (op : BinOp) → (is_shift op || i == j) ≡ true → Holds (binary_found op o p) (result_width op i) (on_words op x y i m)
+  binary_held op test =
+      let same : is_shift op ≡ false → i ≡ j = (λ s. eqb-true i j (sym (ap (λ t. t || i == j) s) ∙ test)) in
+      became _ (binary_of op a b) _ _ (found op test) (binary_word op a b h.word k.word same) (binary_width op a b) (sym (computed op a b m h.word k.word same e))
 
 pub binary_fails : (op : BinOp) (o p : Option Word) (i j x y : ℕ) → Holds o i x → Holds p j y → (is_shift op || i == j) ≡ false → binary_found op o p ≡ None
 binary_fails op o p i j x y h k test =
@@ -177,7 +108,7 @@ slice_held o w x hi lo m h l k e =
     (ap (option_and_then (checked_slice hi lo)) h.there
     ∙ ap (λ c. where_so (c && nat_lt hi w) (slice_of (word w x) hi lo)) (le-leb lo hi l)
     ∙ ap (λ c. where_so c (slice_of (word w x) hi lo)) (lt-ltb hi w k))
-    (slice_word (word w x) hi lo h.word l k) refl (sym (slice_number x hi lo m (omega arith) e))
+    (slice_word (word w x) hi lo h.word l k) refl (sym (slice_number x (hi + 1 - lo) lo m (omega arith) e))
 
 pub slice_fails : (o : Option Word) (w x hi lo : ℕ) → Holds o w x → (hi < lo) ⊎ (w ≤ hi) → option_and_then (checked_slice hi lo) o ≡ None
 slice_fails o w x hi lo h l =

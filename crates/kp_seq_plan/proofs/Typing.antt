@@ -1,14 +1,15 @@
 -- A code of each form has the values of a plan of that form, if its parts do.
 use Rattle.std.proofs.Common.{◌≡◌, ◌≢◌, ◌∙◌, ℕ, zero, suc, ◌+◌, ◌-◌, ◌/◌, ◌%◌, ◌^◌, ◌<◌, ◌≤◌, ◌==◌, List, [], ◌∷◌, ◌++◌, Option, Some, None, Bool, true, false, cond, length, get_or, take, drop, map, refl, ap, sym, subst, arith, ⊎_elim, ◌⊎◌, ◌||◌, Result, Ok, Err, IfOk, IsErrAnd, MatchResult}
+use Rattle.std.proofs.lemmas.Bool.{cond_both}
 use Rattle.std.proofs.lemmas.List.{take_more, drop_more, drop_all, get_or_past, length-map, get_or-map, Sums.sum_by-cons}
 use Rattle.std.{proofs.lemmas.Result.err_from_is_err_and, specs.Prelude.sum_by, specs.Prelude.slice_index, specs.Prelude.nat_le}
 use Rattle.std.specs.Option.{option_map, option_and_then, option_zip}
 use Rattle.kp_base.specs.declared.outside.NoMemory.{NoMemory}
-use Rattle.kp_bits.specs.{Word.Word, Word.word, Word.IsWord, Word.not_of, Word.concat_of, Operators.is_shift}
+use Rattle.kp_bits.specs.{Word.Word, Word.word, Word.IsWord, Word.not_of, Word.concat_of, Operators.is_shift, Operators.is_comparison, Operators.result_width}
 use Rattle.kp_bits.specs.Checked.{checked_join, checked_joined, checked_slice, checked_zext, checked_sext}
 use Rattle.kp_bits.specs.declared.operator.BinOp.{BinOp}
 use Rattle.kp_ast.specs.Checked.{all_there}
-use Rattle.kp_seq_plan.specs.inner.Parts.{AreTyped, Absent, Lacks, Yields, IsCode, GivesOne, GivesTwo, GivesMux, GivesWord, JoinedYet, Replaces, IsMask, binary_found, binary_width, mux_found, join_found, both_found, values_in, joined_found, joined_below, call_found, call_space}
+use Rattle.kp_seq_plan.specs.inner.Parts.{AreTyped, Absent, Lacks, Yields, IsCode, GivesOne, GivesTwo, GivesMux, GivesWord, JoinedYet, Replaces, IsMask, binary_found, mux_found, join_found, both_found, values_in, joined_found, joined_below, call_found, call_space}
 use Rattle.kp_seq_plan.proofs.Numbers.{binary_held, binary_fails, mux_held, mux_narrow, mux_other, join_held, join_fails, slice_held, slice_fails, zext_held, zext_fails, sext_held, sext_fails, not_held, top_is, more_is}
 use Rattle.kp_seq_plan.specs.{declared.plan.Plan.Plan, declared.code.Code.Code, declared.code.Typed.Typed, declared.lowering.Missing.Missing, Names.at_place}
 use Rattle.kp_seq_plan.specs.{Plans.Slots, Plans.meaning, Plans.space, Codes.value_of, Codes.value_level, Codes.space_of, Codes.space_level}
@@ -116,23 +117,19 @@ two_held g a b c low high room e = λ ws f h n m s t. record {
 pub binary_wrong : (op : BinOp) (x y : Typed) → (is_shift op || x.width == y.width) ≡ false → GivesTwo (binary_found op) x y (Err missing.Value)
 binary_wrong op x y n = two_fails (binary_found op) x y (λ o p u v h k. binary_fails op o p x.width y.width u v h k n)
 
-low_width : (op : BinOp) (w : ℕ) → 1 ≤ w → 1 ≤ binary_width op w
-low_width BinOp.Eq w h = omega arith
-low_width BinOp.Lt w h = omega arith
-low_width _ w h = h
+low_width : (op : BinOp) (w : ℕ) → 1 ≤ w → 1 ≤ result_width op w
+low_width op w h = cond_both (is_comparison op) 1 w (λ x. 1 ≤ x) (λ _. omega arith) (λ _. h)
 
-high_width : (op : BinOp) (w : ℕ) → w ≤ 64 → binary_width op w ≤ 64
-high_width BinOp.Eq w h = omega arith
-high_width BinOp.Lt w h = omega arith
-high_width _ w h = h
+high_width : (op : BinOp) (w : ℕ) → w ≤ 64 → result_width op w ≤ 64
+high_width op w h = cond_both (is_comparison op) 1 w (λ x. x ≤ 64) (λ _. omega arith) (λ _. h)
 
 pub binary_gives : (op : BinOp) (x y : Typed) (m : ℕ) → (is_shift op || x.width == y.width) ≡ true → IsMask x.width m
-    → MakesTwo (binary_found op) x y (typed (codes.Binary op x.code y.code x.width m) (binary_width op x.width))
+    → MakesTwo (binary_found op) x y (typed (codes.Binary op x.code y.code x.width m) (result_width op x.width))
 binary_gives op x y m same mask =
     let c : Code = codes.Binary op x.code y.code x.width m in
-    two_held (binary_found op) x y (typed c (binary_width op x.width)) (low_width op x.width) (high_width op x.width) (omega (arith, code-Binary ℕ space_level op x.code y.code x.width m))
+    two_held (binary_found op) x y (typed c (result_width op x.width)) (low_width op x.width) (high_width op x.width) (omega (arith, code-Binary ℕ space_level op x.code y.code x.width m))
     (λ o p vs h k.
-    held_as (binary_found op o p) (binary_width op x.width) _ _ (at (code-Binary N value_level op x.code y.code x.width m) vs)
+    held_as (binary_found op o p) (result_width op x.width) _ _ (at (code-Binary N value_level op x.code y.code x.width m) vs)
     (binary_held o p x.width y.width (value_of x.code vs) (value_of y.code vs) m h k (mask h.word.positive h.word.at_most) op same))
 
 pub join_over : (x y : Typed) → (64 < x.width) ⊎ (64 - x.width < y.width) → GivesTwo join_found x y (Err missing.Value)

@@ -1,22 +1,9 @@
 -- The value of a code.
-use Rattle.std.specs.Prelude.{◌+◌, ◌-◌, ◌*◌, ◌/◌, ◌%◌, ◌^◌, ◌==◌, ℕ, nat_lt, if◌then◌else◌, bit_and, bit_or, bit_xor, length, List, map, sum, slice_index}
+use Rattle.std.specs.Prelude.{◌+◌, ◌-◌, ◌*◌, ◌/◌, ◌%◌, ◌^◌, ◌==◌, ℕ, nat_lt, if◌then◌else◌, bit_and, bit_or, length, List, map, sum, slice_index}
 use Rattle.std.specs.Int.{bit_at}
-use Rattle.kp_bits.specs.declared.operator.BinOp.{BinOp}
+use Rattle.kp_bits.specs.Operators.{on_words}
 use Rattle.kp_seq_plan.specs.declared.code.Code.{Code, TheOpen.Code-F, TheFolds.fold-Code}
 use Rattle.kp_seq_plan.specs.declared.code.Code.TheOpen as level
-
--- a binary operator on numbers of 64 bits, of which those of this width matter
-abbrev pub applied : BinOp → (left right width mask : ℕ) → ℕ
-applied BinOp.And a b width mask = bit_and a b
-applied BinOp.Or a b width mask = bit_or a b
-applied BinOp.Xor a b width mask = bit_xor a b
-applied BinOp.Add a b width mask = bit_and ((a + b) % 2 ^ 64) mask
-applied BinOp.Sub a b width mask = bit_and ((a + (2 ^ 64 - b)) % 2 ^ 64) mask
-applied BinOp.Mul a b width mask = bit_and (a * b % 2 ^ 64) mask
-applied BinOp.Eq a b width mask = if a == b then 1 else 0
-applied BinOp.Lt a b width mask = if nat_lt a b then 1 else 0
-applied BinOp.Shl a b width mask = if nat_lt b width then bit_and (a * 2 ^ bit_and b 63 % 2 ^ 64) mask else 0
-applied BinOp.Shr a b width mask = if nat_lt b width then a / 2 ^ bit_and b 63 else 0
 
 -- whether a number is in a set of numbers below 64: the bit of the set at this number
 abbrev pub member : (set number : ℕ) → ℕ
@@ -27,7 +14,7 @@ abbrev pub value_level : Code-F (List ℕ → ℕ) → List ℕ → ℕ
 value_level (level.Word w) s = w
 value_level (level.Name place) s = slice_index s place
 value_level (level.Not a mask) s = (mask + (2 ^ 64 - a s)) % 2 ^ 64
-value_level (level.Binary op a b width mask) s = applied op (a s) (b s) width mask
+value_level (level.Binary op a b width mask) s = on_words op (a s) (b s) width mask
 value_level (level.Mux test a b) s = if test s == 1 then a s else b s
 value_level (level.Join high low width) s = bit_or (high s * 2 ^ bit_and width 63 % 2 ^ 64) (low s)
 value_level (level.Slice a lo mask) s = bit_and (a s / 2 ^ bit_and lo 63) mask

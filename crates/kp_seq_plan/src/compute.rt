@@ -1,9 +1,8 @@
 //! The value of a code. Computing it allocates nothing: the arguments of calls are stored in scratch space of the caller.
 ghost use Rattle.std.specs.Prelude.{◌≡◌, ◌≤◌, ◌+◌, length, map, All, sum_by, slice_index};
-ghost use Rattle.kp_seq_plan.specs.Codes.{value_of, space_of, applied, member};
+ghost use Rattle.kp_seq_plan.specs.Codes.{value_of, space_of, member};
 
 use crate::code::Code;
-use kp_bits::BinOp;
 
 /// The value of a code, given these values of its names by index. A code without parts needs no call.
 #[inline]
@@ -59,7 +58,7 @@ fn of_others(code: &Code, names: &[u64], room: &mut [u64]) -> u64
         Code::Binary(op, a, b, width, mask) => {
             let a = value(a.get(), names, room);
             let b = value(b.get(), names, room);
-            apply(*op, a, b, *width, *mask)
+            op.on_words(a, b, *width, *mask)
         }
         Code::Mux(test, a, b) => {
             if value(test.get(), names, room) == 1 {
@@ -133,23 +132,4 @@ fn member(set: u64, number: u64) -> u64
     ensures { result ≡ member set number }
 {
     if number < 64 { (set >> number) & 1 } else { 0 }
-}
-
-// A binary operator on values of this width, with this mask.
-#[inline]
-fn apply(op: BinOp, a: u64, b: u64, width: u64, mask: u64) -> u64
-    ensures { result ≡ applied op a b width mask }
-{
-    match op {
-        BinOp::And => a & b,
-        BinOp::Or => a | b,
-        BinOp::Xor => a ^ b,
-        BinOp::Add => a.wrapping_add(b) & mask,
-        BinOp::Sub => a.wrapping_sub(b) & mask,
-        BinOp::Mul => a.wrapping_mul(b) & mask,
-        BinOp::Eq => u64::from(a == b),
-        BinOp::Lt => u64::from(a < b),
-        BinOp::Shl => if b < width { (a << (b & 63)) & mask } else { 0 },
-        BinOp::Shr => if b < width { a >> (b & 63) } else { 0 },
-    }
 }

@@ -1,6 +1,6 @@
 //! Lowering of plans to codes, once for all instructions: the width of each part is computed, so that values are plain numbers.
 ghost use Rattle.std.specs.Prelude.{◌≡◌, ◌+◌, ◌||◌, ◌==◌, ◌++◌, ◌∷◌, [], ℕ, Some, IfOk, IfSome, OnOk, MatchResult, sum_by};
-ghost use Rattle.kp_bits.specs.Operators.{is_shift};
+ghost use Rattle.kp_bits.specs.Operators.{is_shift, result_width};
 ghost use Rattle.kp_bits.specs.declared.operator.BinOp.{BinOp};
 ghost use Rattle.std.specs.Option.{option_map, option_and_then};
 ghost use Rattle.kp_bits.specs.Word.{not_of};
@@ -12,7 +12,7 @@ ghost use Rattle.kp_seq_plan.specs.declared.code.Code.TheVariants as ends;
 ghost use Rattle.kp_seq_plan.specs.declared.code.Code.TheViews as codes;
 ghost use Rattle.kp_seq_plan.specs.declared.lowering.Missing.TheVariants as missing;
 ghost use Rattle.kp_seq_plan.specs.Lowering.{IsTyped, Gives};
-ghost use Rattle.kp_seq_plan.specs.inner.Parts.{Lacks, IsCode, GivesOne, GivesTwo, GivesMux, GivesWord, AreTyped, Replaces, IsMask, binary_width, binary_found, join_found, both_found, values_in, joined_found, call_found, call_space};
+ghost use Rattle.kp_seq_plan.specs.inner.Parts.{Lacks, IsCode, GivesOne, GivesTwo, GivesMux, GivesWord, AreTyped, Replaces, IsMask, binary_found, join_found, both_found, values_in, joined_found, call_found, call_space};
 
 use crate::{Code, Plan, Typed};
 use kp_ast::Boxed;
@@ -444,14 +444,11 @@ fn is_meant(op: BinOp, left: u64, right: u64) -> bool
     op.is_shift() || left == right
 }
 
-// The width of the result; a comparison has one bit.
+// The width of the result.
 fn binary_width(op: BinOp, width: u64) -> u64
-    ensures { result ≡ binary_width op width }
+    ensures { result ≡ result_width op width }
 {
-    match op {
-        BinOp::Eq | BinOp::Lt => 1,
-        _ => width,
-    }
+    if op.is_comparison() { 1 } else { width }
 }
 
 #[tactic(auto, using(crate::proofs::Typing::mux_wrong))]

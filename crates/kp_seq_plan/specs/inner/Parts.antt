@@ -42,12 +42,6 @@ GivesTwo h a b r =
 abbrev pub binary_found : BinOp → Option Word → Option Word → Option Word
 binary_found op a b = option_and_then (λ x. option_and_then (λ y. checked_binary op x y) b) a
 
--- the width of the result; a comparison has one bit
-abbrev pub binary_width : BinOp → ℕ → ℕ
-binary_width BinOp.Eq width = 1
-binary_width BinOp.Lt width = 1
-binary_width _ width = width
-
 abbrev pub mux_found : Option Word → Option Word → Option Word → Option Word
 mux_found test a b = option_and_then (λ t. option_and_then (λ x. option_and_then (λ y. checked_mux t x y) b) a) test
 
