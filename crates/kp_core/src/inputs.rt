@@ -8,8 +8,8 @@ ghost use Rattle.kp_wires.specs.{Comments.commented_text, Table.wires_of, Texts.
 ghost use Rattle.kp_core.specs.Due.{DueOfHead, DueOfLines, IsCoreOf};
 ghost use Rattle.kp_core.specs.{Answers.text_said, declared.request.Form.Form};
 
-use crate::{Form, message_of};
 use crate::answer::{Answer, Said};
+use crate::{Form, message_of};
 use kp_base::{NoMemory, Refusal, Refused};
 use kp_core_ports::{Port, PortsRefused, core_text, names_text, read_ports};
 use kp_design::Layout;

@@ -7,8 +7,8 @@ ghost use Rattle.kp_core_ports.specs.Ports.{Exists};
 ghost use Rattle.kp_core_ports.specs.declared.port.Ask.TheVariants.{Load, Peek};
 ghost use Rattle.kp_core_ports.specs.PortTexts.{wire_head, wire_tail, wire, enable, header_for, header_text, register_at, show_line, peek_line, load_test, load_update, load_line, probe_line, next_line, commit_line, line_for, line_text};
 
-use crate::{Ask, Port};
 use crate::pieces::add;
+use crate::{Ask, Port};
 use itoa::Buffer;
 use kp_base::NoMemory;
 use kp_design::Layout;

@@ -156,13 +156,7 @@ fn can_be_pending(slot: GuessSlot, stage: u32) -> bool
 
 // What the register of a key holds.
 #[tactic(auto, using(kp_synth_registers::proofs::Places::has_place, kp_synth_registers::proofs::Places::place_is), unfolding(kp_synth_registers::specs::Holding::kept_in))]
-fn kept(
-    layout: &Layout<'_>,
-    keys: &Keys,
-    sim: &Sim<'_>,
-    key: Key,
-    width: u8,
-) -> Bits
+fn kept(layout: &Layout<'_>, keys: &Keys, sim: &Sim<'_>, key: Key, width: u8) -> Bits
     requires keys { keys.now ≡ keys_of layout.now }
     requires registers { length sim.now.net.parts.regs ≡ length (keys_of layout.now) }
     requires key { HasKey layout.now key }

@@ -5,8 +5,8 @@ ghost use Rattle.kp_synth_stage.specs.Work.{stmts_at};
 ghost use Rattle.kp_wires.specs.declared.wire.Signal.TheVariants.{Aim, Put};
 ghost use Rattle.kp_wires.specs.Table.{is_constant, wire_of, bound_wire, stmt_wire, set_wires, bound_wires, put_wires, all_set_wires, aim_wires, stage_wires, wires_of};
 
-use crate::{Signal, Wire};
 use crate::call::stmts_of;
+use crate::{Signal, Wire};
 use kp_ast::{Job, Stmt, StmtKind};
 use kp_base::NoMemory;
 use kp_build::Env;
