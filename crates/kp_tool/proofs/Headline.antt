@@ -1,5 +1,5 @@
 -- The headline, derived from the specified outcomes.
-use Rattle.std.proofs.Common.{◌∙◌, ◌≡◌, ◌≤◌, ℕ, List, length, get_or, drop, None, Some, Ok, Err, refl, sym, subst, arith}
+use Rattle.std.proofs.Common.{◌∙◌, ◌≡◌, ◌≤◌, ◌-◌, ℕ, List, length, get_or, drop, None, Some, Ok, Err, refl, sym, subst, arith}
 use Rattle.std.specs.declared.{option.Option.Option, result.Result.Result}
 use Rattle.kp_base.specs.declared.refusal.Refusal.{Refusal}
 use Rattle.kp_bits.specs.Word.{Word}
