@@ -1,14 +1,14 @@
 -- The effect of one line more on the complete script.
 use Rattle.std.proofs.Common.{◌≡◌, ℕ, ◌+◌, ◌-◌, ◌<◌, ◌≤◌, true, List, [], ◌∷◌, ◌++◌, length, get_or, take, drop, Option, Some, None, Result, Ok, Err, refl, sym, ap, ◌∙◌, append_assoc, arith}
 use Rattle.std.{proofs.lemmas.List.take_all, proofs.lemmas.List.length-drop, specs.Prelude.OnOk, specs.Prelude.IfErr}
-use Rattle.kp_base.specs.{Place.place_after, Refusal.e_rule, declared.refusal.Refusal.Refusal, declared.refusal.Refused.Refused}
-use Rattle.kp_base.specs.{declared.refusal.Refused.TheVariants.Rule, declared.refusal.Refused.TheVariants.NoMemory, Check.Gives}
+use Rattle.kp_debug_script.specs.Faults.{ScriptFinding, finding_of, Reads}
 use Rattle.kp_base.specs.Lines.{is_break, pieces, lines_of, words_of, piece_of}
 use Rattle.kp_base.proofs.Splitting.{Clean, between, first_piece, last_piece, lines_left}
 use Rattle.kp_ast.specs.declared.tree.Decl.{Decl}
 use Rattle.kp_debug_script.specs.Scripts.{command_in, with_line, commands_of, placed}
 use Rattle.kp_debug_script.specs.{inner.Reading.behind, inner.Reading.IsAdded, inner.Reading.IsBroken, declared.command.Command.Command}
-use Rattle.kp_debug_script.specs.declared.command.Fault.{Fault}
+use Rattle.kp_debug_script.specs.declared.fault.{Fault.Fault, Misread.Misread}
+use Rattle.kp_debug_script.specs.declared.fault.Misread.TheVariants as misread
 
 -- ---- one line
 
@@ -28,7 +28,7 @@ one_command line old new c has is rest =
 
 -- it violates a rule
 pub one_fault : (text : List ℕ) (line : Option (Result Command Fault)) (f : Fault) → Some (Err f) ≡ line → (rest : Result (List Command) Fault)
-    → placed text (with_line line rest) ≡ Err (e_rule f.rule (place_after (take f.at text)))
+    → placed text (with_line line rest) ≡ Err (finding_of text f)
 one_fault text line f breaks rest = ap (λ (l : Option (Result Command Fault)). placed text (with_line l rest)) (sym breaks)
 
 -- ---- the lines that are left
@@ -38,20 +38,20 @@ behind_none (Err e) = refl
 behind_none (Ok cs) = refl
 
 -- a rule that the rest violates is violated by the complete script
-pub left_breaks : (text : List ℕ) (old : List Command) (left all : Result (List Command) Fault) (refusal : Refusal) → behind old left ≡ behind [] all → placed text left ≡ Err refusal
-    → placed text all ≡ Err refusal
-left_breaks text old (Ok cs) all refusal same breaks = absurd (cc breaks)
-left_breaks text old (Err f) all refusal same breaks = ap (placed text) (sym (same ∙ behind_none all)) ∙ breaks
+pub left_breaks : (text : List ℕ) (old : List Command) (left all : Result (List Command) Fault) (found : ScriptFinding) → behind old left ≡ behind [] all → placed text left ≡ Err found
+    → placed text all ≡ Err found
+left_breaks text old (Ok cs) all found same breaks = absurd (cc breaks)
+left_breaks text old (Err f) all found same breaks = ap (placed text) (sym (same ∙ behind_none all)) ∙ breaks
 
 nil_behind : (cs : List Command) → cs ++ [] ≡ cs
 nil_behind [] = refl
 nil_behind (c ∷ cs) = ap (λ (l : List Command). c ∷ l) (nil_behind cs)
 
 -- a line violates a rule, and so the script does
-pub breaks : {T : Type 0} (text : List ℕ) (line : Option (Result Command Fault)) (old : List Command) (left rest all : Result (List Command) Fault) (value : T → List Command) (e : Refused)
-    → behind old left ≡ behind [] all → left ≡ with_line line rest → IsBroken text line e → Gives (Err e) (placed text all) value
-breaks text line old left rest all value (Rule refusal) same is broken = left_breaks text old left all refusal same (ap (placed text) is ∙ broken rest)
-breaks text line old left rest all value NoMemory same is broken = tt
+pub breaks : {T : Type 0} (text : List ℕ) (line : Option (Result Command Fault)) (old : List Command) (left rest all : Result (List Command) Fault) (value : T → List Command) (e : Misread)
+    → behind old left ≡ behind [] all → left ≡ with_line line rest → IsBroken text line e → Reads (Err e) (placed text all) value
+breaks text line old left rest all value (misread.Found found) same is broken = left_breaks text old left all found same (ap (placed text) is ∙ broken rest)
+breaks text line old left rest all value misread.NoMemory same is broken = tt
 
 -- nothing is left
 pub all_read : (text : List ℕ) (line : Option (Result Command Fault)) (old new : List Command) (left all : Result (List Command) Fault) → behind old left ≡ behind [] all → left ≡ with_line line (Ok [])
@@ -60,8 +60,8 @@ all_read text line old new left all same is added =
     ap (placed text) (sym (behind_none all) ∙ sym same ∙ ap (behind old) is ∙ added (Ok [])) ∙ ap Ok (nil_behind new)
 
 -- the last line was read
-pub last_line : {T : Type 0} (text : List ℕ) (line : Option (Result Command Fault)) (old new : List Command) (left all : Result (List Command) Fault) (result : Result T Refused)
-    → behind old left ≡ behind [] all → left ≡ with_line line (Ok []) → OnOk result (IsAdded line old new) → IfErr result (λ e. IsBroken text line e) → Gives result (placed text all) (λ _. new)
+pub last_line : {T : Type 0} (text : List ℕ) (line : Option (Result Command Fault)) (old new : List Command) (left all : Result (List Command) Fault) (result : Result T Misread)
+    → behind old left ≡ behind [] all → left ≡ with_line line (Ok []) → OnOk result (IsAdded line old new) → IfErr result (λ e. IsBroken text line e) → Reads result (placed text all) (λ _. new)
 last_line text line old new left all (Ok x) same is added broken = all_read text line old new left all same is added
 last_line text line old new left all (Err e) same is added broken = breaks text line old left (Ok []) all (λ _. new) e same is broken
 

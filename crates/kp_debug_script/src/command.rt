@@ -1,11 +1,14 @@
-// The commands of a script, and the rules that a script can violate.
+// The commands of a script.
+use kp_base::Place;
 use kp_bits::Bits;
 
-/// A register of a job: the number of its target, counted among registers and files in the order of declaration, and its width in bits.
+/// A register of a job: the number of its target, counted among registers and files in the order of declaration, its width in bits, and the place where it
+/// is declared.
 #[derive(Clone, Copy)]
 pub struct Register {
     pub target: u32,
     pub width: u64,
+    pub declared: Place,
 }
 
 /// A command of the debugger. Counts of cycles are at most 100,000.
@@ -31,11 +34,4 @@ pub enum Verb {
     Until,
     Show,
     Row,
-}
-
-/// A violated rule of the E family, and the offset in the text of the byte that it is reported at.
-#[derive(Clone, Copy)]
-pub struct Fault {
-    pub rule: u8,
-    pub at: u32,
 }

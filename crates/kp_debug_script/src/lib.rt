@@ -5,8 +5,10 @@
 #![tactic(auto)]
 
 mod command;
+mod fault;
 mod line;
 mod script;
 
-pub use command::{Command, Register};
-pub use script::read_script;
+pub use command::{Command, Register, Verb};
+pub use fault::{Misread, ScriptFault, refusal_of};
+pub use script::{commands_of, read_script};

@@ -4,12 +4,14 @@ ghost use Rattle.std.specs.Char.{is_digit};
 ghost use Rattle.std.specs.List.{list_all};
 ghost use Rattle.kp_bits.specs.Literals.{is_number};
 ghost use Rattle.kp_base.specs.Lines.{piece_of, IsWithin};
-ghost use Rattle.kp_debug_script.specs.Scripts.{verb_of, register_in, targets_in, register_from, count_of, value_of, is_literal, one_count, alone, until_by, until_at, command_by, command_in};
+ghost use Rattle.kp_debug_script.specs.Scripts.{verb_of, register_in, targets_in, register_from, count_of, value_of, is_literal, one_count, alone, no_register, declared_as, until_by, until_at, command_by, command_in};
 
-use crate::command::{Command, Fault, Register, Verb};
+use crate::command::{Command, Register, Verb};
+use crate::fault::{Fault, ScriptFault};
 use kp_ast::Decl;
 use kp_base::Run;
-use kp_bits::{Bits, LiteralFault, read_literal, read_number};
+use kp_bits::{Bits, Literal, LiteralFault, read_literal, read_number};
+use kp_width::declared_name;
 
 // The keyword that these bytes are, if they are one.
 fn verb_of(word: &[u8]) -> Option<Verb>
@@ -52,6 +54,7 @@ fn register_in(target: u32, decl: &Decl, name: &[u8]) -> Option<Register>
         Decl::Reg(named, width, _) if named.name.bytes() == name => Some(Register {
             target,
             width: width.value,
+            declared: named.at,
         }),
         _ => None,
     }
@@ -93,91 +96,55 @@ fn command_by(
     ensures { result ≡ command_by decls.now at verb (map (piece_of text.now) args.now) }
 {
     match verb {
-        Some(Verb::Step) => Ok(Command::Step(one_count(text, at, args)?)),
-        Some(Verb::Back) => Ok(Command::Back(one_count(text, at, args)?)),
+        Some(Verb::Step) => Ok(Command::Step(one_count(text, Verb::Step, at, args)?)),
+        Some(Verb::Back) => Ok(Command::Back(one_count(text, Verb::Back, at, args)?)),
         Some(Verb::Until) => until_by(text, decls, at, args),
-        Some(Verb::Show) => alone(at, args, Command::Show),
-        Some(Verb::Row) => alone(at, args, Command::Row),
-        None => Err(Fault { rule: 39, at }),
+        Some(Verb::Show) => alone(Verb::Show, at, args, Command::Show),
+        Some(Verb::Row) => alone(Verb::Row, at, args, Command::Row),
+        None => Err(broken(ScriptFault::NoCommand, at)),
     }
 }
 
-fn alone(at: u32, args: &[Run], command: Command) -> Result<Command, Fault>
-    ensures { (text : List ℕ) → result ≡ alone at (map (piece_of text) args.now) command }
+fn broken(kind: ScriptFault, at: u32) -> Fault
+    ensures { result ≡ record { kind = kind; at = at } }
+{
+    Fault { kind, at }
+}
+
+fn alone(verb: Verb, at: u32, args: &[Run], command: Command) -> Result<Command, Fault>
+    ensures { (text : List ℕ) → result ≡ alone verb at (map (piece_of text) args.now) command }
 {
     if args.is_empty() {
         Ok(command)
     } else {
-        Err(Fault { rule: 39, at })
+        Err(broken(ScriptFault::Words { verb }, at))
     }
 }
 
-fn one_count(text: &[u8], at: u32, args: &[Run]) -> Result<u32, Fault>
+fn one_count(text: &[u8], verb: Verb, at: u32, args: &[Run]) -> Result<u32, Fault>
     requires { All (IsWithin text.now) args.now }
-    ensures { result ≡ one_count at (map (piece_of text.now) args.now) }
+    ensures { result ≡ one_count verb at (map (piece_of text.now) args.now) }
 {
     let [count] = args else {
-        return Err(Fault { rule: 39, at });
+        return Err(broken(ScriptFault::Words { verb }, at));
     };
     if !is_number(bytes_of(text, *count)) {
-        return Err(Fault { rule: 39, at });
+        let word = count.at;
+        return Err(broken(ScriptFault::NoCount { verb, word }, at));
     }
     count_of(text, *count)
 }
 
+#[tactic(auto, using(crate::proofs::Words::not_three))]
 fn until_by(text: &[u8], decls: &[Decl], at: u32, args: &[Run]) -> Result<Command, Fault>
     requires runs { All (IsWithin text.now) args.now }
     requires few { length decls.now < 2 ^ 32 }
     ensures { result ≡ until_by decls.now at (map (piece_of text.now) args.now) }
 {
-    let [name, rest @ ..] = args else {
-        return Err(Fault { rule: 39, at });
+    let [name, literal, count] = args else {
+        return Err(broken(ScriptFault::Words { verb: Verb::Until }, at));
     };
-    until_named(text, decls, at, *name, rest)
-}
-
-// The same for `until` with this first argument.
-fn until_named(
-    text: &[u8],
-    decls: &[Decl],
-    at: u32,
-    name: Run,
-    args: &[Run],
-) -> Result<Command, Fault>
-    requires name { IsWithin text.now name }
-    requires runs { All (IsWithin text.now) args.now }
-    requires few { length decls.now < 2 ^ 32 }
-    ensures { result ≡ until_by decls.now at (piece_of text.now name ∷ map (piece_of text.now) args.now) }
-{
-    let [literal, rest @ ..] = args else {
-        return Err(Fault { rule: 39, at });
-    };
-    until_valued(text, decls, at, name, *literal, rest)
-}
-
-// The same for `until` with these first two arguments.
-fn until_valued(
-    text: &[u8],
-    decls: &[Decl],
-    at: u32,
-    name: Run,
-    literal: Run,
-    args: &[Run],
-) -> Result<Command, Fault>
-    requires name { IsWithin text.now name }
-    requires literal { IsWithin text.now literal }
-    requires runs { All (IsWithin text.now) args.now }
-    requires few { length decls.now < 2 ^ 32 }
-    ensures { result ≡ until_by decls.now at (piece_of text.now name ∷ piece_of text.now literal ∷ map (piece_of text.now) args.now) }
-{
-    let [count, rest @ ..] = args else {
-        return Err(Fault { rule: 39, at });
-    };
-    if rest.is_empty() {
-        until_of(text, decls, at, name, literal, *count)
-    } else {
-        Err(Fault { rule: 39, at })
-    }
+    until_of(text, decls, at, *name, *literal, *count)
 }
 
 // The same for `until` with these arguments.
@@ -195,8 +162,13 @@ fn until_of(
     requires few { length decls.now < 2 ^ 32 }
     ensures { result ≡ until_by decls.now at (piece_of text.now name ∷ piece_of text.now literal ∷ piece_of text.now count ∷ []) }
 {
-    if !is_literal(bytes_of(text, literal)) || !is_number(bytes_of(text, count)) {
-        return Err(Fault { rule: 39, at });
+    if !is_literal(bytes_of(text, literal)) {
+        let word = literal.at;
+        return Err(broken(ScriptFault::NoLiteral { word }, at));
+    }
+    if !is_number(bytes_of(text, count)) {
+        let (verb, word) = (Verb::Until, count.at);
+        return Err(broken(ScriptFault::NoCount { verb, word }, at));
     }
     until_at(text, decls, name, literal, count_of(text, count))
 }
@@ -216,13 +188,29 @@ fn until_at(
 {
     let most = count?;
     let Some(register) = register_of(decls, bytes_of(text, name)) else {
-        return Err(Fault {
-            rule: 41,
-            at: name.at,
-        });
+        return Err(broken(no_register(decls, bytes_of(text, name)), name.at));
     };
-    let value = value_of(text, literal, register.width)?;
+    let value = value_of(text, literal, register)?;
     Ok(Command::Until(register.target, value, most))
+}
+
+// How a name that is none of a register violates E41.
+fn no_register(decls: &[Decl], name: &[u8]) -> ScriptFault
+    ensures { result ≡ no_register (declared_as decls.now name.now) }
+{
+    match declared_as(decls, name) {
+        Some(number) => ScriptFault::NoRegister { number },
+        None => ScriptFault::Undeclared,
+    }
+}
+
+// The number of the first declaration of a name.
+fn declared_as(decls: &[Decl], name: &[u8]) -> Option<usize>
+    ensures { result ≡ declared_as decls.now name.now }
+{
+    decls
+        .iter()
+        .position(|decl| declared_name(decl).name.bytes() == name)
 }
 
 // The bytes of a run.
@@ -240,26 +228,31 @@ fn count_of(text: &[u8], run: Run) -> Result<u32, Fault>
 {
     match read_number(bytes_of(text, run)) {
         Some(count) if count <= 100_000 => Ok(count as u32),
-        _ => Err(Fault {
-            rule: 40,
-            at: run.at,
-        }),
+        _ => Err(broken(ScriptFault::ManyCycles, run.at)),
     }
 }
 
-// The value of a register of this width that a token denotes.
-fn value_of(text: &[u8], run: Run, width: u64) -> Result<Bits, Fault>
+// The value of a register that a token denotes.
+fn value_of(text: &[u8], run: Run, register: Register) -> Result<Bits, Fault>
     requires { IsWithin text.now run }
-    ensures { result ≡ value_of width (piece_of text.now run) }
+    ensures { result ≡ value_of register (piece_of text.now run) }
 {
-    let fault = Fault {
-        rule: 41,
-        at: run.at,
+    let Ok(literal) = read_literal(bytes_of(text, run)) else {
+        return Err(broken(ScriptFault::LargeValue, run.at));
     };
-    match read_literal(bytes_of(text, run)) {
-        Ok(literal) if literal.width == width => literal.fit().map_err(|_| fault),
-        _ => Err(fault),
+    let Literal { width, value } = literal;
+    if width != register.width {
+        let kind = ScriptFault::Width {
+            found: width,
+            wanted: register.width,
+            value,
+            declared: register.declared,
+        };
+        return Err(broken(kind, run.at));
     }
+    literal
+        .fit()
+        .map_err(|_| broken(ScriptFault::Value { value, width }, run.at))
 }
 
 fn is_literal(word: &[u8]) -> bool

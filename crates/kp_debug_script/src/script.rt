@@ -1,21 +1,16 @@
 // The script after a job.
 ghost use Rattle.std.specs.Prelude.{◌≡◌, ◌≤◌, ◌+◌, ◌-◌, ◌^◌, ◌<◌, true, false, [], length, get_or, take, IfOk, IfErr, OnOk, IfSome};
 ghost use Rattle.kp_base.specs.{Check.Gives, Lines.is_break, Lines.piece_of, Lines.words_of, Lines.IsWithin};
-ghost use Rattle.kp_base.specs.Place.{place_after};
-ghost use Rattle.kp_base.specs.Refusal.{e_rule};
-ghost use Rattle.kp_debug_script.specs.{Scripts.script_of, Scripts.command_in, inner.Reading.IsAdded, inner.Reading.IsBroken, inner.Reading.IsFaultIn};
+ghost use Rattle.kp_debug_script.specs.{Faults.Reads, Scripts.script_in, Scripts.script_of, Scripts.command_in, inner.Reading.IsAdded, inner.Reading.IsBroken, inner.Reading.IsFaultIn};
 
-use crate::command::{Command, Fault};
+use crate::command::Command;
+use crate::fault::{Fault, Misread, finding_of, refusal_of};
 use crate::line::command_in;
 use kp_ast::Decl;
-use kp_base::{Refusal, Refused, Run, place_of, words_in};
+use kp_base::{Refused, Run, words_in};
 use std::alloc::Global;
 
-/// Reads the script that starts at an offset of a text, for a job with these declarations.
-///
-/// Errors: E39 if a line doesn't have the form of a command, at its first token; E40 if a count of cycles is over 100,000, at the count; E41 if a
-/// name isn't that of a register, at the name, or if a literal is no value of its width, at the literal. Of the rules that a line violates the one
-/// with the lowest number is reported, and of the lines that violate one the first. The only other error is out of memory.
+/// The commands of the script that starts at an offset of a text, for a job with these declarations. Errors: the first violated rule, and out of memory.
 pub fn read_script(
     alloc: Global,
     text: &[u8],
@@ -26,6 +21,29 @@ pub fn read_script(
     requires fits { length text.now ≤ 2 ^ 32 - 2 }
     requires few { length decls.now < 2 ^ 32 }
     ensures { Gives result (script_of decls.now text.now from) (λ commands. commands.items) }
+{
+    match commands_of(alloc, text, from, decls) {
+        Ok(commands) => Ok(commands),
+        Err(Misread::Found(finding)) => Err(Refused::Rule(refusal_of(finding))),
+        Err(Misread::NoMemory) => Err(Refused::NoMemory),
+    }
+}
+
+/// The same, with the facts of the first violation.
+///
+/// Errors: E39 if a line doesn't have the form of a command, at its first token; E40 if a count of cycles is over 100,000, at the count; E41 if a
+/// name isn't that of a register, at the name, or if a literal is no value of its width, at the literal. Of the rules that a line violates the one
+/// with the lowest number is reported, and of the lines that violate one the first. The only other error is out of memory.
+pub fn commands_of(
+    alloc: Global,
+    text: &[u8],
+    from: u32,
+    decls: &[Decl],
+) -> Result<Vec<Command>, Misread>
+    requires within { from ≤ length text.now }
+    requires fits { length text.now ≤ 2 ^ 32 - 2 }
+    requires few { length decls.now < 2 ^ 32 }
+    ensures { Reads result (script_in decls.now text.now from) (λ commands. commands.items) }
 {
     let mut commands = Vec::new(alloc);
     let end = text.len() as u32;
@@ -40,13 +58,13 @@ fn read_lines(
     script: Run,
     decls: &[Decl],
     commands: &mut Vec<Command>,
-) -> Result<(), Refused>
+) -> Result<(), Misread>
     requires order { script.at ≤ script.end }
     requires end { script.end ≡ length text.now }
     requires fits { length text.now ≤ 2 ^ 32 - 2 }
     requires few { length decls.now < 2 ^ 32 }
     requires none { commands.old.items ≡ [] }
-    ensures { Gives result (script_of decls.now text.now script.at) (λ _. commands.new.items) }
+    ensures { Reads result (script_in decls.now text.now script.at) (λ _. commands.new.items) }
 {
     let mut at = script.at;
     for i in script.at..script.end {
@@ -67,7 +85,7 @@ fn end_line(
     run: Run,
     decls: &[Decl],
     commands: &mut Vec<Command>,
-) -> Result<u32, Refused>
+) -> Result<u32, Misread>
     requires order { run.at ≤ run.end }
     requires within { run.end < length text.now }
     requires fits { length text.now ≤ 2 ^ 32 - 2 }
@@ -91,7 +109,7 @@ fn read_line(
     line: Run,
     decls: &[Decl],
     commands: &mut Vec<Command>,
-) -> Result<(), Refused>
+) -> Result<(), Misread>
     requires within { IsWithin text.now line }
     requires fits { length text.now ≤ 2 ^ 32 - 2 }
     requires few { length decls.now < 2 ^ 32 }
@@ -110,7 +128,7 @@ fn add(
     text: &[u8],
     line: Option<Result<Command, Fault>>,
     commands: &mut Vec<Command>,
-) -> Result<(), Refused>
+) -> Result<(), Misread>
     requires within { IfSome line (IsFaultIn text.now) }
     requires fits { length text.now ≤ 2 ^ 32 - 2 }
     ensures added { OnOk result (IsAdded line commands.old.items commands.new.items) }
@@ -121,15 +139,7 @@ fn add(
             commands.push(command)?;
             Ok(())
         }
-        Some(Err(fault)) => Err(Refused::Rule(refusal_of(text, fault))),
+        Some(Err(fault)) => Err(Misread::Found(finding_of(text, fault))),
         None => Ok(()),
     }
-}
-
-fn refusal_of(text: &[u8], fault: Fault) -> Refusal
-    requires within { fault.at ≤ length text.now }
-    requires fits { length text.now ≤ 2 ^ 32 - 2 }
-    ensures { result ≡ e_rule fault.rule (place_after (take fault.at text.now)) }
-{
-    Refusal::e(fault.rule, place_of(text, fault.at))
 }

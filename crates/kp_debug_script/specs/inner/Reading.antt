@@ -1,7 +1,7 @@
 -- A script that is read line by line.
 use Rattle.std.specs.Prelude.{◌≡◌, ◌≤◌, ℕ, List, ◌++◌, length, Option, Result, Ok, Err, IfErr, ⊤}
-use Rattle.kp_base.specs.declared.refusal.Refused.{Refused, TheVariants.Rule, TheVariants.NoMemory}
-use Rattle.kp_debug_script.specs.{Scripts.with_line, Scripts.placed, declared.command.Command.Command, declared.command.Fault.Fault}
+use Rattle.kp_debug_script.specs.{Scripts.with_line, Scripts.placed, declared.command.Command.Command, declared.fault.Fault.Fault, declared.fault.Misread.Misread}
+use Rattle.kp_debug_script.specs.declared.fault.Misread.TheVariants as misread
 
 -- commands that were read already, before those of a script
 abbrev pub behind : List Command → Result (List Command) Fault → Result (List Command) Fault
@@ -12,10 +12,10 @@ behind old (Ok new) = Ok (old ++ new)
 abbrev pub IsAdded : Option (Result Command Fault) → List Command → List Command → Type 0
 IsAdded line old new = (rest : Result (List Command) Fault) → behind old (with_line line rest) ≡ behind new rest
 
--- the line violates this rule, whatever the lines after it are; or out of memory
-abbrev pub IsBroken : List ℕ → Option (Result Command Fault) → Refused → Type 0
-IsBroken text line (Rule refusal) = (rest : Result (List Command) Fault) → placed text (with_line line rest) ≡ Err refusal
-IsBroken text line NoMemory = ⊤
+-- this is the violation of the line, whatever the lines after it are; or out of memory
+abbrev pub IsBroken : List ℕ → Option (Result Command Fault) → Misread → Type 0
+IsBroken text line (misread.Found f) = (rest : Result (List Command) Fault) → placed text (with_line line rest) ≡ Err f
+IsBroken text line misread.NoMemory = ⊤
 
 -- a violated rule is reported at a byte of the text, or at its end
 abbrev pub IsFaultIn : {X : Type 0} → List ℕ → Result X Fault → Type 0
