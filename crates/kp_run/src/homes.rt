@@ -3,10 +3,10 @@ ghost use Rattle.std.specs.Prelude.{◌≡◌, ◌<◌, length, IfOk};
 ghost use Rattle.kp_pipeline.specs.Accepted.{Accepted};
 ghost use Rattle.kp_machine.specs.Slots.{targets_of};
 ghost use Rattle.kp_machine.specs.Machine.{machine_of};
-ghost use Rattle.kp_run.specs.Homes.{AreHomes, home_of};
+ghost use Rattle.kp_run.specs.{Homes.AreHomes, Homes.home_of, inner.Homes.home_by};
 
 use kp_base::NoMemory;
-use kp_design::Layout;
+use kp_design::{Layout, Port};
 use kp_machine::laws::a_design_is_accepted;
 use kp_stage::Design;
 use std::alloc::Global;
@@ -32,15 +32,20 @@ fn homes_by(alloc: Global, layout: &Layout<'_>) -> Result<Vec<u8>, NoMemory>
     Ok(homes)
 }
 
+// The machine that has the value of a target that is written so.
+fn home_by(port: Option<Port>, none: u32) -> u32
+    ensures { result ≡ home_by port none }
+{
+    match port {
+        Some(port) => port.write,
+        None => none,
+    }
+}
+
 #[tactic(auto, using(crate::proofs::Machines::home_is, crate::proofs::Machines::home_small))]
 fn home_of(layout: &Layout<'_>, t: u32) -> u8
     requires { t < length (targets_of layout.now.decls) }
     ensures { result ≡ home_of layout.now t }
 {
-    let stages = layout.stages();
-    let home = match layout.port(t) {
-        Some(port) => port.write,
-        None => stages,
-    };
-    home as u8
+    home_by(layout.port(t), layout.stages()) as u8
 }
