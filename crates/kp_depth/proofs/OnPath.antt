@@ -1,11 +1,11 @@
 -- The wires that are named beside a path.
 use Rattle.std.{specs.List.Contains, specs.List.flat_map}
-use Rattle.std.proofs.Common.{◌≡◌, ◌∙◌, ◌<◌, ◌==◌, ℕ, Bool, true, false, cond, List, [], ◌∷◌, ◌++◌, refl, sym, ap, subst, arith, ⊎_elim}
+use Rattle.std.proofs.Common.{◌≡◌, ◌∙◌, ◌==◌, ℕ, Bool, true, false, cond, List, [], ◌∷◌, refl, sym, ap, subst, arith, ⊎_elim}
 use Rattle.std.proofs.lemmas.Bool.{eqb-true, eq-eqb}
 use Rattle.std.proofs.lemmas.List.Elements.{Contains-append_cases, Contains-append_left, Contains-append_right, Contains-push, Contains-push_cases}
 use Rattle.kp_wires.specs.declared.wire.Wire.{Wire}
 use Rattle.kp_depth.specs.declared.stages.Path.{Path}
-use Rattle.kp_depth.specs.Statements.{if_at, named_at, named_on, nodes_of, NamesExactly}
+use Rattle.kp_depth.specs.Statements.{if_at, named_at, nodes_of, NamesExactly}
 
 -- ---- elements of lists of lists
 

@@ -1,5 +1,5 @@
 -- THE STATEMENTS ON A PATH, by the table of wires, which has the node of what each statement makes.
-use Rattle.std.specs.Prelude.{◌≡◌, ℕ, ◌==◌, List, [], ◌∷◌, Contains, flat_map, map, Option, Some, None, if◌then◌else◌}
+use Rattle.std.specs.Prelude.{ℕ, ◌==◌, List, [], ◌∷◌, Contains, flat_map, map, Option, Some, None, if◌then◌else◌}
 use Rattle.kp_ast.specs.declared.tree.Job.{Job}
 use Rattle.kp_net.specs.{Netlist.Net, declared.node.Kind.Kind, declared.node.Kind.TheVariants.Reg}
 use Rattle.kp_synth_tables.specs.Keys.{key_at}

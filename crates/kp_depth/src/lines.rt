@@ -269,12 +269,7 @@ fn add_beside(out: &mut Vec<u8>, piece: &[u8], note: &[u8]) -> Result<(), NoMemo
 }
 
 // Appends the time of a node, if it has one of its own.
-fn add_time(
-    alloc: Global,
-    out: &mut Vec<u8>,
-    within: bool,
-    time: &Time,
-) -> Result<(), NoMemory>
+fn add_time(alloc: Global, out: &mut Vec<u8>, within: bool, time: &Time) -> Result<(), NoMemory>
     ensures { OnOk result (out.new.items ≡ out.old.items ++ text.at_right 9 (text.time_text within time.now)) }
 {
     if within {

@@ -85,12 +85,7 @@ fn add_bypass(out: &mut Vec<u8>, from: u32, wire: Wire) -> Result<(), NoMemory>
 }
 
 #[tactic(auto, using(std::proofs::Common::append_assoc))]
-fn add_note(
-    out: &mut Vec<u8>,
-    source: &Source<'_>,
-    from: u32,
-    wire: Wire,
-) -> Result<(), NoMemory>
+fn add_note(out: &mut Vec<u8>, source: &Source<'_>, from: u32, wire: Wire) -> Result<(), NoMemory>
     requires { AreNames source.now.layout.now source.now.names.now }
     ensures { OnOk result (out.new.items ≡ out.old.items ++ text.note source.now.layout.now from wire) }
 {

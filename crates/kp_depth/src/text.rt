@@ -168,11 +168,7 @@ fn longer_to(a: &Option<Path>, b: &Option<Path>) -> Option<Holder>
     }
 }
 
-fn add_end(
-    out: &mut Vec<u8>,
-    source: &Source<'_>,
-    holder: Option<Holder>,
-) -> Result<(), NoMemory>
+fn add_end(out: &mut Vec<u8>, source: &Source<'_>, holder: Option<Holder>) -> Result<(), NoMemory>
     requires { AreNames source.now.layout.now source.now.names.now }
     ensures { OnOk result (out.new.items ≡ out.old.items ++ text.end_text source.now.layout.now source.now.net.now holder) }
 {

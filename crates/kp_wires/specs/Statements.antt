@@ -1,6 +1,6 @@
 -- THE STATEMENTS OF A WIRE, for people: those of its stage that make its signal, each with its line, `stage 3: set G (line 105)`. That a result is set is said
 -- by the `when` of its set. A stall and a wrong guess are made by no statement.
-use Rattle.std.specs.Prelude.{ℕ, ◌==◌, ◌&&◌, Bool, true, false, if◌then◌else◌, List, [], ◌∷◌, ◌++◌, length, slice_get, codes, decimal, Option, Some, None}
+use Rattle.std.specs.Prelude.{ℕ, ◌==◌, ◌&&◌, Bool, false, if◌then◌else◌, List, [], ◌∷◌, ◌++◌, length, slice_get, codes, decimal, Option, Some, None}
 use Rattle.std.specs.List.{list_any}
 use Rattle.kp_ast.specs.{Expressions.is_same_name, declared.tree.Decl.Decl, declared.tree.Job.Job, declared.tree.Stmt.Stmt, declared.tree.StmtKind.StmtKind}
 use Rattle.kp_ast.specs.declared.tree.Decl.TheVariants as decls

@@ -135,12 +135,7 @@ fn add_line_tail(out: &mut Vec<u8>, line: u32) -> Result<(), NoMemory>
 
 // Appends a statement of stage k that makes the signal.
 #[tactic(auto, using(std::proofs::Common::append_assoc))]
-fn add_statement(
-    out: &mut Vec<u8>,
-    k: u32,
-    signal: Signal,
-    stmt: &Stmt,
-) -> Result<(), NoMemory>
+fn add_statement(out: &mut Vec<u8>, k: u32, signal: Signal, stmt: &Stmt) -> Result<(), NoMemory>
     ensures { OnOk result (out.new.items ≡ out.old.items ++ statement k signal stmt.now) }
 {
     add_stage_head(out, k)?;
