@@ -17,7 +17,7 @@ use kp_frontend::{Accepted, Head, judge_head};
 use kp_synth::{Synthesis, synth_stages};
 use kp_view_explain::{Explanation, explain_head};
 use kp_vlog::round_trip::a_canonical_text_denotes_its_netlist;
-use kp_wires::{Wire, commented_text, named_lines, wires_of, wires_text};
+use kp_wires::{commented_text, named_lines, wires_of, wires_text};
 use std::alloc::Global;
 
 /// What is to be written for an input that is not too long, under the name of its file. The only error is out of memory.
@@ -105,21 +105,12 @@ fn job_text(
     }
 }
 
-// The table of the wires of a netlist.
-fn wires(alloc: Global, layout: &Layout<'_>, built: &Synthesis<'_>) -> Result<Vec<Wire>, NoMemory>
-    requires stages { HasStages built.now.net layout.now built.now.outcomes.items built.now.names.items }
-    ensures { IfOk result (λ wires. wires.items ≡ wires_of built.now.net layout.now built.now.outcomes.items built.now.names.items) }
-{
-    let (outcomes, names) = (built.outcomes.as_slice(), built.names.as_slice());
-    wires_of(alloc, &built.net, layout, outcomes, names)
-}
-
-// The same as text.
+// The table of the wires of a netlist, as text.
 fn listed(alloc: Global, layout: &Layout<'_>, built: &Synthesis<'_>) -> Result<Vec<u8>, NoMemory>
     requires stages { HasStages built.now.net layout.now built.now.outcomes.items built.now.names.items }
     ensures { IfOk result (λ text. text.items ≡ wires_text layout.now (wires_of built.now.net layout.now built.now.outcomes.items built.now.names.items)) }
 {
-    let wires = wires(alloc, layout, built)?;
+    let wires = wires_of(alloc, layout, built)?;
     wires_text(alloc, layout.job(), wires.as_slice())
 }
 
@@ -136,7 +127,7 @@ fn named(
     ensures { IfOk result (λ text. text.items
         ≡ core_text built.now.net layout.now ports.now (named_lines built.now.net layout.now (wires_of built.now.net layout.now built.now.outcomes.items built.now.names.items))) }
 {
-    let wires = wires(alloc, layout, built)?;
+    let wires = wires_of(alloc, layout, built)?;
     let lines = named_lines(alloc, &built.net, layout, wires.as_slice())?;
     core_text(alloc, &built.net, layout, ports, lines.as_slice())
 }
@@ -154,6 +145,6 @@ fn commented(
     ensures { IfOk result (λ text. text.items
         ≡ commented_text built.now.net layout.now ports.now (wires_of built.now.net layout.now built.now.outcomes.items built.now.names.items)) }
 {
-    let wires = wires(alloc, layout, built)?;
+    let wires = wires_of(alloc, layout, built)?;
     commented_text(alloc, &built.net, layout, ports, wires.as_slice())
 }

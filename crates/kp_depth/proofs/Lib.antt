@@ -5,3 +5,4 @@ pub mod Longest
 pub mod Latest
 pub mod Listing
 pub mod Texts
+pub mod OnPath

@@ -1,13 +1,15 @@
 // The lines of a path, and what they consist of.
-ghost use Rattle.std.specs.Prelude.{◌≡◌, ◌++◌, get_or, decimal, OnOk};
+ghost use Rattle.std.specs.Prelude.{◌≡◌, ◌++◌, get_or, codes, decimal, replicate, IfOk, OnOk};
 ghost use Rattle.kp_net.specs.Parts.{no_file, no_port, no_reg};
 ghost use Rattle.kp_synth_registers.specs.Keys.{key_at, keys_of};
 ghost use Rattle.kp_vlog.specs.Canon.{sign, wire};
 ghost use Rattle.kp_depth.specs.Paths.{kind_at};
+ghost use Rattle.kp_depth.specs.Statements.{origin};
 ghost use Rattle.kp_depth.specs.inner.Named.{IsSource};
 ghost use Rattle.kp_depth.specs.Text as text;
 
 use crate::ends::Holder;
+use crate::statements::{notes, origin_after};
 use crate::time::{Input, Time, Times};
 use itoa::Buffer;
 use kp_base::NoMemory;
@@ -16,6 +18,7 @@ use kp_core_ports::{Names, add_stored};
 use kp_design::Layout;
 use kp_net::{Kind, Netlist, NodeId};
 use kp_synth_registers::{Key, Keys};
+use kp_wires::Wire;
 use std::alloc::Global;
 
 // What the lines of a netlist are written from.
@@ -25,6 +28,7 @@ pub(crate) struct Source<'a> {
     pub layout: &'a Layout<'a>,
     pub keys: &'a Keys,
     pub names: &'a Names,
+    pub wires: &'a [Wire],
     pub times: &'a Times,
 }
 
@@ -54,16 +58,33 @@ pub(crate) fn add_hundredths(out: &mut Vec<u8>, n: u64) -> Result<(), NoMemory>
     add_number(out, n % 10)
 }
 
+#[tactic(auto, using(crate::proofs::Texts::blank_more))]
+fn add_blanks(out: &mut Vec<u8>, count: usize) -> Result<(), NoMemory>
+    ensures { OnOk result (out.new.items ≡ out.old.items ++ replicate count 32) }
+{
+    for blanks in 0..count {
+        out.push(b' ')?;
+    }
+    Ok(())
+}
+
 // Appends a text at the right end of a column.
-#[tactic(auto, using(crate::proofs::Texts::blank_more, std::proofs::Common::append_assoc))]
+#[tactic(auto, using(std::proofs::Common::append_assoc))]
 pub(crate) fn add_right(out: &mut Vec<u8>, width: usize, piece: &[u8]) -> Result<(), NoMemory>
     ensures { OnOk result (out.new.items ≡ out.old.items ++ text.at_right width piece.now) }
 {
-    for blanks in 0..width.saturating_sub(piece.len()) {
-        out.push(b' ')?;
-    }
+    add_blanks(out, width.saturating_sub(piece.len()))?;
     out.extend_from_slice(piece)?;
     Ok(())
+}
+
+// Appends a text at the left end of a column.
+#[tactic(auto, using(std::proofs::Common::append_assoc))]
+fn add_left(out: &mut Vec<u8>, width: usize, piece: &[u8]) -> Result<(), NoMemory>
+    ensures { OnOk result (out.new.items ≡ out.old.items ++ text.at_left width piece.now) }
+{
+    out.extend_from_slice(piece)?;
+    add_blanks(out, width.saturating_sub(piece.len()))
 }
 
 #[tactic(auto, using(crate::proofs::Texts::nothing_first))]
@@ -76,7 +97,7 @@ pub(crate) fn add_length(alloc: Global, out: &mut Vec<u8>, n: u64) -> Result<(),
 }
 
 impl Source<'_> {
-    fn key(&self, r: u32) -> Key
+    pub(crate) fn key(&self, r: u32) -> Key
         requires { self.now.keys.now ≡ keys_of self.now.layout.now }
         ensures { result ≡ key_at self.now.layout.now r }
     {
@@ -200,75 +221,145 @@ fn add_assigned(out: &mut Vec<u8>, source: &Source<'_>, kind: &Kind) -> Result<(
             out.extend_from_slice(b" : ")?;
             add_wire(out, *b)
         }
-        Kind::Not(_) | Kind::Concat(_) | Kind::Slice(_, _, _) => add_piece(out, b"wires"),
+        Kind::Not(a) => {
+            out.extend_from_slice(b"~")?;
+            add_wire(out, *a)
+        }
+        Kind::Concat(_) => add_piece(out, b"{..}"),
+        Kind::Slice(a, hi, lo) => {
+            add_wire(out, *a)?;
+            add_bits(out, *hi, *lo)
+        }
     }
 }
 
 #[tactic(auto, using(std::proofs::Common::append_assoc))]
+fn add_bits(out: &mut Vec<u8>, hi: u8, lo: u8) -> Result<(), NoMemory>
+    ensures { OnOk result (out.new.items ≡ out.old.items ++ (codes "[" ++ (decimal hi ++ (codes ":" ++ (decimal lo ++ codes "]"))))) }
+{
+    out.extend_from_slice(b"[")?;
+    add_number(out, hi as u64)?;
+    out.extend_from_slice(b":")?;
+    add_number(out, lo as u64)?;
+    add_piece(out, b"]")
+}
+
+// Appends the wire of a node with what it is assigned.
+#[tactic(auto, using(std::proofs::Common::append_assoc))]
+fn add_wire_text(out: &mut Vec<u8>, source: &Source<'_>, node: NodeId) -> Result<(), NoMemory>
+    requires { IsSource source.now.layout.now source.now.keys.now source.now.names.now }
+    ensures { OnOk result (out.new.items ≡ out.old.items
+        ++ text.wire_text source.now.layout.now source.now.net.now node.0 (kind_at source.now.net.now.nodes node.0)) }
+{
+    add_wire(out, node)?;
+    out.extend_from_slice(b" = ")?;
+    match source.net.nodes().get(node.0 as usize) {
+        Some(known) => add_assigned(out, source, &known.kind),
+        None => add_piece(out, b"constant"),
+    }
+}
+
+// Appends a text, with another one beside it in the next column.
+#[tactic(auto, using(std::proofs::Common::append_assoc))]
+fn add_beside(out: &mut Vec<u8>, piece: &[u8], note: &[u8]) -> Result<(), NoMemory>
+    ensures { OnOk result (out.new.items ≡ out.old.items ++ text.beside piece.now note.now) }
+{
+    if note.is_empty() {
+        return add_piece(out, piece);
+    }
+    add_left(out, 32, piece)?;
+    add_piece(out, note)
+}
+
+// Appends the time of a node, if it has one of its own.
+fn add_time(alloc: Global, out: &mut Vec<u8>, within: bool, time: &Time) -> Result<(), NoMemory>
+    ensures { OnOk result (out.new.items ≡ out.old.items ++ text.at_right 9 (text.time_text within time.now)) }
+{
+    if within {
+        add_right(out, 9, b"")
+    } else {
+        add_length(alloc, out, time.arrival)
+    }
+}
+
+#[tactic(auto, using(std::proofs::Common::append_assoc, crate::proofs::Texts::nothing_first))]
 fn add_wire_line(
     alloc: Global,
     out: &mut Vec<u8>,
     source: &Source<'_>,
     node: NodeId,
-    arrival: u64,
+    within: bool,
+    time: &Time,
+    note: &[u8],
 ) -> Result<(), NoMemory>
     requires { IsSource source.now.layout.now source.now.keys.now source.now.names.now }
     ensures { OnOk result (out.new.items ≡ out.old.items
-        ++ text.wire_line source.now.layout.now source.now.net.now node.0 arrival (kind_at source.now.net.now.nodes node.0)) }
+        ++ text.wire_line source.now.layout.now source.now.net.now node.0 (text.time_text within time.now) (kind_at source.now.net.now.nodes node.0) note.now) }
 {
-    add_length(alloc, out, arrival)?;
-    out.extend_from_slice(b"  n")?;
-    add_number(out, node.0 as u64)?;
-    out.extend_from_slice(b" = ")?;
-    match source.net.nodes().get(node.0 as usize) {
-        Some(known) => add_assigned(out, source, &known.kind)?,
-        None => add_piece(out, b"constant")?,
-    }
+    let mut piece = Vec::new(alloc);
+    add_wire_text(&mut piece, source, node)?;
+    add_time(alloc, out, within, time)?;
+    out.extend_from_slice(b"  ")?;
+    add_beside(out, piece.as_slice(), note)?;
     add_piece(out, b"\n")
 }
 
-fn is_listed(within: bool, time: &Time) -> bool
-    ensures { result ≡ text.is_listed within time.now }
+fn costs(within: bool, time: &Time) -> bool
+    ensures { result ≡ text.costs within time.now }
 {
     !within && (time.chain.latest < time.arrival || time.chain.last.is_none())
 }
 
-// Appends the line of a node of a path, if it is listed.
+fn is_listed(within: bool, time: &Time, note: &[u8]) -> bool
+    ensures { result ≡ text.is_listed within time.now note.now }
+{
+    if note.is_empty() {
+        costs(within, time)
+    } else {
+        true
+    }
+}
+
+// Appends the line of a node of a path after a part from this stage, if it is listed.
 pub(crate) fn add_step(
     alloc: Global,
     out: &mut Vec<u8>,
     source: &Source<'_>,
+    from: u32,
     within: bool,
     node: NodeId,
 ) -> Result<(), NoMemory>
     requires { IsSource source.now.layout.now source.now.keys.now source.now.names.now }
     ensures { OnOk result (out.new.items ≡ out.old.items
-        ++ text.step_text source.now.layout.now source.now.net.now source.now.times.now.all.items within node.0) }
+        ++ text.step_text source.now.layout.now source.now.net.now source.now.wires.now source.now.times.now.all.items from within node.0) }
 {
+    let note = notes(alloc, source, from, node)?;
     let time = source.times.at(node);
-    if is_listed(within, &time) {
-        add_wire_line(alloc, out, source, node, time.arrival)
-    } else {
-        Ok(())
+    if is_listed(within, &time, note.as_slice()) {
+        add_wire_line(alloc, out, source, node, within, &time, note.as_slice())?;
     }
+    Ok(())
 }
 
-// Appends the lines of a path, from its first node on.
-#[tactic(auto, using(crate::proofs::Texts::steps_more))]
+// Appends the lines of a path, from its first node on, and finds the stage that it comes from.
+#[tactic(auto, using(crate::proofs::Texts::steps_more, crate::proofs::Texts::origin_more))]
 pub(crate) fn add_steps(
     alloc: Global,
     out: &mut Vec<u8>,
     source: &Source<'_>,
     steps: &[Input],
-) -> Result<(), NoMemory>
+) -> Result<u32, NoMemory>
     requires { IsSource source.now.layout.now source.now.keys.now source.now.names.now }
-    ensures { OnOk result (out.new.items ≡ out.old.items
-        ++ text.steps_text source.now.layout.now source.now.net.now source.now.times.now.all.items steps.now) }
+    ensures text { OnOk result (out.new.items ≡ out.old.items
+        ++ text.steps_text source.now.layout.now source.now.net.now source.now.wires.now source.now.times.now.all.items steps.now) }
+    ensures from { IfOk result (λ from. from ≡ origin source.now.layout.now source.now.net.now source.now.wires.now steps.now) }
 {
     let count = steps.len();
+    let mut from = 0;
     for done in 0..count {
         let operand = steps[count - 1 - done];
-        add_step(alloc, out, source, operand.within, operand.node)?;
+        add_step(alloc, out, source, from, operand.within, operand.node)?;
+        from = origin_after(source, from, operand.node);
     }
-    Ok(())
+    Ok(from)
 }

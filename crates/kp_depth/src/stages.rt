@@ -109,8 +109,8 @@ fn longest(
     Ok(Some(Path { end, steps, length }))
 }
 
-// The stage whose state a register holds, or 0 if it belongs to none.
-fn held_by(key: Key) -> u32
+/// The stage whose state a register holds, or 0 if it belongs to none.
+pub(crate) fn held_by(key: Key) -> u32
     ensures { result ≡ held_in key }
 {
     match key {

@@ -9,8 +9,9 @@ use kp_base::{NoMemory, Sink, write_all};
 use kp_depth::{depth_text, depths_of};
 use kp_design::Layout;
 use kp_frontend::Accepted;
-use kp_synth::synth;
+use kp_synth::synth_stages;
 use kp_view_words::Memories;
+use kp_wires::wires_of;
 use std::alloc::Global;
 
 fn is_inside(memories: Memories) -> bool
@@ -29,10 +30,11 @@ fn text_of(alloc: Global, memories: Memories, job: &Accepted) -> Result<Vec<u8>,
 {
     // The invariant of the type, for the proof only.
     let _kept = job.design.job();
-    let net = synth(alloc, &job.design, &job.sections.start)?;
+    let built = synth_stages(alloc, &job.design, &job.sections.start)?;
     let layout = Layout::of(alloc, &job.design)?;
-    let depths = depths_of(alloc, &net, &layout, is_inside(memories))?;
-    let text = depth_text(alloc, &net, &layout, &depths)?;
+    let wires = wires_of(alloc, &layout, &built)?;
+    let depths = depths_of(alloc, &built.net, &layout, is_inside(memories))?;
+    let text = depth_text(alloc, &built.net, &layout, wires.as_slice(), &depths)?;
     Ok(text)
 }
 

@@ -188,8 +188,8 @@ these N cycles.
 pub const HELP_DEPTH: &str =
     "Prints the longest path of each stage in the circuit of the pipelined machine of
 a job, by a model of delays, with the wires of the module of `kp pipe` that it
-goes through, and the bits of the registers after each stage. A unit is about a
-level of lookup tables.
+goes through, the statements whose values they are, and the bits of the
+registers after each stage. A unit is about a level of lookup tables.
 
 usage: kpview depth [--files 0] [FILE]
 

@@ -12,7 +12,7 @@ use Rattle.kp_synth_registers.specs.{Holding.Holds, Holding.optional, Meaning.Is
 use Rattle.kp_synth_stage.specs.Work.{stmts_at}
 use Rattle.kp_synth_next.specs.Nexts.{outcome_at}
 use Rattle.kp_synth.specs.Known.{HasStages, Named, names_in, no_names}
-use Rattle.kp_wires.specs.Table.{below, is_constant, wire_of, bound_wire, stmt_wire, set_wires, bound_wires, put_wires, all_set_wires, aim_wires, stage_wires, wires_of}
+use Rattle.kp_wires.specs.Table.{AreWires, below, is_constant, wire_of, bound_wire, stmt_wire, set_wires, bound_wires, put_wires, all_set_wires, aim_wires, stage_wires, wires_of}
 use Rattle.kp_wires.specs.{Texts.bound_name, Texts.name_in, Texts.stmt_name, Truth.Has, Truth.HasName, Truth.IsTrue, declared.wire.Signal.Signal, declared.wire.Wire.Wire}
 use Rattle.kp_wires.specs.declared.wire.Signal.TheVariants.{Let, Read, Put, When, Set as SetTo, Aim, Stall, WrongGuess}
 
@@ -133,3 +133,7 @@ pub all_true : (net : Net) (job : Job) (outs : List Outcome) (names : List Scope
 unfolding wires_of
 all_true net job outs names h =
     all_below (IsTrue job net) _ job.stages.value (λ k l. stage_true job net h.pool h.nodes k (outcome_at outs k) (get_or names k no_names) (h.says.says k l) (h.named k l))
+
+pub are_wires : (net : Net) (job : Job) (outs : List Outcome) (names : List Scope) (wires : List Wire) → HasStages net job outs names → wires ≡ wires_of net job outs names
+    → AreWires net job wires
+are_wires net job outs names wires h e = record { outcomes = outs; names = names; stages = h; table = e }

@@ -2,3 +2,4 @@ pub mod Table
 pub mod Texts
 pub mod Truth
 pub mod Comments
+pub mod Statements

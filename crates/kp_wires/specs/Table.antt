@@ -1,6 +1,6 @@
 -- THE TABLE OF WIRES, stage after stage: the lets and reads of a stage in the order of its text, what it puts, sets and aims, and its stall and wrong guess. A
 -- constant isn't in it.
-use Rattle.std.specs.Prelude.{ℕ, zero, suc, Bool, true, false, if◌then◌else◌, List, [], ◌∷◌, ◌++◌, length, get_or, slice_get, Option, Some, None}
+use Rattle.std.specs.Prelude.{◌≡◌, ℕ, zero, suc, Bool, true, false, if◌then◌else◌, List, [], ◌∷◌, ◌++◌, length, get_or, slice_get, Option, Some, None}
 use Rattle.kp_ast.specs.declared.tree.{Job.Job, Stmt.Stmt, StmtKind.StmtKind}
 use Rattle.kp_ast.specs.declared.tree.StmtKind.TheVariants as stmts
 use Rattle.kp_net.specs.{Netlist.Net, Widths.no_node, declared.node.Kind.Kind, declared.node.NodeId.NodeId}
@@ -9,7 +9,7 @@ use Rattle.kp_build.specs.Names.{Scope, node_of}
 use Rattle.kp_synth_registers.specs.declared.outcome.{Outcome.Outcome, Set.Set}
 use Rattle.kp_synth_stage.specs.Work.{stmts_at}
 use Rattle.kp_synth_next.specs.Nexts.{outcome_at}
-use Rattle.kp_synth.specs.Known.{no_names}
+use Rattle.kp_synth.specs.Known.{HasStages, no_names}
 use Rattle.kp_wires.specs.declared.wire.{Signal.Signal, Wire.Wire}
 use Rattle.kp_wires.specs.declared.wire.Signal.TheVariants.{Let, Read, Put, When, Set as SetTo, Aim, Stall, WrongGuess}
 
@@ -63,3 +63,10 @@ stage_wires net job k o env =
 -- those of all stages, which have these nodes
 unfoldable pub wires_of : Net → Job → List Outcome → List Scope → List Wire
 wires_of net job outs names = below (λ k. stage_wires net job k (outcome_at outs k) (get_or names k no_names)) job.stages.value
+
+-- THE TABLE of a netlist of a job: that of nodes that mean what its stages do
+pub record AreWires (net : Net) (job : Job) (wires : List Wire) : Type 0 where
+  pub outcomes : List Outcome
+  pub names : List Scope
+  pub stages : HasStages net job outcomes names
+  pub table : wires ≡ wires_of net job outcomes names

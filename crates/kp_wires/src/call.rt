@@ -41,8 +41,8 @@ fn stmt_name(job: &Job, k: u32, j: usize) -> &[u8]
     }
 }
 
-// The bytes of the name with this number.
-fn numbered(names: &[Name], number: usize) -> &[u8]
+/// The bytes of the name with this number.
+pub(crate) fn numbered(names: &[Name], number: usize) -> &[u8]
     ensures { result.now ≡ name_at names.now number }
 {
     match names.get(number) {

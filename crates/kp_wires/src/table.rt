@@ -3,7 +3,8 @@ ghost use Rattle.std.specs.Prelude.{◌≡◌, ◌<◌, ◌++◌, length, get_or
 ghost use Rattle.kp_net.specs.Widths.{no_node};
 ghost use Rattle.kp_synth_stage.specs.Work.{stmts_at};
 ghost use Rattle.kp_wires.specs.declared.wire.Signal.TheVariants.{Aim, Put};
-ghost use Rattle.kp_wires.specs.Table.{is_constant, wire_of, bound_wire, stmt_wire, set_wires, bound_wires, put_wires, all_set_wires, aim_wires, stage_wires, wires_of};
+ghost use Rattle.kp_synth.specs.Known.{HasStages};
+ghost use Rattle.kp_wires.specs.Table.{AreWires, is_constant, wire_of, bound_wire, stmt_wire, set_wires, bound_wires, put_wires, all_set_wires, aim_wires, stage_wires, wires_of};
 
 use crate::call::stmts_of;
 use crate::{Signal, Wire};
@@ -12,28 +13,28 @@ use kp_base::NoMemory;
 use kp_build::Env;
 use kp_design::Layout;
 use kp_net::{Kind, Netlist, NodeId};
+use kp_synth::Synthesis;
 use kp_synth_registers::Outcome;
 use std::alloc::Global;
 
-/// The table of the wires of a netlist, from the nodes of what its stages do and of their names. The only error is out of memory.
-#[tactic(auto, unfolding(crate::specs::Table::wires_of))]
+/// The table of the wires of a netlist of a design, from the nodes of what its stages do and of their names. The only error is out of memory.
+#[tactic(auto, unfolding(crate::specs::Table::wires_of), using(crate::proofs::True::are_wires))]
 pub fn wires_of(
     alloc: Global,
-    net: &Netlist,
     layout: &Layout<'_>,
-    outcomes: &[Outcome],
-    names: &[Env<'_>],
+    built: &Synthesis<'_>,
 ) -> Result<Vec<Wire>, NoMemory>
-    requires outcomes { length outcomes.now ≡ layout.now.stages.value }
-    requires names { length names.now ≡ layout.now.stages.value }
-    ensures { IfOk result (λ wires. wires.items ≡ wires_of net.now layout.now outcomes.now names.now) }
+    requires stages { HasStages built.now.net layout.now built.now.outcomes.items built.now.names.items }
+    ensures table { IfOk result (λ wires. wires.items ≡ wires_of built.now.net layout.now built.now.outcomes.items built.now.names.items) }
+    ensures are { IfOk result (λ wires. AreWires built.now.net layout.now wires.items) }
 {
+    let (outcomes, names) = (built.outcomes.as_slice(), built.names.as_slice());
     let mut wires = Vec::new(alloc);
     for k in 0..layout.stages() {
         let stage = k as usize;
         add_stage(
             &mut wires,
-            net,
+            &built.net,
             layout.job(),
             k,
             &outcomes[stage],
@@ -126,9 +127,9 @@ fn add_stmt(
     add_name(wires, net, k, names, j, &stmt.kind)
 }
 
-// The statement with this number.
+/// The statement with this number.
 #[tactic(auto, using(std::proofs::lemmas::Option::slice_get_read))]
-fn stmt_at(stmts: &[Stmt], j: usize) -> &Stmt
+pub(crate) fn stmt_at(stmts: &[Stmt], j: usize) -> &Stmt
     requires { j < length stmts.now }
     ensures { slice_get stmts.now j ≡ Some result.now }
 {

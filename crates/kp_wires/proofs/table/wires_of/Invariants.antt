@@ -5,4 +5,5 @@ use Rattle.kp_wires.specs.Table.{below, stage_wires}
 use Rattle.kp_wires.proofs.table.wires_of.Given as goal
 
 abbrev pub invariant-loop-k : goal.invariant-loop-k
-invariant-loop-k l = l.wires.items ≡ below (λ k. stage_wires l.net l.layout k (outcome_at l.outcomes k) (get_or l.names k no_names)) l.k
+invariant-loop-k l =
+    l.wires.items ≡ below (λ k. stage_wires l.built.net l.layout k (outcome_at l.built.outcomes.items k) (get_or l.built.names.items k no_names)) l.k
