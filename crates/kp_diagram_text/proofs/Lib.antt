@@ -6,3 +6,4 @@ pub mod Fetches
 pub mod Steps
 pub mod InOrder
 pub mod Windows
+pub mod Labelling

@@ -5,4 +5,5 @@ pub mod Text
 pub mod Writing
 pub mod Charts
 pub mod Windows
+pub mod Labelled
 pub mod inner

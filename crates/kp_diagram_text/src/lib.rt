@@ -9,6 +9,8 @@
 mod account;
 mod cells;
 mod chart;
+mod entries;
+mod labelled;
 mod lines;
 mod pieces;
 mod summary;
@@ -19,6 +21,8 @@ mod writer;
 pub use account::{Account, Loss, account_of, losses_after};
 pub use cells::{Mark, fetches_next, mark_of, next_place};
 pub use chart::{Chart, are_names};
+pub use entries::{Entry, entries_of, retires};
+pub use labelled::{Labelled, write_labelled};
 pub use summary::{put_rate, write_rate};
 pub use text::write_text;
 pub use window::{Placed, Window, write_window};

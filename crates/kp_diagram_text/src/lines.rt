@@ -106,7 +106,7 @@ fn write_start<K: Sink>(
 
 // The cells of an instruction that is in a stage in this cycle: it is followed through the rows.
 #[tactic(auto, using(crate::proofs::InOrder::up_none))]
-fn write_cells<K: Sink>(
+pub(crate) fn write_cells<K: Sink>(
     chart: &Chart<'_>,
     width: usize,
     entered: usize,

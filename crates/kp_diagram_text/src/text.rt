@@ -56,7 +56,13 @@ pub(crate) fn write_legend<K: Sink>(writing: &mut Writing, sink: &mut K)
 }
 
 #[tactic(auto, unfolding(crate::specs::Text::title, crate::specs::Text::size_text))]
-fn write_title<K: Sink>(name: &[u8], stages: u8, count: u64, writing: &mut Writing, sink: &mut K)
+pub(crate) fn write_title<K: Sink>(
+    name: &[u8],
+    stages: u8,
+    count: u64,
+    writing: &mut Writing,
+    sink: &mut K,
+)
     ensures { Wrote (K.held sink.old) (K.faults sink.old) writing.old (K.held sink.new) (K.faults sink.new) writing.new (title name.now stages count) }
 {
     let pieces = [

@@ -84,7 +84,7 @@ fn write_window_head<K: Sink>(
 }
 
 #[tactic(auto, unfolding(crate::specs::Text::window_title))]
-fn write_window_title<K: Sink>(
+pub(crate) fn write_window_title<K: Sink>(
     name: &[u8],
     stages: u8,
     from: u64,
