@@ -11,7 +11,7 @@ use kp_base::NoMemory;
 use kp_bits::Bits;
 use kp_directive::bytes_of;
 use kp_seq::SeqMachine;
-use kp_synth_tables::Layout;
+use kp_design::Layout;
 use std::alloc::Global;
 
 /// The heading above labels, which a text names.

@@ -8,7 +8,7 @@ ghost use Rattle.kp_diagram_labels.specs.declared.label.LabelsRefused.TheVariant
 
 use kp_base::{NoMemory, Run, words_in};
 use kp_directive::bytes_of;
-use kp_synth_tables::Layout;
+use kp_design::Layout;
 use kp_until::{Index, Part, part_of};
 use std::alloc::{AllocError, AllocFailed, Global};
 

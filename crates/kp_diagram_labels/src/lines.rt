@@ -18,7 +18,7 @@ use kp_diagram_text::{Chart, Entry, Labelled, Window, entries_of, retires};
 use kp_frontend::Accepted;
 use kp_run::{Column, columns_in};
 use kp_synth::synth;
-use kp_synth_tables::Layout;
+use kp_design::Layout;
 use std::alloc::Global;
 
 /// A job with its tables, and labels of it, which a text names.
