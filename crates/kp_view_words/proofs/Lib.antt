@@ -1,3 +1,4 @@
 pub mod Asking
 pub mod Matching
 pub mod Rests
+pub mod Flags
