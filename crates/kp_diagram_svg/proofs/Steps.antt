@@ -5,7 +5,7 @@ use Rattle.kp_base.specs.declared.row.Row as masks
 use Rattle.kp_sched.specs.Rows.{row_seen, rows_seen}
 use Rattle.kp_diagram.specs.Diagram.{Cell, Fetch, Mark, cells_from, is_squashed, mark, next_place}
 use Rattle.kp_diagram_text.proofs.Fetches.{cell_at, cells_step, fetch_of, last_cells, no_cells}
-use Rattle.kp_diagram_svg.specs.Rows.{cell_text, cells_text, column_text, columns_text, row_text, rows_text}
+use Rattle.kp_diagram_svg.specs.Picture.{cell_text, cells_text, column_text, columns_text, row_text, rows_text}
 
 -- THE COLUMNS
 module _ (n half : ℕ) (rows : List masks.Row) (T : ℕ) where

@@ -3,7 +3,7 @@ use Rattle.std.proofs.Common.{◌≡◌, ◌∙◌, ℕ, ◌-◌, List, ◌++◌
 use Rattle.kp_sched.proofs.Counting.{seen_length}
 use Rattle.kp_diagram.specs.Diagram.{account, diagram}
 use Rattle.kp_diagram_text.specs.{declared.chart.Chart.Chart, Charts.ext_of, Charts.names_of, Charts.rows_of, Text.longest}
-use Rattle.kp_diagram_svg.specs.{Sizes.half_of, Symbols.head, Rows.cells_part, Foot.foot, Picture.svg_text}
+use Rattle.kp_diagram_svg.specs.{Sizes.half_of, Picture.head, Picture.cells_part, Picture.foot, Picture.svg_text}
 
 -- the parts, for any half of a cell's width, and any numbers of cycles and rows
 abbrev pub parts : Chart → ℕ → ℕ → ℕ → List ℕ

@@ -13,16 +13,16 @@ abbrev pub middle_of : ℕ → ℕ → ℕ
 middle_of half T = T * column_of half + (half + 2)
 
 -- from the top of the first of these rows of cells to the top of the row after them
-abbrev pub rows_of : ℕ → ℕ
-rows_of rows = 28 * rows
+abbrev pub rows_height : ℕ → ℕ
+rows_height rows = 28 * rows
 
 -- from the top of the picture to the line of the names in row i of the cells
 abbrev pub line_of : ℕ → ℕ
-line_of i = rows_of i + 93
+line_of i = rows_height i + 93
 
 -- from the top of the picture to the first line of the legend, which is below the cells
 abbrev pub legend_line : ℕ → ℕ
-legend_line rows = rows_of rows + 105
+legend_line rows = rows_height rows + 105
 
 -- from the left of the picture to the account, which is at the right of the legend
 abbrev pub account_left : ℕ → ℕ

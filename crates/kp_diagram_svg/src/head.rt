@@ -1,14 +1,11 @@
 // The head of a picture: its size, its title and its headline.
 ghost use Rattle.std.specs.Prelude.{◌≡◌, ◌≤◌};
-ghost use Rattle.kp_diagram_text.specs.Writing.{Wrote};
+ghost use Rattle.kp_base.specs.Writer.{Wrote};
 ghost use Rattle.kp_diagram_svg.specs.Sizes.{height_of, width_of};
-ghost use Rattle.kp_diagram_svg.specs.Symbols.{head};
-ghost use Rattle.kp_diagram_svg.specs.inner.Templates.{counted as counted_text, titles};
+ghost use Rattle.kp_diagram_svg.specs.Picture.{head, plural, shapes, title};
 
-use crate::symbols::{write_shapes, write_stages};
-use crate::template::{Template, write_templates};
-use kp_base::Sink;
-use kp_diagram_text::Writing;
+use crate::texts::{SHAPES, TITLE};
+use kp_base::{Piece, Sink, Writer};
 
 /// Writes the head of a picture of a machine of this name, with cells of this half width, and this many cycles and rows.
 pub(crate) fn write_head<K: Sink>(
@@ -17,29 +14,23 @@ pub(crate) fn write_head<K: Sink>(
     half: u64,
     cycles: u64,
     rows: u64,
-    writing: &mut Writing,
-    sink: &mut K,
+    out: &mut Writer<'_, K>,
 )
     requires half { 14 ≤ half }
     requires few { half ≤ 46 }
     requires cycles { cycles ≤ 1000 }
     requires rows { rows ≤ 1000 }
-    ensures { Wrote (K.held sink.old) (K.faults sink.old) writing.old (K.held sink.new) (K.faults sink.new) writing.new
-        (head name.now stages half cycles rows) }
+    ensures { Wrote K.held K.faults out.old out.new (head name.now stages half cycles rows) }
 {
-    let width = width(half, cycles);
-    let height = height(rows);
     write_title(
         name,
         u64::from(stages),
         cycles,
-        width,
-        height,
-        writing,
-        sink,
+        width(half, cycles),
+        height(rows),
+        out,
     );
-    write_stages(writing, sink);
-    write_shapes(half, cycles, rows, writing, sink)
+    write_shapes(half, cycles, rows, out)
 }
 
 fn width(half: u64, cycles: u64) -> u64
@@ -58,61 +49,73 @@ fn height(rows: u64) -> u64
 }
 
 // The size, the title and the headline of a picture.
-fn write_title<K: Sink>(
-    name: &[u8],
+fn write_title<'a, K: Sink>(
+    name: &'a [u8],
     stages: u64,
     cycles: u64,
     width: u64,
     height: u64,
-    writing: &mut Writing,
-    sink: &mut K,
+    out: &mut Writer<'_, K>,
 )
-    ensures { Wrote (K.held sink.old) (K.faults sink.old) writing.old (K.held sink.new) (K.faults sink.new) writing.new
-        (titles name.now stages cycles width height) }
+    ensures { Wrote K.held K.faults out.old out.new (title name.now stages cycles width height) }
 {
-    let size = [width, height, width, height];
-    let counts = [stages, cycles];
-    let words = counted(cycles);
-    let templates = [
-        Template {
-            text: b"<svg xmlns='http://www.w3.org/2000/svg' xmlns:xlink='http://www.w3.org/1999/xlink' version='1.1' width='@' height='@' viewBox='0 0 @ @' font-family='DejaVu Sans, Verdana, Helvetica, Arial, sans-serif' font-size='12' text-anchor='middle' fill='#111'>\n\
-<title>",
-            numbers: &size,
-        },
-        Template {
-            text: name,
-            numbers: &[],
-        },
-        Template {
-            text: words,
-            numbers: &counts,
-        },
-        Template {
-            text: b"</title>\n\
-<desc>A pipeline diagram: a row for each fetch of an instruction, a column for each cycle. A cell names the stage that contains the instruction.</desc>\n\
-<rect width='100%' height='100%' fill='#fff'/>\n\
-<text x='16' y='26' font-size='15' font-weight='bold' text-anchor='start'>",
-            numbers: &[],
-        },
-        Template {
-            text: name,
-            numbers: &[],
-        },
-        Template {
-            text: words,
-            numbers: &counts,
-        },
-    ];
-    write_templates(&templates, writing, sink)
+    let s = plural(cycles);
+    out.fill(
+        TITLE,
+        &[
+            Piece::Number(width),
+            Piece::Number(height),
+            Piece::Number(width),
+            Piece::Number(height),
+            Piece::Text(name),
+            Piece::Number(stages),
+            Piece::Number(cycles),
+            Piece::Text(s),
+            Piece::Text(name),
+            Piece::Number(stages),
+            Piece::Number(cycles),
+            Piece::Text(s),
+        ],
+    )
 }
 
-// What is written after the name in a caption.
-fn counted<'a>(cycles: u64) -> &'a [u8]
-    ensures { result.now ≡ counted_text cycles }
+fn plural<'a>(count: u64) -> &'a [u8]
+    ensures { result.now ≡ plural count }
 {
-    if cycles == 1 {
-        b": @ stages, @ cycle"
-    } else {
-        b": @ stages, @ cycles"
-    }
+    if count == 1 { b"" } else { b"s" }
+}
+
+// The shapes of cells of this half width, and the grid.
+fn write_shapes<K: Sink>(half: u64, cycles: u64, rows: u64, out: &mut Writer<'_, K>)
+    requires half { 14 ≤ half }
+    requires few { half ≤ 46 }
+    requires cycles { cycles ≤ 1000 }
+    requires rows { rows ≤ 1000 }
+    ensures { Wrote K.held K.faults out.old out.new (shapes half cycles rows) }
+{
+    let column = 2 * half + 4;
+    out.fill(
+        SHAPES,
+        &[
+            Piece::Number(half),
+            Piece::Number(2 * half),
+            Piece::Number(half - 6),
+            Piece::Number(2 * (half - 6)),
+            Piece::Number(half),
+            Piece::Number(half),
+            Piece::Number(half),
+            Piece::Number(half),
+            Piece::Number(half - 13),
+            Piece::Number(2 * (half - 13)),
+            Piece::Number(half - 11),
+            Piece::Number(half - 11),
+            Piece::Number(half - 11),
+            Piece::Number(half + 2),
+            Piece::Number(28 * rows),
+            Piece::Number(half + 2),
+            Piece::Number(column),
+            Piece::Number(28 * rows),
+            Piece::Number(cycles * column),
+        ],
+    )
 }

@@ -1,9 +1,10 @@
 -- The lists of lines, each as the texts of its items.
-use Rattle.std.proofs.Common.{◌≡◌, ◌∙◌, ℕ, ◌+◌, ◌-◌, ◌<◌, ◌≤◌, List, [], ◌∷◌, ◌++◌, length, get_or, take, drop, arith, refl, sym, ap, append_assoc}
-use Rattle.std.{proofs.lemmas.List.take_all, specs.Prelude.codes, specs.Prelude.flat_map}
+use Rattle.std.proofs.Common.{◌≡◌, ◌∙◌, ℕ, ◌+◌, ◌-◌, ◌<◌, ◌≤◌, List, [], ◌∷◌, ◌++◌, length, get_or, take, drop, arith, refl, sym, ap, append_assoc, ◌≢◌, ◌==◌, ne_eqb}
+use Rattle.std.{proofs.lemmas.List.take_all, proofs.lemmas.Bool.cond-false, specs.Prelude.codes, specs.Prelude.decimal, specs.Prelude.flat_map}
+use Rattle.kp_bits.specs.{Spelling.spelling, Word.word}
 use Rattle.kp_net.specs.declared.{node.NodeId.NodeId, node.Node.Node, netlist.Port.Port, netlist.NetReg.NetReg, netlist.NetFile.NetFile, netlist.Parts.Parts}
 use Rattle.kp_vlog.specs.Canon.{text_of, joined, more_parts, wire, sample_ports, reg_lines, file_lines, node_lines, start_lines, word_line, word_lines, fill_lines, update_lines, port_line, port_lines, reset_lines}
-use Rattle.kp_vwrite.specs.inner.Texts.{fixed, ranged_text, sample_text, samples_text, reg_text, regs_text, file_text, files_text, front_text, right_text, nodes_text, numbered, part_text, parts_text, joined_text, value_text, values_text, fill_text, word_text, words_text, contents_text, fills_text, update_text, updates_text, port_text, ports_text}
+use Rattle.kp_vwrite.specs.inner.Texts.{ranged_text, sample_text, samples_text, reg_text, regs_text, file_text, files_text, front_text, right_text, nodes_text, part_text, parts_text, joined_text, value_text, values_text, fill_text, word_text, words_text, contents_text, fills_text, update_text, updates_text, port_text, ports_text}
 
 pub text_append : (ps qs : List (List ℕ)) → text_of (ps ++ qs) ≡ text_of ps ++ text_of qs
 text_append [] qs = refl
@@ -15,11 +16,11 @@ each_is f lines none more [] = ap text_of none
 each_is f lines none more (x ∷ xs) = more x xs ∙ ap (λ t. f x ++ t) (each_is f lines none more xs)
 
 pub samples_are : (ss : List Port) → text_of (sample_ports ss) ≡ samples_text ss
-unfolding ranged_text numbered
+unfolding ranged_text
 samples_are = each_is sample_text sample_ports refl (λ s ss. simp append_assoc)
 
 pub regs_are : (rs : List NetReg) → text_of (reg_lines rs) ≡ regs_text rs
-unfolding ranged_text numbered
+unfolding ranged_text
 regs_are = each_is reg_text reg_lines refl (λ r rs. simp append_assoc)
 
 pub files_are : (fs : List NetFile) → text_of (file_lines fs) ≡ files_text fs
@@ -31,8 +32,8 @@ unfolding front_text right_text
 nodes_are p j [] = refl
 nodes_are p j (n ∷ ns) = simp (text_append, append_assoc, nodes_are p (j + 1) ns)
 
-parts_are : (parts : List NodeId) → text_of (more_parts parts) ≡ parts_text parts ++ fixed (codes "}")
-unfolding numbered fixed
+parts_are : (parts : List NodeId) → text_of (more_parts parts) ≡ parts_text parts ++ codes "}"
+unfolding part_text
 parts_are [] = refl
 parts_are (a ∷ parts) = ap (λ t. codes ", " ++ (wire a ++ t)) (parts_are parts) ∙ sym (append_assoc (part_text a) (parts_text parts) (codes "}"))
 
@@ -40,15 +41,15 @@ abbrev pub no_id : NodeId
 no_id = record { 0 = 0 }
 
 pub joined_at : (parts : List NodeId) → 1 ≤ length parts
-    → joined_text parts ≡ numbered (codes "{n") (get_or parts 0 no_id).0 ++ (parts_text (take (length parts - 1) (drop 1 parts)) ++ fixed (codes "}"))
-unfolding joined_text numbered fixed
+    → joined_text parts ≡ (codes "{n" ++ decimal (get_or parts 0 no_id).0) ++ (parts_text (take (length parts - 1) (drop 1 parts)) ++ codes "}")
+unfolding joined_text
 joined_at [] h = absurd (omega arith)
 joined_at (a ∷ parts) h =
     ap (λ t. codes "{" ++ (wire a ++ t)) (parts_are parts)
-    ∙ ap (λ (t : List NodeId). numbered (codes "{n") a.0 ++ (parts_text t ++ fixed (codes "}"))) (sym (take_all (length (a ∷ parts) - 1) parts (omega arith)))
+    ∙ ap (λ (t : List NodeId). (codes "{n" ++ decimal a.0) ++ (parts_text t ++ codes "}")) (sym (take_all (length (a ∷ parts) - 1) parts (omega arith)))
 
-pub joined_none : (parts : List NodeId) → length parts < 1 → joined_text parts ≡ fixed (codes "{}")
-unfolding joined_text fixed
+pub joined_none : (parts : List NodeId) → length parts < 1 → joined_text parts ≡ codes "{}"
+unfolding joined_text
 joined_none [] h = refl
 joined_none (a ∷ parts) h = absurd (omega arith)
 
@@ -64,6 +65,17 @@ words_are : (name : List ℕ) (width a : ℕ) (vs : List ℕ) → text_of (word_
 unfolding word_text
 words_are name width a [] = refl
 words_are name width a (v ∷ vs) = text_append (word_line name width a v) (word_lines name width (a + 1) vs) ∙ ap (λ t. word_text name width a v ++ t) (words_are name width (a + 1) vs)
+
+word_split : (n d s : List ℕ) → (codes "    " ++ (n ++ (codes "[" ++ (d ++ codes "] = ")))) ++ (s ++ codes ";\n") ≡ codes "    " ++ (n ++ (codes "[" ++ (d ++ (codes "] = " ++ (s ++ codes ";\n")))))
+word_split n d s = simp append_assoc
+
+-- a word that isn't 0, in the parts that are written
+pub word_is : (name : List ℕ) (width a v : ℕ) → v ≢ 0
+    → (codes "    " ++ (name ++ (codes "[" ++ (decimal a ++ codes "] = ")))) ++ (spelling (word width v) ++ codes ";\n") ≡ word_text name width a v
+unfolding word_text
+word_is name width a v some =
+    word_split name (decimal a) (spelling (word width v))
+    ∙ ap text_of (sym (cond-false (v == 0) [] (codes "    " ∷ name ∷ codes "[" ∷ decimal a ∷ codes "] = " ∷ spelling (word width v) ∷ codes ";\n" ∷ []) (ne_eqb v 0 some)))
 
 pub fills_are : (fs : List NetFile) → text_of (fill_lines fs) ≡ fills_text fs
 unfolding fill_text

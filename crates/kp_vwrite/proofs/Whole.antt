@@ -3,7 +3,7 @@ use Rattle.std.proofs.Common.{◌≡◌, ◌∙◌, ℕ, ◌-◌, Bool, true, fa
 use Rattle.std.specs.Prelude.{codes, decimal}
 use Rattle.kp_net.specs.{declared.node.Node.Node, declared.netlist.Parts.Parts, Widths.wide, Netlist.Net}
 use Rattle.kp_vlog.specs.Canon.{canon, text_of, header, reset_port, sample_ports, out_ports, reg_lines, file_lines, integer_line, node_lines, out_line, start_lines, fill_lines, update_lines, port_lines, change_lines, reset_lines, body_lines}
-use Rattle.kp_vwrite.specs.inner.Texts.{fixed, reset_text, start_text, outputs_text, header_text, outs_text, samples_text, integer_text, changes_text, body_text, whole_text}
+use Rattle.kp_vwrite.specs.inner.Texts.{reset_text, start_text, outputs_text, header_text, outs_text, samples_text, integer_text, changes_text, body_text, whole_text}
 use Rattle.kp_vwrite.proofs.Lines.{text_append, samples_are, regs_are, files_are, nodes_are, starts_are, resets_are, fills_are, updates_are, ports_are}
 
 header_split : (m n c r i x k s o : List ℕ) → m ++ (n ++ (c ++ (r ++ (i ++ (x ++ (k ++ (s ++ o))))))) ≡ (m ++ (n ++ (c ++ (r ++ (i ++ (x ++ (k ++ []))))))) ++ (s ++ o)
@@ -29,7 +29,6 @@ body_split : (r c : List (List ℕ)) (x y z : List ℕ) → text_of (x ∷ (r ++
 body_split r c x y z = simp (text_append, append-nil)
 
 body_is : (reset : Bool) (p : Parts) → text_of (body_lines reset p) ≡ body_text reset p
-unfolding fixed
 body_is false p = changes_are (codes "    ") p
 body_is true p =
     body_split (reset_lines p.regs) (change_lines (codes "      ") p) (codes "    if (rst) begin\n") (codes "    end else begin\n") (codes "    end\n")
@@ -41,7 +40,7 @@ split : (h r f i n o s w b : List (List ℕ)) (y z front : List ℕ) → text_of
 split h r f i n o s w b y z front is = rw (← is) (simp (text_append, append_assoc, append-nil))
 
 pub canon_is : (net : Net) → canon net ≡ whole_text net
-unfolding canon integer_text outs_text fixed
+unfolding canon integer_text outs_text
 canon_is net =
     let p = net.parts in
     let outs = out_line (codes "full") p.full ++ (out_line (codes "ue") p.ue ++ (out_line (codes "back") p.back ++ (codes "  initial begin\n" ∷ []))) in

@@ -1,3 +1,2 @@
 -- For private contracts and proofs of this crate only: no public clause depends on it.
-pub mod Passing
 pub mod Texts

@@ -3,8 +3,6 @@
 
 mod header;
 mod nodes;
-mod page;
-mod pieces;
 mod state;
 mod writer;
 

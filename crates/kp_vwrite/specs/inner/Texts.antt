@@ -5,29 +5,13 @@ use Rattle.kp_net.specs.declared.node.{NodeId.NodeId, Kind.Kind, Kind.TheVariant
 use Rattle.kp_net.specs.declared.{node.Node.Node, netlist.Port.Port, netlist.NetReg.NetReg, netlist.NetFile.NetFile, netlist.Parts.Parts}
 use Rattle.kp_net.specs.{Widths.wide, Widths.no_node, Netlist.Net}
 use Rattle.kp_vlog.specs.Canon.{text_of, right_side, joined, out_ports, out_line, integer_line, word_line, port_line}
-use Rattle.kp_vwrite.specs.declared.pieces.Piece.{Piece, TheVariants.Text, TheVariants.Numbered, TheVariants.Literal, TheVariants.Joined}
 
 unfoldable pub joined_text : List NodeId → List ℕ
 joined_text parts = text_of (joined parts)
 
--- a number after this text
-unfoldable pub numbered : List ℕ → ℕ → List ℕ
-numbered front n = front ++ decimal n
-
--- the text of a piece
-abbrev pub piece_text : Piece → List ℕ
-piece_text (Text text) = text.now
-piece_text (Numbered front n) = numbered front.now n
-piece_text (Literal value) = spelling value
-piece_text (Joined parts) = joined_text parts.now
-
--- a text that is the same for all netlists; sealed, so that a search treats it as one term
-unfoldable pub fixed : List ℕ → List ℕ
-fixed text = text
-
 -- a name with the range of its bits, as `input wire [7:0] s_Q, `
 unfoldable pub ranged_text : List ℕ → ℕ → List ℕ → List ℕ → List ℕ
-ranged_text front width name end = text_of (numbered front (width - 1) ∷ codes ":0] " ∷ name ∷ end ∷ [])
+ranged_text front width name end = text_of (front ∷ decimal (width - 1) ∷ codes ":0] " ∷ name ∷ end ∷ [])
 
 -- the header
 abbrev pub reset_text : Bool → List ℕ
@@ -77,8 +61,8 @@ front_text j n = text_of (codes "  wire [" ∷ decimal (n.width - 1) ∷ codes "
 unfoldable pub right_text : Parts → ℕ → Kind → List ℕ
 right_text p k kind = text_of (right_side p k kind ++ (codes ";\n" ∷ []))
 
-abbrev pub part_text : NodeId → List ℕ
-part_text a = numbered (codes ", n") a.0
+unfoldable pub part_text : NodeId → List ℕ
+part_text a = codes ", n" ++ decimal a.0
 
 abbrev pub parts_text : List NodeId → List ℕ
 parts_text parts = flat_map part_text parts
@@ -142,11 +126,11 @@ changes_text margin p = updates_text margin p.regs ++ ports_text margin p.files
 abbrev pub body_text : Bool → Parts → List ℕ
 body_text false p = changes_text (codes "    ") p
 body_text true p =
-    fixed (codes "    if (rst) begin\n")
-    ++ (values_text (codes "      ") (codes " <= ") p.regs ++ (fixed (codes "    end else begin\n") ++ (changes_text (codes "      ") p ++ fixed (codes "    end\n"))))
+    codes "    if (rst) begin\n"
+    ++ (values_text (codes "      ") (codes " <= ") p.regs ++ (codes "    end else begin\n" ++ (changes_text (codes "      ") p ++ codes "    end\n")))
 
 abbrev pub clock_text : Parts → List ℕ
-clock_text p = fixed (codes "  end\n  always @(posedge clk) begin\n") ++ (body_text p.reset p ++ fixed (codes "  end\nendmodule\n"))
+clock_text p = codes "  end\n  always @(posedge clk) begin\n" ++ (body_text p.reset p ++ codes "  end\nendmodule\n")
 
 abbrev pub whole_text : Net → List ℕ
 whole_text net =

@@ -4,8 +4,8 @@ use Rattle.kp_base.specs.declared.row.Row.{Row}
 use Rattle.kp_pipeline.specs.Rows.{counts}
 use Rattle.kp_sched.specs.{Monitors.HasSeen, Rows.rows_seen}
 use Rattle.kp_diagram_text.{specs.Charts.ext_of, specs.Charts.names_of, proofs.Fetches.fetches_end, proofs.Fetches.fetches_step, proofs.Fetches.take_next}
-use Rattle.kp_diagram_text.proofs.InOrder.{up_next, up_end}
-use Rattle.kp_diagram_svg.{specs.Rows.rows_text, proofs.Steps.row_after_few, proofs.Steps.rows_next}
+use Rattle.kp_base.proofs.Writing.{up_next, up_end}
+use Rattle.kp_diagram_svg.{specs.Picture.rows_text, proofs.Steps.row_after_few, proofs.Steps.rows_next}
 use Rattle.kp_diagram_svg.proofs.rows.write_rows.Goals as goal
 
 pub cycle-requires : goal.cycle-requires
@@ -26,7 +26,7 @@ loop-cycle-preserved g c =
     ∙ ap₂ (λ (n U : ℕ). counts n (rows_seen n (take T chart.rows.now)) U 0) c.loop-cycle.invariant.stages many in
     let step = fetches_step chart.stages (ext_of chart) chart.rows.now T _ _ c.loop-cycle-test.true refl c.loop-cycle.enters _ c.count-number.result c.fetches_next-enters.ensures number in
     record {
-      text = up_next _ _ _ _ _ _ _ _ _ _ _ _ _ (rows_next c.args.half (names_of chart) c.loop-cycle.i _ c.count-number.result _ c.loop-cycle.enters _ _ step c.row_after-i.ensures)
+      text = up_next _ _ _ _ _ _ _ (rows_next c.args.half (names_of chart) c.loop-cycle.i _ c.count-number.result _ c.loop-cycle.enters _ _ step c.row_after-i.ensures)
           c.loop-cycle.invariant.text c.write_fetch.ensures;
       few = row_after_few c.loop-cycle.i _ T c.loop-cycle.enters c.row_after-i.ensures c.loop-cycle.invariant.few;
       stages = c.cycle.ensures.stages ∙ c.loop-cycle.invariant.stages;
@@ -38,6 +38,6 @@ loop-cycle-preserved g c =
 pub returns : goal.returns
 returns g c =
     let chart = c.args.chart.now in
-    up_end _ _ _ _ _ _ _ _
+    up_end _ _ _ _
     (ap (rows_text c.args.half (names_of chart) c.loop-cycle.i) (fetches_end chart.stages (ext_of chart) chart.rows.now c.loop-cycle.cycle _ c.loop-cycle.enters (omega arith)))
     c.loop-cycle.invariant.text

@@ -1,6 +1,7 @@
-use Rattle.kp_vwrite.specs.inner.Texts.{start_text, numbered}
+use Rattle.kp_base.specs.Texts.{filled}
+use Rattle.kp_vwrite.specs.inner.Texts.{start_text}
 use Rattle.kp_vwrite.proofs.header.write_start.Goals as goal
 
 pub returns : goal.returns
-unfolding start_text numbered
-returns g c = rw (c.bytes.ensures.bytes, c.reset_piece.ensures, c.from.ensures) at c.put_pieces.ensures
+unfolding start_text filled
+returns g c = rw (c.bytes.ensures.bytes, c.reset_piece.ensures, c.from.ensures) at c.fill.ensures

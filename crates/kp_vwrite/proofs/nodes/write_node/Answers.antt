@@ -1,6 +1,8 @@
-use Rattle.kp_vwrite.{specs.inner.Texts.front_text, specs.inner.Texts.numbered, proofs.Passing.wrote_next}
+use Rattle.kp_base.specs.Texts.{filled}
+use Rattle.kp_base.proofs.Writing.{◌▷◌}
+use Rattle.kp_vwrite.specs.inner.Texts.{front_text}
 use Rattle.kp_vwrite.proofs.nodes.write_node.Goals as goal
 
 pub returns : goal.returns
-unfolding front_text numbered
-returns g c = wrote_next _ _ _ _ _ _ _ _ _ _ _ (rw c.from.ensures at c.put_pieces.ensures) (rw c.right.ensures at c.put_pieces-2.ensures)
+unfolding front_text filled
+returns g c = (rw c.from-top.ensures at c.fill.ensures) ▷ c.write_right.ensures

@@ -1,5 +1,5 @@
-use Rattle.kp_vwrite.proofs.Passing.{wrote_next}
+use Rattle.kp_base.proofs.Writing.{◌▷◌}
 use Rattle.kp_vwrite.proofs.state.write_changes.Goals as goal
 
 pub returns : goal.returns
-returns g c = wrote_next _ _ _ _ _ _ _ _ _ _ _ (rw c.as_slice.ensures at c.write_updates.ensures) (rw c.as_slice-2.ensures at c.write_ports.ensures)
+returns g c = (rw c.as_slice.ensures at c.write_updates.ensures) ▷ (rw c.as_slice-2.ensures at c.write_ports.ensures)

@@ -1,6 +1,9 @@
-use Rattle.kp_vwrite.specs.inner.Texts.{fill_text, numbered}
+use Rattle.std.proofs.Common.{append_assoc, append-nil}
+use Rattle.kp_base.specs.Texts.{filled}
+use Rattle.kp_base.proofs.Writing.{◌▷◌, wrote_as}
+use Rattle.kp_vwrite.specs.inner.Texts.{fill_text}
 use Rattle.kp_vwrite.proofs.state.write_fill.Goals as goal
 
 pub returns : goal.returns
-unfolding fill_text numbered
-returns g c = rw (c.from.ensures, c.word_count.ensures.value, c.bytes.ensures.bytes, c.word_of-zero.ensures) at c.put_pieces.ensures
+unfolding fill_text filled
+returns g c = wrote_as _ _ _ _ (simp (append_assoc, append-nil)) ((rw (c.from-count.ensures, c.word_count.ensures.value, c.bytes.ensures.bytes) at c.fill.ensures) ▷ ((rw c.word_of.ensures at c.write_literal.ensures) ▷ c.put.ensures))

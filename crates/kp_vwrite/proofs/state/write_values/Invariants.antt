@@ -1,8 +1,8 @@
 use Rattle.std.proofs.Common.{take}
-use Rattle.kp_vwrite.specs.inner.{Passing.Wrote, Texts.values_text}
+use Rattle.kp_base.specs.Writer.{Wrote}
+use Rattle.kp_vwrite.specs.inner.Texts.{values_text}
 use Rattle.kp_vwrite.proofs.state.write_values.Given as goal
 
 abbrev pub invariant-loop-reg : goal.invariant-loop-reg
 invariant-loop-reg g l =
-    Wrote (g.K.Sink.held l.initial.sink) (g.K.Sink.faults l.initial.sink) l.initial.out (g.K.Sink.held l.sink) (g.K.Sink.faults l.sink) l.out
-    (values_text l.margin l.sign (take l.reg-index l.regs))
+    Wrote g.K.Sink.held g.K.Sink.faults l.initial.out l.out (values_text l.margin l.sign (take l.reg-index l.regs))

@@ -1,4 +1,5 @@
-use Rattle.kp_vwrite.proofs.{Passing.wrote_next, Safe.net_files_safe, Safe.nodes_safe}
+use Rattle.kp_base.proofs.Writing.{◌▷◌}
+use Rattle.kp_vwrite.proofs.{Safe.net_files_safe, Safe.nodes_safe, Whole.canon_is}
 use Rattle.kp_vwrite.proofs.writer.write_whole.Goals as goal
 
 pub write_files-requires : goal.write_files-requires
@@ -12,10 +13,9 @@ write_fills-requires g c = rw (c.as_slice-files.ensures, c.parts-parts.ensures.p
 
 pub returns : goal.returns
 returns g c =
-    wrote_next _ _ _ _ _ _ _ _ _ _ _ c.write_header.ensures
-    (rw c.parts-parts.ensures.parts at
-    (wrote_next _ _ _ _ _ _ _ _ _ _ _ (rw (c.as_slice-regs.ensures, c.as_slice-files.ensures) at (wrote_next _ _ _ _ _ _ _ _ _ _ _ c.write_regs.ensures (wrote_next _ _ _ _ _ _ _ _ _ _ _ c.write_files.ensures c.write_integer.ensures)))
-    (wrote_next _ _ _ _ _ _ _ _ _ _ _ (rw c.nodes.ensures.nodes at c.write_nodes.ensures)
-    (wrote_next _ _ _ _ _ _ _ _ _ _ _ c.write_outs.ensures
-    (wrote_next _ _ _ _ _ _ _ _ _ _ _ (rw (c.as_slice-regs.ensures, c.as_slice-files.ensures) at (wrote_next _ _ _ _ _ _ _ _ _ _ _ c.write_values.ensures c.write_fills.ensures))
-    (wrote_next _ _ _ _ _ _ _ _ _ _ _ c.put_fixed.ensures (wrote_next _ _ _ _ _ _ _ _ _ _ _ c.write_body.ensures c.put_fixed-2.ensures)))))))
+    rw (canon_is c.args.net.now)
+    (c.write_header.ensures
+    ▷ (rw c.parts-parts.ensures.parts at
+    ((rw (c.as_slice-regs.ensures, c.as_slice-files.ensures) at (c.write_regs.ensures ▷ (c.write_files.ensures ▷ c.write_integer.ensures)))
+    ▷ ((rw c.nodes.ensures.nodes at c.write_nodes.ensures) ▷ (c.write_outs.ensures
+    ▷ ((rw (c.as_slice-regs.ensures, c.as_slice-files.ensures) at (c.write_values.ensures ▷ c.write_fills.ensures)) ▷ (c.put.ensures ▷ (c.write_body.ensures ▷ c.put-2.ensures))))))))
