@@ -1,2 +1,1 @@
 pub mod Comments
-pub mod Turns

@@ -106,3 +106,15 @@ def compare(machine, program):
     same = seq == program.seq() and (is_cut or tally.cycles is not None and values(sim) == values(program.seq()))
     line = f"{machine:7} {program.name:9} {'same' if same else 'DIFFERENT'}: {tally.text()}; "
     return same, line + f'seq {seq_seconds:.2f} s, sim {cycles} {sim_seconds:.2f} s', tally
+
+
+def check_machine(path, program, work):
+    """(whether a machine of one's own ends a program in the expected state, a line of text): `kprun` runs it to its end on the pipelined machine of the job
+    at this path, and compares every register and every word of data."""
+    expected = os.path.join(work, program.name + '.expect')
+    with open(expected, 'w', encoding='ascii') as it:
+        it.write(program.expected + "X[..] = 32'h00000000\nDM[..] = 32'h00000000\n")
+    job = text_of(path).rpartition('end')[0] + program.image + 'end\n'
+    done = subprocess.run([built('kprun'), 'run', '--quiet', '--expect', expected], input=job.encode(), capture_output=True)
+    said = ' '.join((done.stdout or done.stderr).decode().splitlines())
+    return done.returncode == 0, f"{program.name:9} {'same' if done.returncode == 0 else 'DIFFERENT'}: {said}"
