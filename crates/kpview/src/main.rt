@@ -2,222 +2,145 @@
 //! `explain`, that of `same`, which has two files, or that of all other words. The help of `explain` is printed here.
 #![tactic(auto)]
 
-use kp_base::{NoMemory, StdSink, StdSource, write_all, write_pieces};
+use kp_base::{NoMemory, StdSink, StdSource, write_all};
 use kp_command_line::Input;
+use kp_program::{PAGE, STDIN, Stop, ended, opened, status_after, unless_stopped, words};
 use kp_view::view;
 use kp_view_explain::{HELP, Order, asks_help, explain_source};
-use kp_view_same::{Side, Stop, same_sources};
+use kp_view_same::{Side, same_sources};
 use kp_view_words::{Pair, Request};
-use std::alloc::AllocError;
-use std::env::Env;
+use std::io;
 use std::io::{BufWriter, ErrorKind, Read};
 use std::process::ExitCode;
-use std::{env, fs, io};
-
-/// The status if reading failed.
-const UNREAD: u8 = 3;
-
-/// The status if writing failed.
-const UNWRITTEN: u8 = 4;
-
-/// The status if the arguments or a page of output can't be allocated.
-const NO_MEMORY: u8 = 5;
-
-/// The size of a page in bytes.
-const PAGE: usize = 65_536;
-
-/// The name of standard input in messages.
-const STDIN: &[u8] = b"<stdin>";
 
 fn main(rt: HostRuntime) -> ExitCode {
+    let mut err = StdSink::new(rt.stderr());
     let status = match words(&rt) {
-        Ok(words) => match Pair::of(&words) {
-            Some(pair) => same(&rt, &pair),
-            None => report(&rt, run(&rt, &words)),
-        },
-        Err(AllocError) => report(&rt, NO_MEMORY),
+        Ok(words) => status_after("kpview", run(&rt, &words), &mut err),
+        Err(NoMemory) => status_after("kpview", Err(Stop::NoMemory), &mut err),
     };
     ExitCode::from(status)
 }
 
-// The arguments after the program's name. If one isn't UTF-8, a single empty argument is returned in place of all of them, which isn't accepted.
-fn words(rt: &(impl Env + AllocGlobal)) -> Result<Vec<String>, AllocError> {
-    let mut words = Vec::new(rt.alloc());
-    match env::args(rt) {
-        Ok(args) => {
-            for word in args.skip(1) {
-                words.push(word)?;
-            }
-        }
-        Err(error) if error.kind() == ErrorKind::OutOfMemory => return Err(AllocError),
-        Err(_) => words.push(String::new(rt.alloc()))?,
-    }
-    Ok(words)
-}
-
 // Does what the words ask for.
-fn run(rt: &HostRuntime, words: &[String]) -> u8 {
+fn run<'w>(rt: &HostRuntime, words: &'w [String]) -> Result<u8, Stop<'w>> {
+    if let Some(pair) = Pair::of(words) {
+        return same(rt, &pair);
+    }
     if asks_help(words) {
         return help(rt);
     }
-    match Order::of(rt.alloc(), words) {
-        Ok(Some(order)) => explain(rt, &order),
-        Ok(None) => view_words(rt, words),
-        Err(NoMemory) => NO_MEMORY,
+    match Order::of(rt.alloc(), words)? {
+        Some(order) => explain(rt, &order),
+        None => view_words(rt, words),
     }
 }
 
-// Does what words other than those of `explain` ask for.
-fn view_words(rt: &HostRuntime, words: &[String]) -> u8 {
-    let request = match Request::of(rt.alloc(), words) {
-        Ok(request) => request,
-        Err(NoMemory) => return NO_MEMORY,
-    };
+// Does what words other than those of `explain` and `same` ask for.
+fn view_words<'w>(rt: &HostRuntime, words: &'w [String]) -> Result<u8, Stop<'w>> {
+    let request = Request::of(rt.alloc(), words)?;
     match request.file() {
-        Some(file) => on_file(rt, &request, file.as_str()),
-        None => on_source(rt, &request, rt.reader()),
+        Some(file) => view_reader(rt, &request, file.as_str(), opened(rt, file.as_str())?),
+        None => view_reader(rt, &request, STDIN, rt.reader()),
     }
 }
 
-// The same over a file.
-fn on_file(rt: &HostRuntime, request: &Request<'_>, file: &str) -> u8 {
-    match fs::open(rt, file) {
-        Ok(reader) => on_source(rt, request, reader),
-        Err(error) if error.kind() == ErrorKind::OutOfMemory => NO_MEMORY,
-        Err(_) => UNREAD,
-    }
-}
-
-// The same over a reader.
-fn on_source<R: Read + Drop>(rt: &HostRuntime, request: &Request<'_>, reader: R) -> u8 {
+// The same over a reader, under the name of its file.
+fn view_reader<'n, R: Read + Drop>(
+    rt: &HostRuntime,
+    request: &Request<'_>,
+    name: &'n str,
+    reader: R,
+) -> Result<u8, Stop<'n>> {
     let Ok(writer) = BufWriter::with_capacity(rt.alloc(), PAGE, io::writer(rt)) else {
-        return NO_MEMORY;
+        return Err(Stop::NoMemory);
     };
     let mut source = StdSource::new(reader);
     let mut out = StdSink::new(writer);
     let mut err = StdSink::new(rt.stderr());
     let status = view(rt.alloc(), request, &mut source, &mut out, &mut err);
-    match out.finish() {
-        Ok(()) => status,
-        Err(_) => UNWRITTEN,
-    }
+    ended(status, name, &mut out)
 }
 
 // Prints the help of `explain`.
-fn help(rt: &HostRuntime) -> u8 {
+fn help<'n>(rt: &HostRuntime) -> Result<u8, Stop<'n>> {
     match write_all(&mut StdSink::new(io::writer(rt)), HELP.as_bytes()) {
-        Ok(()) => 0,
-        Err(_) => UNWRITTEN,
+        Ok(()) => Ok(0),
+        Err(_) => Err(Stop::Unwritten),
     }
 }
 
 // Explains a file, or standard input.
-fn explain(rt: &HostRuntime, order: &Order<'_>) -> u8 {
-    let Some(file) = order.file else {
-        return explain_reader(rt, STDIN, order, rt.reader());
-    };
-    match fs::open(rt, file.as_str()) {
-        Ok(reader) => explain_reader(rt, file.as_bytes(), order, reader),
-        Err(error) if error.kind() == ErrorKind::OutOfMemory => NO_MEMORY,
-        Err(_) => UNREAD,
+fn explain<'w>(rt: &HostRuntime, order: &Order<'w>) -> Result<u8, Stop<'w>> {
+    match order.file {
+        Some(file) => explain_reader(rt, order, file.as_str(), opened(rt, file.as_str())?),
+        None => explain_reader(rt, order, STDIN, rt.reader()),
     }
 }
 
 // Explains what a reader has, under the name of its file.
-fn explain_reader<R: Read + Drop>(
+fn explain_reader<'n, R: Read + Drop>(
     rt: &HostRuntime,
-    name: &[u8],
     order: &Order<'_>,
+    name: &'n str,
     reader: R,
-) -> u8 {
+) -> Result<u8, Stop<'n>> {
     let mut source = StdSource::new(reader);
     let mut err = StdSink::new(rt.stderr());
-    explain_source(
+    let status = explain_source(
         rt.alloc(),
-        name,
+        name.as_bytes(),
         order.subject,
         order.strict,
         &mut source,
         &mut err,
-    )
+    );
+    unless_stopped(status, name)
 }
 
 // Says whether the jobs of two inputs are the same.
-fn same(rt: &HostRuntime, pair: &Pair<'_>) -> u8 {
-    let Some(file) = pair.first.file else {
-        return same_with(rt, STDIN, rt.reader(), pair.second);
-    };
-    match fs::open(rt, file.as_str()) {
-        Ok(reader) => same_with(rt, file.as_bytes(), reader, pair.second),
-        Err(error) => unopened(rt, file.as_bytes(), error.kind()),
+fn same<'w>(rt: &HostRuntime, pair: &Pair<'w>) -> Result<u8, Stop<'w>> {
+    match pair.first.file {
+        Some(file) => same_with(rt, file.as_str(), opened(rt, file.as_str())?, pair.second),
+        None => same_with(rt, STDIN, rt.reader(), pair.second),
     }
 }
 
 // The same where the first input is that of a reader.
-fn same_with<R: Read + Drop>(rt: &HostRuntime, name: &[u8], reader: R, second: Input<'_>) -> u8 {
-    let Some(file) = second.file else {
-        return same_readers(rt, name, reader, STDIN, rt.reader());
-    };
-    match fs::open(rt, file.as_str()) {
-        Ok(other) => same_readers(rt, name, reader, file.as_bytes(), other),
-        Err(error) => unopened(rt, file.as_bytes(), error.kind()),
+fn same_with<'n, R: Read + Drop>(
+    rt: &HostRuntime,
+    name: &'n str,
+    reader: R,
+    second: Input<'n>,
+) -> Result<u8, Stop<'n>> {
+    match second.file {
+        Some(file) => same_readers(rt, name, reader, file.as_str(), opened(rt, file.as_str())?),
+        None => same_readers(rt, name, reader, STDIN, rt.reader()),
     }
 }
 
 // The same of two readers.
-fn same_readers<R: Read + Drop, Q: Read + Drop>(
+fn same_readers<'n, R: Read + Drop, Q: Read + Drop>(
     rt: &HostRuntime,
-    name: &[u8],
+    name: &'n str,
     reader: R,
-    other: &[u8],
+    other: &'n str,
     second: Q,
-) -> u8 {
+) -> Result<u8, Stop<'n>> {
     let end = same_sources(
         rt.alloc(),
-        name,
+        name.as_bytes(),
         &mut StdSource::new(reader),
-        other,
+        other.as_bytes(),
         &mut StdSource::new(second),
         &mut StdSink::new(io::writer(rt)),
         &mut StdSink::new(rt.stderr()),
     );
     match end {
-        Ok(status) => status,
-        Err(Stop::Unread(Side::First)) => unread(rt, name),
-        Err(Stop::Unread(Side::Second)) => unread(rt, other),
-        Err(Stop::Unwritten) => report(rt, UNWRITTEN),
-        Err(Stop::NoMemory) => report(rt, NO_MEMORY),
+        Ok(status) => Ok(status),
+        Err(kp_view_same::Stop::Unread(Side::First)) => Err(Stop::at(name, ErrorKind::Other)),
+        Err(kp_view_same::Stop::Unread(Side::Second)) => Err(Stop::at(other, ErrorKind::Other)),
+        Err(kp_view_same::Stop::Unwritten) => Err(Stop::Unwritten),
+        Err(kp_view_same::Stop::NoMemory) => Err(Stop::NoMemory),
     }
-}
-
-// A file of `same` can't be opened.
-fn unopened(rt: &HostRuntime, name: &[u8], kind: ErrorKind) -> u8 {
-    if kind == ErrorKind::OutOfMemory {
-        report(rt, NO_MEMORY)
-    } else {
-        unread(rt, name)
-    }
-}
-
-// Says on standard error that one of two inputs couldn't be read. A failure here is ignored, as in `report`.
-fn unread(rt: &HostRuntime, name: &[u8]) -> u8 {
-    let pieces = [
-        b"kpview: reading failed: ".as_slice(),
-        name,
-        b"\n".as_slice(),
-    ];
-    let _ = write_pieces(&mut StdSink::new(rt.stderr()), &pieces);
-    UNREAD
-}
-
-// Says on standard error why nothing, or not all, was printed, and returns the status. The status says the same, so a failure here is ignored.
-fn report(rt: &HostRuntime, status: u8) -> u8 {
-    let reason = match status {
-        UNREAD => "kpview: reading failed\n",
-        UNWRITTEN => "kpview: writing failed\n",
-        NO_MEMORY => "kpview: out of memory\n",
-        _ => return status,
-    };
-    let _ = write_all(&mut StdSink::new(rt.stderr()), reason.as_bytes());
-    status
 }
