@@ -12,14 +12,14 @@ use Rattle.kp_diagram_svg.specs.declared.texts.TheConstants.{TITLE, SHAPES, COLU
 abbrev pub plural : ℕ → List ℕ
 plural count = if count == 1 then [] else codes "s"
 
-abbrev pub title : List ℕ → ℕ → ℕ → ℕ → ℕ → List ℕ
+abbrev pub title : List ℕ → (stages cycles width height : ℕ) → List ℕ
 title name n cycles width height =
     filled TITLE.now
     (decimal width ∷ decimal height ∷ decimal width ∷ decimal height ∷ name ∷ decimal n ∷ decimal cycles ∷ plural cycles
     ∷ name ∷ decimal n ∷ decimal cycles ∷ plural cycles ∷ [])
 
 -- the shapes of cells of this half width: the box and its field, the cross and its field, where a sign is in a cell, and the grid
-abbrev pub shapes : ℕ → ℕ → ℕ → List ℕ
+abbrev pub shapes : (half cycles rows : ℕ) → List ℕ
 shapes half cycles rows =
     filled SHAPES.now
     (decimal half ∷ decimal (2 * half) ∷ decimal (half - 6) ∷ decimal (2 * (half - 6))
@@ -27,7 +27,7 @@ shapes half cycles rows =
     ∷ decimal (half - 11) ∷ decimal (half - 11) ∷ decimal (half - 11)
     ∷ decimal (half + 2) ∷ decimal (rows_height rows) ∷ decimal (half + 2) ∷ decimal (column_of half) ∷ decimal (rows_height rows) ∷ decimal (cycles * column_of half) ∷ [])
 
-abbrev pub head : List ℕ → ℕ → ℕ → ℕ → ℕ → List ℕ
+abbrev pub head : List ℕ → (stages half cycles rows : ℕ) → List ℕ
 head name n half cycles rows = title name n cycles (width_of half cycles) (height_of rows) ++ shapes half cycles rows
 
 -- THE COLUMNS of the cycles from cycle T on: a guess was wrong where a row squashes stage 0.
@@ -47,7 +47,7 @@ look Held = 3
 look Squashed = 4
 
 -- A CELL has the colour of its stage, the look of its mark, and the stage's name; a pointer on it shows the instruction and the cycle.
-abbrev pub cell_start : ℕ → ℕ → ℕ → ℕ → ℕ → List ℕ
+abbrev pub cell_start : (half number cycle stage look : ℕ) → List ℕ
 cell_start half number T k look = filled CELL.now (decimal (middle_of half T) ∷ decimal number ∷ decimal T ∷ decimal k ∷ decimal look ∷ [])
 
 abbrev pub cell_text : ℕ → List (List ℕ) → ℕ → Cell → List ℕ
@@ -69,7 +69,7 @@ abbrev pub cells_part : ℕ → List (List ℕ) → List pipeline.Row → List F
 cells_part half names rows fetches = COLUMNS.now ++ (columns_text half 0 rows ++ (ROW_END.now ++ rows_text half names 0 fetches))
 
 -- THE FOOT: the legend, and the account at the right of it, with the cycles per instruction, `1.53`, or `-` where nothing retired.
-abbrev pub table : ℕ → ℕ → ℕ → Account → List ℕ
+abbrev pub table : (half y cycles : ℕ) → Account → List ℕ
 table half y cycles a =
     filled FOOT.now
     (decimal (half + 16) ∷ decimal y ∷ decimal (2 * half + 26) ∷ decimal y ∷ decimal (account_left half) ∷ decimal y ∷ decimal (account_left half + 212) ∷ decimal y
@@ -78,7 +78,7 @@ table half y cycles a =
 abbrev pub rate_shown : ℕ → ℕ → List ℕ
 rate_shown cycles retired = if retired == 0 then codes "-" else rate cycles retired
 
-abbrev pub foot : ℕ → ℕ → ℕ → Account → List ℕ
+abbrev pub foot : (half cycles rows : ℕ) → Account → List ℕ
 foot half cycles rows a = table half (legend_line rows) cycles a ++ (rate_shown cycles a.retired ++ END.now)
 
 -- The picture of a figure, with the rows of its run.

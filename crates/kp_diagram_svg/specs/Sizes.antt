@@ -9,7 +9,7 @@ abbrev pub column_of : ℕ → ℕ
 column_of half = 2 * half + 4
 
 -- from the left edge of cycle 0 to the middle of the column of cycle T
-abbrev pub middle_of : ℕ → ℕ → ℕ
+abbrev pub middle_of : (half cycle : ℕ) → ℕ
 middle_of half T = T * column_of half + (half + 2)
 
 -- from the top of the first of these rows of cells to the top of the row after them
@@ -29,7 +29,7 @@ abbrev pub account_left : ℕ → ℕ
 account_left half = 2 * half + 228
 
 -- THE WIDTH and THE HEIGHT of a picture with this many cycles and rows of cells.
-abbrev pub width_of : ℕ → ℕ → ℕ
+abbrev pub width_of : (half cycles : ℕ) → ℕ
 width_of half cycles = max (account_left half + 288) (cycles * column_of half + 116)
 
 abbrev pub height_of : ℕ → ℕ

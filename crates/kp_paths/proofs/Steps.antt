@@ -1,19 +1,15 @@
 -- The steps of the loops that write the table.
-use Rattle.std.proofs.Common.{◌≡◌, ◌∙◌, ℕ, suc, ◌+◌, ◌-◌, ◌<◌, List, ◌∷◌, ◌++◌, length, get_or, drop, decimal, Option, ap, sym, subst, arith}
+use Rattle.std.proofs.Common.{◌≡◌, ◌∙◌, ℕ, suc, ◌+◌, ◌-◌, ◌<◌, List, ◌∷◌, ◌++◌, length, get_or, drop, decimal, ap, sym, arith}
 use Rattle.std.proofs.lemmas.List.{drop_more}
-use Rattle.kp_base.specs.inner.Bytes.{WrittenUpTo}
+use Rattle.kp_base.specs.Texts.{in_column}
 use Rattle.kp_ast.specs.declared.tree.{Job.Job, ReadStmt.ReadStmt, Stmt.Stmt, Block.Block}
-use Rattle.kp_paths.specs.{Table.cell_at, Text.at_right, Text.cell_word, Text.cells_text, Text.numbers_text, Text.rows_from, Text.rows_in, Text.rows_of}
+use Rattle.kp_paths.specs.{Table.cell_at, Text.cell_word, Text.cells_text, Text.numbers_text, Text.rows_from, Text.rows_in, Text.rows_of}
 
--- what is left is the same text
-pub left_is : (whole rest same : List ℕ) (a b : Option (List ℕ)) → rest ≡ same → WrittenUpTo whole rest a b → WrittenUpTo whole same a b
-left_is whole rest same a b e written = subst (λ (text : List ℕ). WrittenUpTo whole text a b) e written
-
-pub numbers_next : (count j : ℕ) → j < count → numbers_text j (count - j) ≡ at_right 7 (decimal j) ++ numbers_text (j + 1) (count - (j + 1))
+pub numbers_next : (count j : ℕ) → j < count → numbers_text j (count - j) ≡ in_column 7 (decimal j) ++ numbers_text (j + 1) (count - (j + 1))
 numbers_next count j h = let one : count - j ≡ suc (count - (j + 1)) = omega arith in ap (λ (m : ℕ). numbers_text j m) one
 
 pub cells_next : (job : Job) (r : ReadStmt) (k count j : ℕ) → j < count
-    → cells_text job r k j (count - j) ≡ at_right 7 (cell_word (cell_at job r k j)) ++ cells_text job r k (j + 1) (count - (j + 1))
+    → cells_text job r k j (count - j) ≡ in_column 7 (cell_word (cell_at job r k j)) ++ cells_text job r k (j + 1) (count - (j + 1))
 cells_next job r k count j h = let one : count - j ≡ suc (count - (j + 1)) = omega arith in ap (λ (m : ℕ). cells_text job r k j m) one
 
 pub rows_next : (job : Job) (width k : ℕ) (stmts : List Stmt) (i : ℕ) (s : Stmt) → i < length stmts → s ≡ get_or stmts i s

@@ -34,7 +34,7 @@ right_end n = 110 * min n 12
 abbrev pub row_height : ℕ → ℕ
 row_height arrows = 16 * min arrows 12 + 46
 
-abbrev pub line_in : ℕ → ℕ → ℕ
+abbrev pub line_in : (top arrows : ℕ) → ℕ
 line_in top arrows = top + 16 * min arrows 12 + 26
 
 -- the end of the row of a statement in stage k that begins at `top`; of the rows of more of them, and of blocks
@@ -55,15 +55,15 @@ abbrev pub bottom : Job → ℕ
 bottom job = blocks_end job 0 80 job.blocks
 
 -- THE SIZE of the picture, with a headline for a name of this many characters, and a legend below the rows
-abbrev pub width_of : ℕ → ℕ → ℕ → ℕ
+abbrev pub width_of : (left stages name : ℕ) → ℕ
 width_of left n name = max (left + right_end n + 20) (max (10 * name + 360) 700)
 
 abbrev pub height_of : ℕ → ℕ
 height_of rows = rows + 104
 
 -- AN ARROW from stage j to the read in stage k goes up, the higher the further it goes, and comes down in the column of stage k, the further to the left.
-abbrev pub level : ℕ → ℕ → ℕ
+abbrev pub level : (stage other : ℕ) → ℕ
 level k j = 16 * min (j - k) 11 + 10
 
-abbrev pub landing : ℕ → ℕ → ℕ
+abbrev pub landing : (stage other : ℕ) → ℕ
 landing k j = (middle k + 48) - 8 * min (j - k) 11

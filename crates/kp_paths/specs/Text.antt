@@ -1,5 +1,6 @@
 -- THE TEXT of the table of a job.
-use Rattle.std.specs.Prelude.{ℕ, zero, suc, ◌+◌, ◌-◌, max, List, [], ◌∷◌, ◌++◌, length, replicate, codes, decimal, is_some, if◌then◌else◌}
+use Rattle.std.specs.Prelude.{ℕ, zero, suc, ◌+◌, ◌-◌, max, List, [], ◌∷◌, ◌++◌, length, codes, decimal, is_some, if◌then◌else◌}
+use Rattle.kp_base.specs.Texts.{in_column, spaces}
 use Rattle.kp_ast.specs.declared.tree.{ReadStmt.ReadStmt, Stmt.Stmt, StmtKind.StmtKind, Block.Block, Job.Job}
 use Rattle.kp_ast.specs.declared.tree.StmtKind.TheVariants as stmts
 use Rattle.kp_machine.specs.Machine.{result_for}
@@ -7,15 +8,9 @@ use Rattle.kp_paths.specs.declared.cell.Cell.{Cell}
 use Rattle.kp_paths.specs.declared.cell.Cell.TheVariants.{Reads, Empty, Wait, Guess, Maybe, Bypass}
 use Rattle.kp_paths.specs.Table.{cell_at, target_read}
 
-abbrev pub spaces : ℕ → List ℕ
-spaces n = replicate n 32
-
--- a text at the left and at the right end of a column
+-- a text at the left end of a column
 abbrev pub at_left : ℕ → List ℕ → List ℕ
 at_left width text = text ++ spaces (width - length text)
-
-abbrev pub at_right : ℕ → List ℕ → List ℕ
-at_right width text = spaces (width - length text) ++ text
 
 -- THE LABEL of a read: `a = X`, or `a = R[..]` for a word of a file
 abbrev pub brackets : ReadStmt → List ℕ
@@ -52,14 +47,14 @@ cell_word Bypass = codes "bypass"
 
 abbrev pub cells_text : Job → ReadStmt → (stage from count : ℕ) → List ℕ
 cells_text job r k j zero = []
-cells_text job r k j (suc count) = at_right 7 (cell_word (cell_at job r k j)) ++ cells_text job r k (j + 1) count
+cells_text job r k j (suc count) = in_column 7 (cell_word (cell_at job r k j)) ++ cells_text job r k (j + 1) count
 
 abbrev pub note : Job → ReadStmt → List ℕ
 note job r = if is_some (result_for job (target_read job r)) then [] else codes "   never written"
 
 -- THE ROW of a read in stage k: its label, its line, its stage, its cells
 unfoldable pub place_text : (pad line stage : ℕ) → List ℕ
-place_text pad line k = spaces pad ++ (at_right 6 (decimal line) ++ (codes "  stage " ++ at_left 2 (decimal k)))
+place_text pad line k = spaces pad ++ (in_column 6 (decimal line) ++ (codes "  stage " ++ at_left 2 (decimal k)))
 
 abbrev pub row_text : Job → ℕ → ℕ → ReadStmt → List ℕ
 row_text job width k r =
@@ -80,7 +75,7 @@ rows_from job width k (b ∷ bs) = rows_in job width k b.stmts ++ rows_from job 
 -- THE HEAD: the name of the machine, and the numbers of the stages
 abbrev pub numbers_text : ℕ → ℕ → List ℕ
 numbers_text j zero = []
-numbers_text j (suc count) = at_right 7 (decimal j) ++ numbers_text (j + 1) count
+numbers_text j (suc count) = in_column 7 (decimal j) ++ numbers_text (j + 1) count
 
 unfoldable pub title_text : List ℕ → ℕ → List ℕ
 title_text name width = name ++ (codes ": where each read takes its value from\n\nread" ++ (spaces (width - 4) ++ codes "  line  reads in"))

@@ -1,15 +1,14 @@
 // The labels of the rows, and where the columns begin, right of them.
 ghost use Rattle.std.specs.Prelude.{◌≡◌, ◌≤◌};
-ghost use Rattle.kp_base.specs.Bytes.{Writes};
-ghost use Rattle.kp_base.specs.Causes.{HasCause};
+ghost use Rattle.kp_base.specs.Writer.{Wrote};
 ghost use Rattle.kp_paths.specs.Picture.{row_label};
 ghost use Rattle.kp_paths.specs.Places.{label_room as room_of_label, left_end as left_end_of, wider as wider_than, widest_from, widest_in};
 
 use crate::pieces::{LONGEST, brackets};
 use crate::table::Paths;
-use itoa::Buffer;
+use crate::texts::LABEL;
 use kp_ast::{Block, ReadStmt, Stmt, StmtKind};
-use kp_base::{Sink, SinkFault, write_pieces};
+use kp_base::{Piece, Sink, Writer};
 
 // The fewest for which there is room.
 const SHORTEST: usize = 22;
@@ -67,25 +66,21 @@ fn label_room(read: &ReadStmt) -> usize
 }
 
 /// The label and the line of a read, with a note.
-#[tactic(auto, unfolding(crate::specs::Picture::row_label))]
 pub(crate) fn write_row_label<'a, K: Sink>(
     read: &'a ReadStmt,
     more: &'a [u8],
-    sink: &mut K,
-) -> Result<(), SinkFault>
-    ensures text { Writes (K.held sink.old) (K.held sink.new) (row_label read.now more.now) result }
-    ensures cause { HasCause (K.faults sink.old) (K.faults sink.new) result }
+    out: &mut Writer<'_, K>,
+)
+    ensures { Wrote K.held K.faults out.old out.new (row_label read.now more.now) }
 {
-    let mut line = Buffer::new();
-    let pieces = [
-        read.name.name.bytes(),
-        b" = ".as_slice(),
-        read.target.name.bytes(),
-        brackets(read),
-        b"</text><text x='-14' y='13' font-size='11' text-anchor='end'>line ".as_slice(),
-        line.format(read.name.at.line).as_bytes(),
-        more,
-        b"</text>\n".as_slice(),
-    ];
-    write_pieces(sink, &pieces)
+    out.fill(
+        LABEL,
+        &[
+            Piece::Text(read.name.name.bytes()),
+            Piece::Text(read.target.name.bytes()),
+            Piece::Text(brackets(read)),
+            Piece::Number(u64::from(read.name.at.line)),
+            Piece::Text(more),
+        ],
+    )
 }

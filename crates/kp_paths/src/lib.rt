@@ -29,4 +29,4 @@ mod texts;
 pub use cell::Cell;
 pub use picture::write_paths_svg;
 pub use table::Paths;
-pub use text::write_paths;
+pub use text::{put_paths, write_paths};

@@ -1,13 +1,12 @@
 // The rows of the table.
 ghost use Rattle.std.specs.Prelude.{◌≡◌, ◌≤◌, ◌++◌, codes};
-ghost use Rattle.kp_base.specs.Bytes.{Writes};
-ghost use Rattle.kp_base.specs.Causes.{HasCause};
+ghost use Rattle.kp_base.specs.Writer.{Wrote};
 ghost use Rattle.kp_paths.specs.Text.{cells_text, longer, longest_from, longest_in, note as note_of, row_text, rows_from, rows_in, rows_of};
 
-use crate::pieces::{LONGEST, label_length, write_label, write_place, write_right};
+use crate::pieces::{LONGEST, label_length, write_label, write_place};
 use crate::table::Paths;
 use kp_ast::{Block, ReadStmt, Stmt, StmtKind};
-use kp_base::{Sink, SinkFault, write_pieces};
+use kp_base::{Sink, Writer};
 
 // The length of the longest label of a read in these blocks, or `from` if that is more.
 pub(crate) fn longest(blocks: &[Block], from: usize) -> usize
@@ -46,54 +45,49 @@ fn longer_of(width: usize, stmt: &StmtKind) -> usize
 }
 
 // The rows of the reads in these blocks.
+#[tactic(auto, using(kp_base::proofs::Writing::up_none))]
 pub(crate) fn write_blocks<K: Sink>(
     paths: &Paths<'_>,
     blocks: &[Block],
     width: usize,
-    sink: &mut K,
-) -> Result<(), SinkFault>
-    requires { width ≤ LONGEST }
-    ensures text { Writes (K.held sink.old) (K.held sink.new) (rows_from paths.now width 0 blocks.now) result }
-    ensures cause { HasCause (K.faults sink.old) (K.faults sink.new) result }
+    out: &mut Writer<'_, K>,
+)
+    ensures { Wrote K.held K.faults out.old out.new (rows_from paths.now width 0 blocks.now) }
 {
     for (k, block) in blocks.iter().enumerate() {
-        write_block(paths, block.stmts.as_slice(), width, k, sink)?;
+        write_block(paths, block.stmts.as_slice(), width, k, out);
     }
-    Ok(())
 }
 
+#[tactic(auto, using(kp_base::proofs::Writing::up_none))]
 fn write_block<K: Sink>(
     paths: &Paths<'_>,
     stmts: &[Stmt],
     width: usize,
     k: usize,
-    sink: &mut K,
-) -> Result<(), SinkFault>
-    requires { width ≤ LONGEST }
-    ensures text { Writes (K.held sink.old) (K.held sink.new) (rows_in paths.now width k stmts.now) result }
-    ensures cause { HasCause (K.faults sink.old) (K.faults sink.new) result }
+    out: &mut Writer<'_, K>,
+)
+    ensures { Wrote K.held K.faults out.old out.new (rows_in paths.now width k stmts.now) }
 {
     for stmt in stmts {
-        write_stmt(paths, &stmt.kind, width, k, sink)?;
+        write_stmt(paths, &stmt.kind, width, k, out);
     }
-    Ok(())
 }
 
 // The row of a statement that is a read.
+#[tactic(auto, using(kp_base::proofs::Writing::wrote_none))]
 fn write_stmt<K: Sink>(
     paths: &Paths<'_>,
     stmt: &StmtKind,
     width: usize,
     k: usize,
-    sink: &mut K,
-) -> Result<(), SinkFault>
-    requires { width ≤ LONGEST }
-    ensures text { Writes (K.held sink.old) (K.held sink.new) (rows_of paths.now width k stmt.now) result }
-    ensures cause { HasCause (K.faults sink.old) (K.faults sink.new) result }
+    out: &mut Writer<'_, K>,
+)
+    ensures { Wrote K.held K.faults out.old out.new (rows_of paths.now width k stmt.now) }
 {
     match stmt {
-        StmtKind::Read(read) => write_row(paths, read, width, k, sink),
-        _ => Ok(()),
+        StmtKind::Read(read) => write_row(paths, read, width, k, out),
+        _ => (),
     }
 }
 
@@ -102,42 +96,38 @@ fn write_row<K: Sink>(
     read: &ReadStmt,
     width: usize,
     k: usize,
-    sink: &mut K,
-) -> Result<(), SinkFault>
-    requires { width ≤ LONGEST }
-    ensures text { Writes (K.held sink.old) (K.held sink.new) (row_text paths.now width k read.now) result }
-    ensures cause { HasCause (K.faults sink.old) (K.faults sink.new) result }
+    out: &mut Writer<'_, K>,
+)
+    ensures { Wrote K.held K.faults out.old out.new (row_text paths.now width k read.now) }
 {
     let pad = width.saturating_sub(label_length(read));
-    write_label(read, sink)?;
-    write_place(pad, read.name.at.line, k, sink)?;
-    write_cells(paths, read, k, paths.stages(), sink)?;
-    write_note(paths, read, sink)
+    write_label(read, out);
+    write_place(pad, read.name.at.line, k, out);
+    write_cells(paths, read, k, paths.stages(), out);
+    write_note(paths, read, out)
 }
 
 // The cells of `count` stages.
+#[tactic(auto, using(kp_base::proofs::Writing::up_none))]
 fn write_cells<K: Sink>(
     paths: &Paths<'_>,
     read: &ReadStmt,
     k: usize,
     count: usize,
-    sink: &mut K,
-) -> Result<(), SinkFault>
-    ensures text { Writes (K.held sink.old) (K.held sink.new) (cells_text paths.now read.now k 0 count) result }
-    ensures cause { HasCause (K.faults sink.old) (K.faults sink.new) result }
+    out: &mut Writer<'_, K>,
+)
+    ensures { Wrote K.held K.faults out.old out.new (cells_text paths.now read.now k 0 count) }
 {
     for j in 0..count {
-        write_right(paths.cell(read, k, j).word(), sink)?;
+        out.column(7, paths.cell(read, k, j).word());
     }
-    Ok(())
 }
 
-fn write_note<K: Sink>(paths: &Paths<'_>, read: &ReadStmt, sink: &mut K) -> Result<(), SinkFault>
-    ensures text { Writes (K.held sink.old) (K.held sink.new) (note_of paths.now read.now ++ codes "\n") result }
-    ensures cause { HasCause (K.faults sink.old) (K.faults sink.new) result }
+fn write_note<K: Sink>(paths: &Paths<'_>, read: &ReadStmt, out: &mut Writer<'_, K>)
+    ensures { Wrote K.held K.faults out.old out.new (note_of paths.now read.now ++ codes "\n") }
 {
-    let pieces = [note(paths, read), b"\n".as_slice()];
-    write_pieces(sink, &pieces)
+    out.put(note(paths, read));
+    out.put(b"\n")
 }
 
 fn note(paths: &Paths<'_>, read: &ReadStmt) -> &'static [u8]

@@ -1,8 +1,0 @@
-use Rattle.kp_paths.specs.Picture.{arrow_line}
-use Rattle.kp_paths.proofs.arrows.write_arrow_line.Goals as goal
-
-pub returns-clause-text : goal.returns-clause-text
-unfolding arrow_line
-returns-clause-text g c =
-    rw (c.as_slice.ensures, c.as_bytes.ensures.value, c.format.ensures.text, c.as_slice-2.ensures, c.as_bytes-2.ensures.value, c.format-2.ensures.text, c.as_slice-3.ensures, c.as_bytes-3.ensures.value, c.format-3.ensures.text, c.as_slice-4.ensures, c.as_slice-5.ensures)
-    at c.write_pieces.ensures.text
