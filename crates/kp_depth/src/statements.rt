@@ -28,6 +28,7 @@ fn stage_in(wires: &[Wire], node: NodeId) -> Option<u32>
 
 // The stage whose state a node is, if it is a register.
 fn register_stage(source: &Source<'_>, node: NodeId) -> Option<u32>
+    requires { IsSource source.now.layout.now source.now.keys.now source.now.names.now }
     ensures { result ≡ kind_stage source.now.layout.now (kind_at source.now.net.now.nodes node.0) }
 {
     match source.net.nodes().get(node.0 as usize) {
@@ -40,6 +41,7 @@ fn register_stage(source: &Source<'_>, node: NodeId) -> Option<u32>
 }
 
 fn stage_at(source: &Source<'_>, node: NodeId) -> Option<u32>
+    requires { IsSource source.now.layout.now source.now.keys.now source.now.names.now }
     ensures { result ≡ node_stage source.now.layout.now source.now.net.now source.now.wires.now node.0 }
 {
     match stage_in(source.wires, node) {
@@ -50,6 +52,7 @@ fn stage_at(source: &Source<'_>, node: NodeId) -> Option<u32>
 
 /// The stage that a path comes from after this node, if it is this one before.
 pub(crate) fn origin_after(source: &Source<'_>, from: u32, node: NodeId) -> u32
+    requires { IsSource source.now.layout.now source.now.keys.now source.now.names.now }
     ensures { result ≡ or_before from (node_stage source.now.layout.now source.now.net.now source.now.wires.now node.0) }
 {
     match stage_at(source, node) {
