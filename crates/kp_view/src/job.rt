@@ -29,7 +29,7 @@ use kp_lex::lex;
 use kp_page::laws::listed_words_give_the_states;
 use kp_paths::laws::{the_arrows_are_the_cells, the_cells_are_the_paths};
 use kp_stalls_run::laws::the_lines_show_causes;
-use kp_design::Layout;
+use kp_synth_tables::Layout;
 use kp_view_words::{Order, Task};
 use std::alloc::Global;
 

@@ -13,7 +13,7 @@ use kp_diagram_labels::{Label, Labelling, heading_of, labelled_lines};
 use kp_diagram_run::{run_window, window_chart};
 use kp_diagram_text::{Window, write_labelled};
 use kp_frontend::Accepted;
-use kp_design::Layout;
+use kp_synth_tables::Layout;
 use kp_view_words::WithLabels;
 use std::alloc::Global;
 

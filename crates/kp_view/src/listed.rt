@@ -12,7 +12,7 @@ use kp_directive::{
     Directive, DirectiveFault, DirectivesRefused, Verb, directive_of, directives_in, stage_names,
 };
 use kp_frontend::Accepted;
-use kp_design::Layout;
+use kp_synth_tables::Layout;
 use std::alloc::Global;
 
 /// Names of the stages, or none, and where the text that names the labels is in the input, which is empty without any.
