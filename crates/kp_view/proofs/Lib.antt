@@ -1,5 +1,4 @@
 pub mod Ends
-pub mod Listings
 pub mod Netlists
 pub mod Outside
 pub mod Pictures

@@ -1,4 +1,3 @@
 pub mod Asking
 pub mod Matching
 pub mod Rests
-pub mod Flags

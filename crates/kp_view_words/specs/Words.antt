@@ -19,8 +19,6 @@ pub data Order : Type 0 where
   diagram : Run → Order
   -- a diagram from this cycle on
   window : ℕ → Run → Order
-  -- the same with labels beside the lines, which this text names
-  labelled : ℕ → Run → Text → Order
   svg : Run → Order
   page : Run → Order
   paths : Order
@@ -43,7 +41,6 @@ pub data Asked : Type 0 where
 abbrev pub names_for : Order → List Text
 names_for (diagram run) = run.names
 names_for (window from run) = run.names
-names_for (labelled from run label) = run.names
 names_for (svg run) = run.names
 names_for (page run) = run.names
 names_for paths = []
@@ -58,30 +55,12 @@ run_named listed run = record { count = run.count; names = if length run.names =
 abbrev pub named : List Text → Order → Order
 named listed (diagram run) = diagram (run_named listed run)
 named listed (window from run) = window from (run_named listed run)
-named listed (labelled from run label) = labelled from (run_named listed run) label
 named listed (svg run) = svg (run_named listed run)
 named listed (page run) = page (run_named listed run)
 named listed paths = paths
 named listed paths_svg = paths_svg
 named listed (stalls count) = stalls count
 named listed (depth memories) = depth memories
-
--- the text that names the labels
-abbrev pub label_for : Order → Text
-label_for (labelled from run label) = label
-label_for _ = []
-
--- the same with these labels, where it is a diagram of some cycles without any
-abbrev pub run_labelled : Text → Run → Order
-run_labelled label run = if run.count == 0 then diagram run else labelled 0 run label
-
-abbrev pub with_label : Text → Order → Order
-with_label label (diagram run) = run_labelled label run
-with_label label (window from run) = labelled from run label
-with_label label order = order
-
-abbrev pub label_added : Text → Order → Order
-label_added label order = if length label == 0 then order else with_label label order
 
 -- the word of this name
 abbrev pub word_named : Text → Option Word
@@ -218,7 +197,7 @@ abbrev pub task_named : List Text → Option Task
 task_named [] = None
 task_named (name ∷ rest) = if nat_lt 14 (length rest) then None else option_and_then (λ word. task_with word rest) (word_named name)
 
--- THE FLAGS of words: `paths --svg`, and `depth --files 0`, with at most a file after them.
+-- The flags of words: `paths --svg`, and `depth --files 0`, with at most a file after them.
 abbrev pub asks_picture : Text → Text → Bool
 asks_picture word flag = bytes_eq word (codes "paths") && bytes_eq flag (codes "--svg")
 
@@ -229,50 +208,13 @@ abbrev pub depth_with : List Text → Option Task
 depth_with [] = None
 depth_with (number ∷ files) = if bytes_eq number (codes "0") then with_file (depth Outside) files else None
 
-abbrev pub with_flag : Text → List Text → Option Task
-with_flag word [] = None
-with_flag word (flag ∷ files) =
+abbrev pub flagged_task : List Text → Option Task
+flagged_task [] = None
+flagged_task (word ∷ []) = None
+flagged_task (word ∷ flag ∷ files) =
     if has_dash files then None
     else (if asks_picture word flag then with_file paths_svg files
     else (if asks_files word flag then depth_with files else None))
-
--- A DIAGRAM WITH LABELS: `--label` and a word that names the labels, of at most 16,777,216 bytes, are between the words of a diagram and a file, or are the last
--- words.
-abbrev pub asks_label : Text → Text → Bool
-asks_label flag label = bytes_eq flag (codes "--label") && (not (begins_with_dash label) && nat_le (length label) 16777216)
-
--- a file, where there is none yet
-abbrev pub file_added : Order → List Text → Option Text → Option Task
-file_added order [] file = Some (record { order = order; file = file })
-file_added order (word ∷ []) None = Some (record { order = order; file = Some word })
-file_added order _ _ = None
-
-abbrev pub labelled_after : Text → List Text → Task → Option Task
-labelled_after label files task = file_added (label_added label task.order) files task.file
-
-abbrev pub labelled_by : List Text → Text → Text → List Text → Option Task
-labelled_by before flag label files =
-    if has_dash files then None
-    else (if asks_label flag label then option_and_then (labelled_after label files) (diagram_with before) else None)
-
-abbrev pub labelled_with : List Text → List Text → Option Task
-labelled_with before (flag ∷ label ∷ files) = labelled_by before flag label files
-labelled_with before _ = None
-
--- how many words there are before the first that begins with `-`
-abbrev pub undashed : List Text → ℕ
-undashed [] = 0
-undashed (word ∷ rest) = if begins_with_dash word then 0 else 1 + undashed rest
-
-abbrev pub labelled_task : List Text → Option Task
-labelled_task rest = labelled_with (take (undashed rest) rest) (drop (undashed rest) rest)
-
-abbrev pub asks_diagram : Text → Bool
-asks_diagram word = bytes_eq word (codes "diagram")
-
-abbrev pub flagged_task : List Text → Option Task
-flagged_task [] = None
-flagged_task (word ∷ rest) = if asks_diagram word then labelled_task rest else with_flag word rest
 
 abbrev pub task_of : List Text → Option Task
 task_of all = if has_dash all then flagged_task all else task_named all

@@ -1,5 +1,5 @@
 // What is to be shown of a job.
-ghost use Rattle.std.specs.Prelude.{◌≤◌, length};
+ghost use Rattle.std.specs.Prelude.{◌≤◌};
 
 /// What is to be shown of the job of a file.
 #[derive(Clone, Copy)]
@@ -16,8 +16,6 @@ pub enum Order<'w> {
     Diagram(Run<'w>),
     /// The same from a later cycle on.
     Window(Later<'w>),
-    /// The same from a cycle on, with labels beside the lines: the text that names them.
-    Labelled(WithLabels<'w>),
     /// The same as a picture.
     Svg(Run<'w>),
     /// A run with the states of its cycles, as an HTML page.
@@ -67,15 +65,6 @@ pub struct Later<'w> {
     pub run: Run<'w>,
     pub ghost early: { from ≤ 1000000000 },
     pub ghost some: { 1 ≤ run.count },
-}
-
-/// A run that is drawn from a cycle on with labels, and the text that names them.
-#[derive(Clone, Copy)]
-pub struct WithLabels<'w> {
-    pub later: Later<'w>,
-    /// At most 16,777,216 bytes.
-    pub label: &'w [u8],
-    pub ghost short: { length label.now ≤ 16777216 },
 }
 
 // The cycles of a window: the first of them, and how many there are.

@@ -8,7 +8,7 @@ use crate::words::{Topic, Word};
 pub const VERSION: &str = "kpview 0.10.0\n";
 
 /// How the program is called.
-pub const USAGE: &str = "usage: kpview diagram N [NAMES] [--label L,L] [FILE]
+pub const USAGE: &str = "usage: kpview diagram N [NAMES] [FILE]
        kpview svg N [NAMES] [FILE]
        kpview page N [NAMES] [FILE]
        kpview paths [--svg] [FILE]
@@ -21,10 +21,9 @@ pub const USAGE: &str = "usage: kpview diagram N [NAMES] [--label L,L] [FILE]
 ";
 
 /// How `diagram` is called.
-pub const USAGE_DIAGRAM: &str = "usage: kpview diagram N [NAMES] [--label L,L] [FILE]
+pub const USAGE_DIAGRAM: &str = "usage: kpview diagram N [NAMES] [FILE]
 N is 0 to 1000, or FROM..TO: the cycles FROM to TO, at most 1000 of them, where
-TO is at most 1000000000; a name has 1 to 8 letters, digits or `_`; a label is a
-register or a word as F[0]
+TO is at most 1000000000; a name has 1 to 8 letters, digits or `_`
 ";
 
 /// How `svg` is called.
@@ -61,8 +60,7 @@ pub const HELP: &str = "Draws how instructions move through the pipelined machin
 usage: kpview WORD .. [FILE]
 
 words:
-  diagram N [NAMES] [--label L,L] [FILE]
-                             N cycles of the pipeline, as text
+  diagram N [NAMES] [FILE]   N cycles of the pipeline, as text
   svg N [NAMES] [FILE]       the same as a picture
   page N [NAMES] [FILE]      the same as an HTML page, with the states
   paths [--svg] [FILE]       where each read takes its value from
@@ -89,7 +87,7 @@ pub const HELP_DIAGRAM: &str =
 instruction that is fetched, a column for each cycle, and the account of the
 cycles below them.
 
-usage: kpview diagram N [NAMES] [--label L,L] [FILE]
+usage: kpview diagram N [NAMES] [FILE]
 
   N       the number of cycles, 0 to 1000, or a window FROM..TO: the cycles FROM
           to TO, at most 1000 of them, where TO is at most 1000000000. Its
@@ -99,10 +97,6 @@ usage: kpview diagram N [NAMES] [--label L,L] [FILE]
   FILE    the job; without it, standard input is read. A single word after N
           is a file. Of several, the last one is a file if it has a character
           other than letters, digits and `_`, as in ./job
-  L       a label: a register, or a word of a file as F[0]. Beside each line is
-          its value before the instruction, in hexadecimal; or `-` where the
-          instruction doesn't retire in these cycles. The names may be given in
-          the job too: `//: stages IF ID EX ME WB`, `//: label PC`
 
 A cell names the stage that holds the instruction in the cycle, with a mark:
   *   waits for a value

@@ -1,7 +1,7 @@
 use Rattle.std.proofs.{Common.◌∙◌, Common.sym, Common.ap, Common.map, Common.string_bytes, lemmas.List.Folds.list_all-map}
 use Rattle.std.specs.List.{list_all}
 use Rattle.kp_view_words.{specs.Words.is_name, proofs.Rests.run_none, proofs.Rests.run_some}
-use Rattle.kp_view_words.proofs.runs.run_with.Goals as goal
+use Rattle.kp_view_words.proofs.words.run_with.Goals as goal
 
 pub returns-then-are_names-clause-asked : goal.returns-then-are_names-clause-asked
 returns-then-are_names-clause-asked c =
