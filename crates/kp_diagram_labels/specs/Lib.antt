@@ -1,3 +1,0 @@
-pub mod Labels
-pub mod Texts
-pub mod inner

@@ -1,2 +1,0 @@
--- For private contracts and proofs only: a reader need not trust it.
-pub mod Columns
