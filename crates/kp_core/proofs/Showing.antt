@@ -18,7 +18,7 @@ use Rattle.kp_implements.specs.Traces.{input_seen, inputs_seen, no_state, AreQui
 use Rattle.kp_synth_next.specs.Shows.{HoldsFrom}
 use Rattle.kp_synth_registers.specs.Holding.{word_bit}
 use Rattle.kp_design.specs.{Spans.put_after, Numbers.target_at, Numbers.pipe_at, Spans.is_alive}
-use Rattle.kp_synth_registers.specs.{Keys.place_of, declared.key.Key.TheVariants.Pipe}
+use Rattle.kp_synth_registers.specs.{Keys.keys_of, Keys.place_of, declared.key.Key.TheVariants.Pipe}
 use Rattle.kp_synth.specs.Carrying.{Carries}
 use Rattle.kp_core_ports.specs.Ports.{Exists}
 use Rattle.kp_core_ports.specs.declared.port.Ask.TheVariants.{Show, Peek, Probe, Next, Commit}
@@ -125,7 +125,7 @@ none_quiet k d l = absurd (omega (arith, l))
 pub taken_next : (job : Job) (net : Net) (i : Input) (st : State) (x k b : ℕ) → Carries net job → i.reset ≡ false → Exists job (Next x k)
     → port_value job net i st b (Next x k) ≡ get_or (state_after net i st).regs (place_of job (Pipe x k)) 0
 taken_next job net i st x k b carries off has =
-    let within = there net job x k (carries.runs [] none_quiet).keys has in
+    let within = there net job (keys_of job) x k refl (carries.runs [] none_quiet).keys has in
     let f : NetReg → ℕ = λ r. at (cells_of i st) net.nodes r.next.0 in
     let same : get_or (regs_after net (cells_of i st)) (place_of job (Pipe x k)) 0 ≡ f (get_or net.parts.regs (place_of job (Pipe x k)) no_reg) =
     get_or-map f net.parts.regs (place_of job (Pipe x k)) no_reg 0 within in
