@@ -124,6 +124,7 @@ none_quiet k d l = absurd (omega (arith, l))
 
 pub taken_next : (job : Job) (net : Net) (i : Input) (st : State) (x k b : ℕ) → Carries net job → i.reset ≡ false → Exists job (Next x k)
     → port_value job net i st b (Next x k) ≡ get_or (state_after net i st).regs (place_of job (Pipe x k)) 0
+unfolding place_of
 taken_next job net i st x k b carries off has =
     let within = there net job (keys_of job) x k refl (carries.runs [] none_quiet).keys has in
     let f : NetReg → ℕ = λ r. at (cells_of i st) net.nodes r.next.0 in
