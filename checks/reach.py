@@ -218,4 +218,5 @@ def main():
     print(f"{total} lines")
 
 
-main()
+if __name__ == "__main__":
+    main()

@@ -6,7 +6,7 @@ use Rattle.kp_grammar.specs.Tables.{Tables, Row, among, first_of, empty_of, firs
 use Rattle.kp_grammar.specs.Ranks.{Ranks}
 use Rattle.kp_grammar.proofs.TableTests.{implied}
 use Rattle.kp_expected.specs.{Plain.Plain, Plain.PlainRules}
-use Rattle.kp_expected.specs.inner.Readable.{work, all_end, body_fits, bodies_fit, all_fit, some_begins, some_empty, each_begins, rows_exact, known_among, IsReadable}
+use Rattle.kp_expected.specs.Readable.{work, all_end, body_fits, bodies_fit, all_fit, some_begins, some_empty, each_begins, rows_exact, known_among, IsReadable}
 
 module _ (rules : PlainRules) (t : Tables) (rank : Ranks) (known : ℕ → Bool) (short : ℕ) where
   one_fits : (n : ℕ) (b : List Plain) (bs : List (List Plain)) → Has b bs → bodies_fit rules t rank known short n bs ≡ true → body_fits rules t rank known short n b ≡ true

@@ -6,7 +6,7 @@ use Rattle.kp_grammar.specs.{Tables.Tables, Tables.IsPredictive, Tables.pick, Ma
 use Rattle.kp_grammar.specs.Ranks.{Ranks}
 use Rattle.kp_grammar.proofs.{TableTests.picks_rule, TableTests.decides, Prefix.after, Derivations.is_accepted, Derivations.no_limit}
 use Rattle.kp_expected.specs.{Plain.Plain, Plain.PlainRules, Plain.plain, Starts.starts, GoesOn.GoesOn}
-use Rattle.kp_expected.specs.inner.{Readable.IsReadable, Readable.IsReadableName, Readable.work, Steps.Derived, Steps.Runs, Steps.Goes, Steps.Fails, Steps.Decides}
+use Rattle.kp_expected.specs.{Readable.IsReadable, Readable.IsReadableName, Readable.work, inner.Steps.Derived, inner.Steps.Runs, inner.Steps.Goes, inner.Steps.Fails, inner.Steps.Decides}
 use Rattle.kp_expected.proofs.{Starts.sentence_starts, Fits.lighter, Sentences.sentence, Sentences.ready-append, Sentences.body_ready, Sentences.starts_sentence}
 
 -- the items from an index on

@@ -6,7 +6,7 @@ use Rattle.kp_grammar.specs.Tables.{Tables, among, first_of, empty_of, pick}
 use Rattle.kp_grammar.specs.Ranks.{Ranks}
 use Rattle.kp_grammar.proofs.TableTests.{picks_rule}
 use Rattle.kp_expected.specs.{Plain.Plain, Plain.PlainRules, Starts.starts}
-use Rattle.kp_expected.specs.inner.{Readable.ends, Readable.and_then, Readable.all_end, Readable.work, Readable.known_among, Readable.IsReadable, Steps.Derived, Steps.HasSentence, Steps.IsReady}
+use Rattle.kp_expected.specs.{Readable.ends, Readable.and_then, Readable.all_end, Readable.work, Readable.known_among, Readable.IsReadable, inner.Steps.Derived, inner.Steps.HasSentence, inner.Steps.IsReady}
 use Rattle.kp_expected.proofs.{Starts.firsts_start, Starts.front_starts, Fits.begun, Fits.has_empty, Fits.lighter, Fits.ready, Fits.some_first}
 
 class_among : {C : Type 0} (number : C → ℕ) (xs : List C) (c : ℕ) → known_among number xs c ≡ true → (x : C) × (number x ≡ c)

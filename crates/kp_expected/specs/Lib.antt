@@ -1,4 +1,5 @@
 pub mod Plain
+pub mod Readable
 pub mod Rows
 pub mod GoesOn
 pub mod Starts

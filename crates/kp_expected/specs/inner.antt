@@ -1,3 +1,2 @@
 -- Definitions for private contracts and proofs.
-pub mod Readable
 pub mod Steps

@@ -2,7 +2,7 @@
 ghost use Rattle.std.specs.Prelude.{◌≡◌, ◌↔◌, ◌++◌, ◌∷◌, [], map, reverse, option_map, true, false, length, IfOk, OnOk, MatchOption};
 ghost use Rattle.kp_grammar.specs.{Grammar.Nonterminal, Tables.among, Tables.pick};
 ghost use Rattle.kp_expected.specs.{Plain.plain_symbol, Plain.plain, Plain.stack, GoesOn.GoesOn, GoesOn.AreAnswers, Starts.starts, Starts.begins_with};
-ghost use Rattle.kp_expected.specs.inner.{Steps.Decides, Readable.IsReadable, Readable.IsReadableName};
+ghost use Rattle.kp_expected.specs.{inner.Steps.Decides, Readable.IsReadable, Readable.IsReadableName};
 
 use crate::class::{Class, Part, Symbol};
 use kp_base::NoMemory;

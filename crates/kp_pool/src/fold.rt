@@ -224,9 +224,10 @@ fn masks(op: BinOp, word: Bits) -> Masking
     requires { IsWord word }
     ensures { Masks op word result }
 {
+    let value = word.value();
     match op.masking_zero(word.width()) {
-        Some(zero) if word.value() == zero => Masking::Wins,
-        Some(zero) if word.value() == ones(word.width()) - zero => Masking::Yields,
+        Some(zero) if value == zero => Masking::Wins,
+        Some(zero) if value == ones(word.width()) - zero => Masking::Yields,
         _ => Masking::Neither,
     }
 }

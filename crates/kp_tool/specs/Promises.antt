@@ -9,14 +9,17 @@ use Rattle.kp_tool.specs.Headline.{IsCorrect, IsCorrectFrom, IsVerilogWith, IsRu
 use Rattle.kp_tool.specs.Agreeing.{IsSequential, IsChecked, IsFaulty, IsReadBack, IsWatched, IsReadAsDump}
 use Rattle.kp_tool.specs.{Refused.Breaks, Misread.Misreads}
 
--- THE HEADLINE: `pipe`. The text denotes a netlist that implements the job, and after a reset depends on the memory alone (`implements`). So for all stall
--- words and samples, from the start on and again after each reset, in whatever state it is raised, every run of it is correct (`correct`):
---   legal              each register and each word of a file has the value of the sequential machine after as many instructions as its stage has completed;
---   moves              any n * k stall-free cycles of a machine of n stages retire k instructions, and the oldest instruction is never squashed;
---   no_needless_stall  right guesses cost nothing, a wrong one is detected as soon as the value of its register is available, and a stage waits only for an
---                      operand that isn't available yet.
--- `read` writes the text again, if it isn't too long (`read_back`), and after an input that ends with a line feed `watch N` finds no difference in it
--- (`watched`).
+-- THE HEADLINE: `pipe`. The text denotes a netlist that implements the job that the input describes, and after a reset depends on the memory alone: the
+-- words of the files at that time (`implements`). So from the start on, and again after each reset, in whatever state it is raised, every run of it is
+-- correct, with any stalls from outside and any samples (`correct`):
+--   legal              each register and each word of a file has the value of the sequential machine after as many instructions as the stage that writes
+--                      it has completed;
+--   moves              in any n * k cycles without a stall from outside a machine of n stages retires at least k instructions, and the oldest instruction
+--                      is never squashed;
+--   no_needless_stall  right guesses cost nothing, a wrong one is detected as soon as the value of its register is available, and a stage that isn't stalled
+--                      from outside waits only for an operand that isn't available yet, or since the next stage doesn't move.
+-- `read` writes the text again (`read_back`), and after an input that ends with a line feed `watch N` finds no difference in it (`watched`), if what they
+-- read has at most 16 MiB.
 pub record IsPipeline (input text : List ℕ) : Type 0 where
   pub implements : IsImplementation input text
   pub correct : IsVerilogWith IsCorrectFrom input text
@@ -50,7 +53,9 @@ Differs command input text = ⊥
 abbrev pub Names : (Refusal → Type 0) → List ℕ → Type 0
 Names Violates text = (refusal : Refusal) × Violates refusal × (text ≡ refusal_line refusal)
 
--- All statuses of a command. 2 and 6 are those of the first rule of the language, or of Verilog, that the input violates, and of nothing else.
+-- The statuses 0, 2, 6 and 7 of a command. 2 and 6 are those of the first rule of the language, or of Verilog, that the input violates, and of nothing else.
+-- The others are 1 (the words are no command), 3 and 4 (the source or the sink failed) and 5 (out of memory): the clauses of `tool` say that there are no
+-- more, so a job that violates no rule is accepted, unless one of these occurs.
 pub record Promises (command : Command) (status : ℕ) (input text : List ℕ) : Type 0 where
   pub shows : status ≡ 0 → Shows command input text
   pub differs : status ≡ 7 → Differs command input text

@@ -4,7 +4,7 @@ use Rattle.std.proofs.{lemmas.List.Folds.find_at, lemmas.Bool.eqb-true, lemmas.B
 use Rattle.std.proofs.lemmas.Option.{get_or_from_slice_get, slice_get-get_or, slice_get_within}
 use Rattle.std.proofs.lemmas.List.{get_or_past}
 use Rattle.std.specs.{Prelude.find, Prelude.slice_get, Prelude.◌↔◌, List.position_or_len}
-use Rattle.kp_expected.specs.{Plain.plain, GoesOn.GoesOn as After, GoesOn.AreAnswers, inner.Readable.IsReadableName}
+use Rattle.kp_expected.specs.{Plain.plain, GoesOn.GoesOn as After, GoesOn.AreAnswers, Readable.IsReadableName}
 use Rattle.kp_expected.proofs.Transfer.{transfer}
 use Rattle.kp_lex.specs.declared.token.Keyword.TheVariants as keywords
 use Rattle.kp_lex.specs.declared.token.Mark.TheVariants as marks

@@ -2,7 +2,7 @@
 use Rattle.std.proofs.Common.{ℕ, ◌≡◌, ◌==◌, List, [], map, Bool, Option, Some, refl, sym, ◌∙◌, subst}
 use Rattle.std.proofs.{lemmas.List.Folds.find_at}
 use Rattle.std.specs.{Prelude.find, Prelude.slice_get, Prelude.◌↔◌, List.position_or_len}
-use Rattle.kp_expected.specs.{Plain.plain, GoesOn.GoesOn, GoesOn.AreAnswers, inner.Readable.IsReadableName}
+use Rattle.kp_expected.specs.{Plain.plain, GoesOn.GoesOn, GoesOn.AreAnswers, Readable.IsReadableName}
 use Rattle.kp_expected.proofs.Transfer.{transfer}
 use Rattle.kp_vlog.specs.Tokens as words
 use Rattle.kp_vlog.specs.declared.token.Keyword.TheVariants as keywords

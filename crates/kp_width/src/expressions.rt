@@ -1,6 +1,6 @@
 // The widths of expressions, and their checks.
 ghost use Rattle.std.specs.Prelude.{◌≡◌, ◌+◌, ◌≤◌, map, drop, length, slice_get, min};
-ghost use Rattle.kp_width.specs.Expressions.{literal_of, is_test, is_width, value_in, binary_of, choice_of, slice_by, extension_by, sum_of, concatenation_by, is_declared, params_of, width_at, arguments_of, call_of, called_of, condition_of, part_of, value_of, width_of};
+ghost use Rattle.kp_width.specs.Expressions.{literal_of, is_width, value_in, binary_of, choice_of, slice_by, extension_by, sum_of, concatenation_by, is_declared, params_of, width_at, arguments_of, call_of, called_of, condition_of, part_of, value_of, width_of};
 ghost use Rattle.kp_width.specs.Statements.{address_of};
 
 use crate::fault::{Destination, Position, WidthFault, found_at};

@@ -1,5 +1,5 @@
 use Rattle.std.proofs.Common.{[], ◌∷◌}
-use Rattle.kp_expected.specs.{Plain.stack, inner.Steps.Goes, inner.Readable.work}
+use Rattle.kp_expected.specs.{Plain.stack, inner.Steps.Goes, Readable.work}
 use Rattle.kp_expected.proofs.rest.Rest.read.Given as goal
 
 abbrev pub invariant-parts : goal.invariant-parts
