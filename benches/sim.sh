@@ -87,10 +87,10 @@ race() {
     each=$(awk "BEGIN { printf \"%.2f\", ($sim - $none) * 1e9 / $cycles / $nodes }")
     steps=-
     if command -v valgrind > /dev/null; then
-        steps=$(awk "BEGIN { printf \"%.1f\", ($(instructions 1500) - $(instructions 500)) / 1000 / $nodes }")
+        steps=$(echo "$(instructions 500)" "$(instructions 1500)" | awk -v nodes="$nodes" 'NF == 2 { printf "%.1f", ($2 - $1) / 1000 / nodes }')
     fi
     printf '%-8s %7s %8s %10s %8s %8s %8s %8s %8s %8s\n' "$name" "$nodes" "$sim" "$verilator" "$icarus" "$run" "$(over "$sim" "$verilator")" \
-        "$(over "$sim" "$icarus")" "$each" "$steps"
+        "$(over "$sim" "$icarus")" "$each" "${steps:--}"
 }
 
 # with_image MACHINE IMAGE: prints a RISC-V machine with a program
