@@ -2,12 +2,12 @@
 use Rattle.std.proofs.Common.{◌≡◌, ◌∙◌, ℕ, ◌<◌, ◌≤◌, ◌&&◌, ◌||◌, ◌==◌, Bool, true, false, List, Some, length, refl, ap, sym, arith}
 use Rattle.std.proofs.lemmas.Bool.{and_parts, ltb-true, leb-true, eqb-true}
 use Rattle.std.specs.Prelude.{is_some, nat_lt, nat_le}
-use Rattle.kp_bits.specs.{Word.Word, Word.IsWord, Operators.is_shift}
+use Rattle.kp_bits.specs.{Word.Word, Word.IsWord, Operators.is_shift, Operators.result_width}
 use Rattle.kp_bits.specs.Checked.{where_so, checked_binary, checked_mux, checked_slice, is_extension}
 use Rattle.kp_bits.specs.declared.operator.BinOp.{BinOp}
 use Rattle.kp_net.specs.{declared.node.NodeId.NodeId, declared.node.Node.Node, Nodes.Cells, Nodes.word_at, Nodes.at, Widths.wide, Widths.BinaryOk, Growth.Held}
 use Rattle.kp_net.proofs.Values.{word_wide, at_fits}
-use Rattle.kp_build.specs.inner.Showing.{IsThere, Shows, width_after}
+use Rattle.kp_build.specs.inner.Showing.{IsThere, Shows}
 
 -- a property for all cells holds for empty cells
 abbrev pub no_cells : Cells
@@ -35,13 +35,6 @@ second : (a b : Bool) → a ≡ false → (a || b) ≡ true → b ≡ true
 second true b h k = cc
 second false b h k = k
 
-binary_ok : (op : BinOp) (a b : ℕ) → (is_shift op ≡ false → a ≡ b) → BinaryOk op (width_after op a) a b
-binary_ok BinOp.Eq a b h = (refl, h refl)
-binary_ok BinOp.Lt a b h = (refl, h refl)
-binary_ok BinOp.Shl a b h = refl
-binary_ok BinOp.Shr a b h = refl
-binary_ok _ a b h = (refl, sym (h refl))
-
 -- the word of a node with a width
 pub is_word : (c : Cells) (ns : List Node) (i : ℕ) → i < length ns → 1 ≤ wide ns i → wide ns i ≤ 64 → IsWord (word_at c ns i)
 unfolding at
@@ -56,10 +49,13 @@ module _ (ns : List Node) where
 
   -- the operands of a binary operator
   pub operands_ok : (op : BinOp) (a b : ℕ) → a < length ns → b < length ns → IsThere (λ c. checked_binary op (word_at c ns a) (word_at c ns b))
-      → BinaryOk op (width_after op (wide ns a)) (wide ns a) (wide ns b)
-  operands_ok op a b h k there = binary_ok op (wide ns a) (wide ns b) (λ e.
-      let t = passes (λ c. is_shift op || (word_at c ns a).width == (word_at c ns b).width) _ there in
-      sym (width_at a h) ∙ eqb-true _ _ (second _ _ e t) ∙ width_at b k)
+      → BinaryOk op (result_width op (wide ns a)) (wide ns a) (wide ns b)
+  operands_ok op a b h k there = (
+    refl,
+    λ e.
+        let t = passes (λ c. is_shift op || (word_at c ns a).width == (word_at c ns b).width) _ there in
+        sym (width_at a h) ∙ eqb-true _ _ (second _ _ e t) ∙ width_at b k,
+  )
 
   -- the test and the branches of a choice
   pub branches_ok : (t a b : ℕ) → t < length ns → a < length ns → b < length ns → IsThere (λ c. checked_mux (word_at c ns t) (word_at c ns a) (word_at c ns b))

@@ -7,7 +7,7 @@ ghost use Rattle.kp_bits.specs.Checked.{checked_literal, checked_binary, checked
 ghost use Rattle.kp_net.specs.Nodes.{Cells, word_at};
 ghost use Rattle.kp_net.specs.Widths.{wide};
 ghost use Rattle.kp_net.specs.Growth.{Held, Wire, Grown};
-ghost use Rattle.kp_build.specs.inner.Showing.{IsThere, Shows, width_after, copies};
+ghost use Rattle.kp_build.specs.inner.Showing.{IsThere, Shows, copies};
 
 use kp_bits::{BinOp, Literal};
 use kp_net::{NodeId, Operands};
@@ -51,18 +51,8 @@ pub(crate) fn operated(pool: &mut Pool, op: BinOp, a: NodeId, b: NodeId) -> Node
     ensures shows { Shows pool.new result (λ c. checked_binary op (word_at c pool.old.nodes a.0) (word_at c pool.old.nodes b.0)) }
     ensures grown { Grown pool.old pool.new 1 }
 {
-    let width = width_after(op, pool.width(a));
+    let width = op.result_width(pool.width(a));
     binary(pool, op, a, b, width)
-}
-
-// The width of the result of an operator, given that of its left operand.
-fn width_after(op: BinOp, left: u8) -> u8
-    ensures { result ≡ width_after op left }
-{
-    match op {
-        BinOp::Eq | BinOp::Lt => 1,
-        _ => left,
-    }
 }
 
 /// `test ? yes : no`

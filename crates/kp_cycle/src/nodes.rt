@@ -1,5 +1,5 @@
 // Evaluating the nodes of a cycle.
-ghost use Rattle.std.specs.Prelude.{◌≡◌, ◌<◌, ◌≤◌, ◌+◌, ◌%◌, ◌^◌, false, length, get_or, map, All};
+ghost use Rattle.std.specs.Prelude.{◌≡◌, ◌<◌, ◌≤◌, ◌+◌, ◌^◌, false, length, get_or, map, All};
 ghost use Rattle.std.specs.List.{sum_by};
 ghost use Rattle.kp_bits.specs.Operators.{joined_of};
 ghost use Rattle.kp_bits.specs.Word.{IsWord, word};
@@ -12,7 +12,7 @@ ghost use Rattle.kp_cycle.specs.inner.Settling.{AreFixed, Settled};
 ghost use Rattle.kp_cycle_plan.specs.Storage.{Fits, FitsBelow, StateFits, cells, seen, state_of};
 
 use crate::batches::take_batches;
-use kp_bits::Bits;
+use kp_bits::{Bits, low_bits};
 use kp_cycle_plan::{Memory, Step};
 use kp_net::{Kind, Netlist, NodeId};
 
@@ -181,14 +181,4 @@ fn joined(net: &Netlist, memory: &Memory, parts: &[NodeId]) -> Bits
         word = word.concat(operand(net, memory, parts[i]));
     }
     word
-}
-
-// The lowest bits of a number.
-#[tactic(auto, using(std::proofs::lemmas::Nat::and_mask, kp_bits::proofs::Powers::mask_of))]
-fn low_bits(n: u64, width: u8) -> u64
-    requires positive { 1 ≤ width }
-    requires at_most { width ≤ 64 }
-    ensures { result ≡ n % 2 ^ width }
-{
-    n & (u64::MAX >> (64 - width))
 }

@@ -1,9 +1,9 @@
 // The operations of nodes in a form that is fast to evaluate.
-ghost use Rattle.std.specs.Prelude.{◌≡◌, ◌≤◌, ◌-◌, ◌^◌, length};
+ghost use Rattle.std.specs.Prelude.{◌≡◌, ◌≤◌, length};
 ghost use Rattle.kp_net.specs.Widths.{wide};
 ghost use Rattle.kp_cycle_plan.specs.Codes.{op_for, binary_op, joined_op};
 
-use kp_bits::BinOp;
+use kp_bits::{BinOp, ones};
 use kp_net::{Kind, Node, NodeId};
 
 /// What a node computes, with all that depends on its widths precomputed, so that values are plain numbers. A mask
@@ -52,7 +52,7 @@ pub fn op_of(nodes: &[Node], node: &Node) -> Op
     requires at_most { node.now.width ≤ 64 }
     ensures { result ≡ op_for nodes.now node.now }
 {
-    let mask = mask_of(node.width);
+    let mask = ones(node.width);
     match &node.kind {
         Kind::Not(a) => Op::Not(*a, mask),
         Kind::Binary(op, a, b) => binary(*op, *a, *b, node.width, mask),
@@ -102,14 +102,4 @@ fn width_at(nodes: &[Node], a: NodeId) -> u8
 {
     let a = a.0 as usize;
     if a < nodes.len() { nodes[a].width } else { 0 }
-}
-
-// The greatest number of this width.
-#[tactic(auto, using(kp_bits::proofs::Powers::mask_of))]
-fn mask_of(width: u8) -> u64
-    requires positive { 1 ≤ width }
-    requires at_most { width ≤ 64 }
-    ensures { result ≡ 2 ^ width - 1 }
-{
-    u64::MAX >> (64 - width)
 }

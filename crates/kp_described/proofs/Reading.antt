@@ -8,7 +8,7 @@ use Rattle.kp_ast.specs.declared.tree.Job.{Job}
 use Rattle.kp_lex.specs.{Text.HasOutcome, declared.token.Token.Token, declared.token.Lexed.Lexed}
 use Rattle.kp_parse_grammar.specs.Tokens.{Lexeme, lexemes, kind_class, lexeme_of}
 use Rattle.kp_parse_grammar.specs.Language.{Sym, State, Step, Way, JOB, at, job, rules, language, read_token, build_step}
-use Rattle.kp_parse_grammar.specs.inner.Follow.{tables}
+use Rattle.kp_parse_grammar.specs.Follow.{tables}
 use Rattle.kp_parse_grammar.proofs.Predictive.{is_predictive}
 use Rattle.kp_described.specs.Computed.{Found, lexeme, tokens_from, Reading, expanded, reads, reads_all, start_place, front_reading}
 use Rattle.kp_described.proofs.Tokens.{finds}

@@ -5,7 +5,7 @@ use Rattle.kp_grammar.specs.Machine.{Outcome, Accepts, Leads, look, accept, goes
 use Rattle.kp_ast.specs.declared.tree.{Num.Num, Lit.Lit, Image.Image, Stalls.Stalls, Inputs.Inputs, Job.Job}
 use Rattle.kp_lex.specs.{Text.HasOutcome, declared.token.Lexed.Lexed}
 use Rattle.kp_parse_grammar.specs.Language.{Sym, State, Value, perhaps_number, literals, image, images, stall, stalls, perhaps_stalls, input, inputs, perhaps_inputs, job, at, JOB, WORDS, WORD, NUMBERED, LITS, STALLS, SPANS, SPAN, STEP, INPUTS, ENTRIES, ENTRY, rules, language, values_read, values_built}
-use Rattle.kp_parse_grammar.specs.{Tokens.Lexeme, Tokens.lexemes, inner.Follow.tables}
+use Rattle.kp_parse_grammar.specs.{Tokens.Lexeme, Tokens.lexemes, Follow.tables}
 use Rattle.kp_described.specs.Computed.{Reading, front_reading}
 use Rattle.kp_described.specs.Sections.{IsWith, HasSections, parts_of, at_image, at_stalls, at_end, IsHead}
 use Rattle.kp_described.proofs.Reading.{Led, goes_on}

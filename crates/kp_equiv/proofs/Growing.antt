@@ -6,8 +6,9 @@ use Rattle.kp_net.specs.declared.node.{NodeId.NodeId, Kind.Kind}
 use Rattle.kp_net.specs.declared.node.Kind.TheVariants.{Word, Not, Binary, Mux, Concat, Slice}
 use Rattle.kp_net.specs.declared.{node.Node.Node, netlist.NetFile.NetFile, netlist.NetReg.NetReg, netlist.Parts.Parts, netlist.Port.Port}
 use Rattle.kp_net.specs.{Netlist.Net, Parts.NetOk, Parts.CellOk, Parts.no_file, Widths.KindOk, Widths.NodeOk, Widths.no_node}
+use Rattle.kp_bits.specs.Operators.{commutes}
 use Rattle.kp_equiv.specs.inner.Shapes.{Known, known_of, AreFew, first_of_pair, second_of_pair, shape_kind, shape, Numbered, Has, IsTable, Extends, Puts, AreClasses, Grown}
-use Rattle.kp_equiv.specs.{Alike.commutes, Classes.place, Classes.no_class, Classes.class_in, Classes.Determines}
+use Rattle.kp_equiv.specs.{Classes.place, Classes.no_class, Classes.class_in, Classes.Determines}
 use Rattle.kp_equiv.proofs.{Places.reg_count, Places.file_count, Places.sample_count, Exactness.determines}
 
 -- a shape depends only on the classes of the operands

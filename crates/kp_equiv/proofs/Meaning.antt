@@ -1,39 +1,21 @@
 -- Equivalent nodes have equal words, if both netlists have the same sources by name.
-use Rattle.std.proofs.Common.{◌≡◌, ◌∙◌, ℕ, zero, suc, ◌%◌, ◌^◌, ◌==◌, ◌<◌, Bool, true, List, [], ◌∷◌, length, map, get_or, refl, sym, ap, arith, ⊎_elim}
-use Rattle.std.proofs.{Math.Nat.add_comm, Math.Nat.mul_comm, lemmas.Nat.and_comm, lemmas.Nat.or_comm, lemmas.Nat.xor_comm, lemmas.Bool.false≢true}
-use Rattle.std.proofs.lemmas.Bool.Decides.{Decides-eqb, Decides-like, same_from_decides}
-use Rattle.std.specs.Prelude.{if◌then◌else◌}
+use Rattle.std.proofs.Common.{◌≡◌, ◌∙◌, ℕ, zero, suc, ◌==◌, ◌<◌, true, false, List, [], ◌∷◌, length, map, get_or, refl, sym, ap, arith, ⊎_elim}
+use Rattle.std.proofs.lemmas.Bool.{false≢true}
 use Rattle.kp_bits.specs.Word as bits
-use Rattle.kp_bits.specs.{Word.word, Word.not_of, Word.mux_of, Word.slice_of, Operators.binary_of, Operators.joined_of, declared.operator.BinOp.BinOp}
+use Rattle.kp_bits.specs.{Word.word, Word.not_of, Word.mux_of, Word.slice_of, Operators.is_shift, Operators.commutes, Operators.binary_of, Operators.joined_of, declared.operator.BinOp.BinOp}
+use Rattle.kp_bits.proofs.Operators.{commuted}
 use Rattle.kp_net.specs.declared.node.{NodeId.NodeId, Kind.Kind}
 use Rattle.kp_net.specs.declared.node.Kind.TheVariants.{Const, Ext, Sample, Reg, Word, Not, Binary, Mux, Concat, Slice}
 use Rattle.kp_net.specs.{declared.node.Node.Node, Netlist.Net}
 use Rattle.kp_net.specs.{Nodes.Cells, Nodes.Words, Nodes.word_of_kind, Nodes.word_of_node, Nodes.word_at, Nodes.at, Nodes.on, Parts.NetOk, Parts.CellOk}
 use Rattle.kp_net.{specs.Widths.KindOk, specs.Widths.wide, specs.Widths.no_node, proofs.Values.word_there, proofs.Values.word_wide}
-use Rattle.kp_equiv.specs.Alike.{commutes, Relation, AllRelated, PairRelated, KindAlike, Alike, AlikeWithin}
+use Rattle.kp_equiv.specs.Alike.{Relation, AllRelated, PairRelated, KindAlike, Alike, AlikeWithin}
 use Rattle.kp_equiv.specs.inner.Meaning.{SameCells}
 
-test_swaps : (x y : ℕ) → (x == y) ≡ (y == x)
-test_swaps x y = same_from_decides (x == y) (y == x) (Decides-eqb x y) (Decides-like (y == x) sym sym (Decides-eqb y x))
-
--- an operator that commutes, on words of one width
-commuted : (op : BinOp) (x y : bits.Word) → commutes op ≡ true → x.width ≡ y.width → binary_of op x y ≡ binary_of op y x
-commuted BinOp.And x y c w = λ i. word (w i) (and_comm x.value y.value i)
-commuted BinOp.Or x y c w = λ i. word (w i) (or_comm x.value y.value i)
-commuted BinOp.Xor x y c w = λ i. word (w i) (xor_comm x.value y.value i)
-commuted BinOp.Add x y c w = λ i. word (w i) (add_comm x.value y.value i % 2 ^ w i)
-commuted BinOp.Mul x y c w = λ i. word (w i) (mul_comm x.value y.value i % 2 ^ w i)
-commuted BinOp.Eq x y c w = ap (λ (b : Bool). word 1 (if b then 1 else 0)) (test_swaps x.value y.value)
-commuted _ x y c w = absurd (false≢true c)
-
--- the operands of such an operator have one width
-one_width : (op : BinOp) (ns : List Node) (m k : ℕ) (x y : NodeId) → commutes op ≡ true → KindOk ns m k (Binary op x y) → wide ns x.0 ≡ wide ns y.0
-one_width BinOp.Eq ns m k x y c h = h.2.1
-one_width BinOp.Sub ns m k x y c h = absurd (false≢true c)
-one_width BinOp.Lt ns m k x y c h = absurd (false≢true c)
-one_width BinOp.Shl ns m k x y c h = absurd (false≢true c)
-one_width BinOp.Shr ns m k x y c h = absurd (false≢true c)
-one_width _ ns m k x y c h = h.2.0 ∙ sym h.2.1
+no_shift : (op : BinOp) → commutes op ≡ true → is_shift op ≡ false
+no_shift BinOp.Shl c = absurd (false≢true c)
+no_shift BinOp.Shr c = absurd (false≢true c)
+no_shift _ c = refl
 
 parts_alike : (R : Relation) (v w : Words) → ((x y : NodeId) → R x y → v x.0 ≡ w y.0) → (xs ys : List NodeId) → AllRelated R xs ys → map (λ x. v x.0) xs ≡ map (λ y. w y.0) ys
 parts_alike R v w joins [] [] h = refl
@@ -49,7 +31,7 @@ module _ (R : Relation) (a b : Net) (c d : Cells) (cells : SameCells a b c d) (m
       (λ (h : (commutes op ≡ true) × R x s × R y r).
       let p = joins x s h.1 in let q = joins y r h.2 in
       let z : binary_of op (v y.0) (v x.0) ≡ binary_of op (w r.0) (w s.0) = (λ i. binary_of op (q i) (p i)) in
-      commuted op (v x.0) (v y.0) h.0 (widths x ok.0 ∙ one_width op a.nodes m k x y h.0 ok ∙ sym (widths y ok.1)) ∙ z)
+      commuted op (v x.0) (v y.0) h.0 (widths x ok.0 ∙ ok.2.1 (no_shift op h.0) ∙ sym (widths y ok.1)) ∙ z)
 
   pub kinds_alike : (l : ℕ) (o p : Kind) → KindOk a.nodes m k o → CellOk a.nodes a.parts k o → CellOk b.nodes b.parts l p → KindAlike R a b o p → word_of_kind c v k o ≡ word_of_kind d w k p
   kinds_alike l (Const x) (Const y) ok s t h = ap (word k) h

@@ -5,7 +5,8 @@ use Rattle.kp_bits.specs.declared.operator.BinOp.{BinOp}
 use Rattle.kp_net.specs.declared.node.{NodeId.NodeId, Kind.Kind}
 use Rattle.kp_net.specs.declared.node.Kind.TheVariants.{Const, Ext, Sample, Reg, Word, Not, Binary, Mux, Concat, Slice}
 use Rattle.kp_net.specs.{Netlist.Net, Parts.CellOk, Widths.KindOk}
-use Rattle.kp_equiv.specs.{Alike.commutes, Alike.Relation, Alike.AllRelated, Alike.PairRelated, Alike.KindAlike, Classes.place}
+use Rattle.kp_bits.specs.Operators.{commutes}
+use Rattle.kp_equiv.specs.{Alike.Relation, Alike.AllRelated, Alike.PairRelated, Alike.KindAlike, Classes.place}
 use Rattle.kp_equiv.specs.inner.Shapes.{Known, known_of, least, greatest, first_of_pair, second_of_pair, shape_kind}
 use Rattle.kp_equiv.proofs.{Places.registers, Places.memories, Places.ports, Places.one_name, Determined.id_is}
 

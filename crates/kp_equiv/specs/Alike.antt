@@ -1,21 +1,11 @@
 -- EQUIVALENT TREES.
 -- The tree of a node is the node with the trees of its operands in place of their numbers. In it a register, a file and a sample port are identified
 -- by name. Two trees are equivalent if they are equal up to the order of the two operands of `& | ^ + * ==`, at every depth.
-use Rattle.std.specs.Prelude.{ℕ, zero, suc, ◌<◌, ◌≡◌, ◌⊎◌, Bool, true, false, List, [], ◌∷◌, length, get_or}
-use Rattle.kp_bits.specs.declared.operator.BinOp.{BinOp}
+use Rattle.std.specs.Prelude.{ℕ, zero, suc, ◌<◌, ◌≡◌, ◌⊎◌, true, List, [], ◌∷◌, length, get_or}
+use Rattle.kp_bits.specs.{declared.operator.BinOp.BinOp, Operators.commutes}
 use Rattle.kp_net.specs.declared.node.{NodeId.NodeId, Kind.Kind}
 use Rattle.kp_net.specs.declared.node.Kind.TheVariants.{Const, Ext, Sample, Reg, Word, Not, Binary, Mux, Concat, Slice}
 use Rattle.kp_net.specs.{declared.node.Node.Node, Netlist.Net, Parts.no_port, Parts.no_reg, Parts.no_file, Widths.no_node}
-
--- `& | ^ + * ==`
-abbrev pub commutes : BinOp → Bool
-commutes BinOp.And = true
-commutes BinOp.Or = true
-commutes BinOp.Xor = true
-commutes BinOp.Add = true
-commutes BinOp.Mul = true
-commutes BinOp.Eq = true
-commutes _ = false
 
 -- the names of a register, a file and a sample port, by their numbers
 abbrev pub reg_name : Net → ℕ → List ℕ

@@ -2,12 +2,12 @@
 ghost use Rattle.std.specs.Prelude.{◌≡◌, ◌<◌, ◌≤◌, length, map, All, IfOk};
 ghost use Rattle.kp_net.specs.Parts.{CellOk};
 ghost use Rattle.kp_net.specs.Widths.{KindOk, NodeOk};
-ghost use Rattle.kp_equiv.specs.{Alike.commutes, Named.HasNames, Classes.class_in};
+ghost use Rattle.kp_bits.specs.Operators.{commutes};
+ghost use Rattle.kp_equiv.specs.{Named.HasNames, Classes.class_in};
 ghost use Rattle.kp_equiv.specs.inner.Shapes.{known_of, AreFew, shape, shape_kind, least, greatest, first_of_pair, second_of_pair};
 
 use crate::classes::class_of;
 use crate::names::Names;
-use crate::operators::commutes;
 use kp_base::NoMemory;
 use kp_bits::BinOp;
 use kp_net::{Kind, Netlist, Node, NodeId, Operands};
@@ -112,7 +112,7 @@ impl<'m> Known<'m> {
 fn binary(op: BinOp, a: NodeId, b: NodeId) -> Kind
     ensures { result ≡ Kind.Binary op (first_of_pair (commutes op) a b) (second_of_pair (commutes op) a b) }
 {
-    if commutes(op) {
+    if op.commutes() {
         Kind::Binary(op, NodeId(a.0.min(b.0)), NodeId(a.0.max(b.0)))
     } else {
         Kind::Binary(op, a, b)

@@ -12,7 +12,6 @@ pub mod laws;
 mod names;
 mod namesakes;
 mod node_classes;
-mod operators;
 mod roots;
 mod table;
 mod verdict;

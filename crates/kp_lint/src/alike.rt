@@ -1,9 +1,8 @@
 // Expressions that are written alike.
 ghost use Rattle.std.specs.Prelude.{◌≡◌};
-ghost use Rattle.kp_lint.specs.Alike.{alike, is_same_operator};
+ghost use Rattle.kp_lint.specs.Alike.{alike};
 
 use kp_ast::{Expr, ExprKind};
-use kp_bits::BinOp;
 
 /// Whether two expressions are written alike. Choices, extensions, concatenations and calls aren't compared.
 #[cycle(same)]
@@ -18,14 +17,8 @@ pub(crate) fn is_alike(a: &Expr, b: &Expr) -> bool
             *hi == *high && *lo == *low && is_alike(a.get(), b.get())
         }
         (ExprKind::Binary(f, a, c), ExprKind::Binary(g, b, d)) => {
-            is_same_operator(*f, *g) && is_alike(a.get(), b.get()) && is_alike(c.get(), d.get())
+            f.symbol() == g.symbol() && is_alike(a.get(), b.get()) && is_alike(c.get(), d.get())
         }
         _ => false,
     }
-}
-
-fn is_same_operator(f: BinOp, g: BinOp) -> bool
-    ensures { result ≡ is_same_operator f g }
-{
-    f == g
 }

@@ -2,9 +2,9 @@
 use Rattle.std.proofs.Common.{◌≡◌, ℕ, ◌+◌, ◌<◌, ◌≤◌, ◌^◌, ◌%◌, ◌==◌, false, List, [], ◌∷◌, fold, map, length, refl, sym, subst, ap, ◌∙◌, arith, All}
 use Rattle.std.proofs.{Math.Nat.mod-eq_of_lt, lemmas.Bool.cond_both, lemmas.Bool.true≢false, lemmas.List.Elements.All-head, lemmas.List.Elements.All-tail}
 use Rattle.std.{proofs.lemmas.List.Sums.sum_by-cons, specs.List.sum_by}
-use Rattle.kp_bits.proofs.Words.{not_word, and_word, or_word, xor_word, add_word, sub_word, mul_word, eq_word, lt_word, shl_word, shr_word, concat_word, slice_word}
+use Rattle.kp_bits.proofs.{Operators.binary_word, Operators.binary_width, Words.not_word, Words.concat_word, Words.slice_word}
 use Rattle.kp_bits.specs.{Word.IsWord, Word.concat_of, Word.slice_of, Word.not_of, declared.operator.BinOp.BinOp}
-use Rattle.kp_bits.specs.Operators.{is_shift, binary_of, joined_of}
+use Rattle.kp_bits.specs.Operators.{result_width, binary_of, joined_of}
 use Rattle.kp_bits.specs.Word as bits
 use Rattle.kp_net.specs.declared.node.{NodeId.NodeId, Kind.Kind}
 use Rattle.kp_net.specs.declared.node.Kind.TheVariants.{Const, Ext, Sample, Reg, Word, Not, Binary, Mux, Concat, Slice}
@@ -21,24 +21,8 @@ has : (k l : ℕ) (w : bits.Word) → IsWord w → w.width ≡ l → l ≡ k →
 has k l w h e f = record { word = h; width = e ∙ f }
 
 binary_has : (op : BinOp) (k x y : ℕ) (a b : bits.Word) → Has x a → Has y b → BinaryOk op k x y → Has k (binary_of op a b)
-binary_has BinOp.And k x y a b h l ok = has k x _ (and_word a b h.word) h.width ok.0
-binary_has BinOp.Or k x y a b h l ok = has k x _ (or_word a b h.word l.word (h.width ∙ ok.0 ∙ sym ok.1 ∙ sym l.width)) h.width ok.0
-binary_has BinOp.Xor k x y a b h l ok = has k x _ (xor_word a b h.word l.word (h.width ∙ ok.0 ∙ sym ok.1 ∙ sym l.width)) h.width ok.0
-binary_has BinOp.Add k x y a b h l ok = has k x _ (add_word a b h.word) h.width ok.0
-binary_has BinOp.Sub k x y a b h l ok = has k x _ (sub_word a b h.word) h.width ok.0
-binary_has BinOp.Mul k x y a b h l ok = has k x _ (mul_word a b h.word) h.width ok.0
-binary_has BinOp.Eq k x y a b h l ok = has k 1 _ (eq_word a b) refl (sym ok.0)
-binary_has BinOp.Lt k x y a b h l ok = has k 1 _ (lt_word a b) refl (sym ok.0)
-binary_has BinOp.Shl k x y a b h l ok = has k x _ (shl_word a b h.word) h.width ok
-binary_has BinOp.Shr k x y a b h l ok = has k x _ (shr_word a b h.word) h.width ok
-
--- but for a shift, both operands have one width
-pub operand_widths : (op : BinOp) (k a b : ℕ) → BinaryOk op k a b → is_shift op ≡ false → a ≡ b
-operand_widths BinOp.Eq k a b ok s = ok.1
-operand_widths BinOp.Lt k a b ok s = ok.1
-operand_widths BinOp.Shl k a b ok s = absurd (true≢false s)
-operand_widths BinOp.Shr k a b ok s = absurd (true≢false s)
-operand_widths _ k a b ok s = ok.0 ∙ sym ok.1
+binary_has op k x y a b h l ok =
+    has k _ _ (binary_word op a b h.word l.word (λ s. h.width ∙ ok.1 s ∙ sym l.width)) (binary_width op a b ∙ ap (result_width op) h.width) ok.0
 
 rest_has : (w : Words) (v : ℕ → ℕ) (m k : ℕ) (a : bits.Word) (rest : List NodeId) → Has k a → All (λ b. b.0 < m) rest → ((j : ℕ) → j < m → Has (v j) (w j))
     → k + sum_by (λ b. v b.0) rest ≤ 64 → Has (k + sum_by (λ b. v b.0) rest) (fold concat_of a (map (λ b. w b.0) rest))

@@ -1,8 +1,8 @@
 -- `==` on nodes is equality.
-use Rattle.std.proofs.Common.{◌≡◌, ◌&&◌, ℕ, Bool, true, false, refl, ap, eqb}
+use Rattle.std.proofs.Common.{◌≡◌, ◌&&◌, ℕ, true, false, refl, ap, eqb}
 use Rattle.std.proofs.lemmas.{Bool.false≢true, Bool.and_parts, Bool.Decides.Decides-eqb, Slice.Eq.slice_eq-Decides}
 use Rattle.std.specs.{Bool.Decides, Cmp.Derive.both_true}
-use Rattle.kp_bits.specs.declared.operator.BinOp.{BinOp}
+use Rattle.kp_bits.proofs.Operators.{same as operator, same_itself as operator_itself}
 use Rattle.kp_bits.specs.contracts.operator.BinOpPartialEq.TheImpl as operators
 use Rattle.kp_net.specs.declared.node.{NodeId.NodeId, Kind.Kind}
 use Rattle.kp_net.specs.declared.node.Kind.TheVariants.{Const, Ext, Sample, Reg, Word, Not, Binary, Mux, Concat, Slice}
@@ -21,23 +21,6 @@ id a b h = ap (λ (n : ℕ). let x : NodeId = record { 0 = n } in x) (number a.0
 
 ids : (a b : NodeId) → Decides (same_id a b) (a ≡ b)
 ids a b = (id a b, λ h. (Decides-eqb a.0 b.0).1 (ap (λ (x : NodeId). x.0) h))
-
-operator : (o p : BinOp) → operators.eq-value.it o p ≡ true → o ≡ p
-operator BinOp.And BinOp.And h = refl
-operator BinOp.Or BinOp.Or h = refl
-operator BinOp.Xor BinOp.Xor h = refl
-operator BinOp.Add BinOp.Add h = refl
-operator BinOp.Sub BinOp.Sub h = refl
-operator BinOp.Mul BinOp.Mul h = refl
-operator BinOp.Eq BinOp.Eq h = refl
-operator BinOp.Lt BinOp.Lt h = refl
-operator BinOp.Shl BinOp.Shl h = refl
-operator BinOp.Shr BinOp.Shr h = refl
-operator o p h = absurd (false≢true h)
-
-operator_itself : (o : BinOp) → operators.eq-value.it o o ≡ true
-operator_itself BinOp.And = refl
-operator_itself _ = refl
 
 kind : (a b : Kind) → kinds.eq-value.it a b ≡ true → a ≡ b
 kind (Const n) (Const m) h = ap Const (number n m h)

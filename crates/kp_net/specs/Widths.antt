@@ -1,7 +1,7 @@
 -- Which nodes are well-formed: their operands precede them, and the widths fit.
 use Rattle.std.specs.Prelude.{ℕ, ◌+◌, ◌^◌, ◌<◌, ◌≤◌, ◌≡◌, Bool, true, false, List, length, get_or, All}
 use Rattle.std.specs.List.{sum_by}
-use Rattle.kp_bits.specs.declared.operator.BinOp.{BinOp}
+use Rattle.kp_bits.specs.{declared.operator.BinOp.BinOp, Operators.is_shift, Operators.result_width}
 use Rattle.kp_net.specs.declared.node.Kind.{Kind}
 use Rattle.kp_net.specs.declared.node.Kind.TheVariants.{Const, Ext, Sample, Reg, Word, Not, Binary, Mux, Concat, Slice}
 use Rattle.kp_net.specs.declared.node.Node.{Node}
@@ -14,18 +14,9 @@ no_node = record { width = 0; kind = Const 0 }
 unfoldable pub wide : List Node → ℕ → ℕ
 wide ns i = (get_or ns i no_node).width
 
--- the width k of an operation, given the widths a and b of its operands
+-- the width k of an operation, given the widths a and b of its operands, which are equal, but for a shift
 abbrev pub BinaryOk : BinOp → (width left right : ℕ) → Type 0
-BinaryOk BinOp.And k a b = (a ≡ k) × (b ≡ k)
-BinaryOk BinOp.Or k a b = (a ≡ k) × (b ≡ k)
-BinaryOk BinOp.Xor k a b = (a ≡ k) × (b ≡ k)
-BinaryOk BinOp.Add k a b = (a ≡ k) × (b ≡ k)
-BinaryOk BinOp.Sub k a b = (a ≡ k) × (b ≡ k)
-BinaryOk BinOp.Mul k a b = (a ≡ k) × (b ≡ k)
-BinaryOk BinOp.Eq k a b = (k ≡ 1) × (a ≡ b)
-BinaryOk BinOp.Lt k a b = (k ≡ 1) × (a ≡ b)
-BinaryOk BinOp.Shl k a b = a ≡ k
-BinaryOk BinOp.Shr k a b = a ≡ k
+BinaryOk op k a b = (result_width op a ≡ k) × (is_shift op ≡ false → a ≡ b)
 
 -- a node of width k, whose operands precede index m of the list
 abbrev pub KindOk : List Node → ℕ → ℕ → Kind → Type 0

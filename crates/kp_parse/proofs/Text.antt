@@ -9,7 +9,7 @@ use Rattle.kp_lex.specs.{declared.token.Token.Token, declared.token.Lexed.Lexed,
 use Rattle.kp_lex.proofs.{Stands.tokens_stand, Names.name_is_identifier}
 use Rattle.kp_parse_grammar.specs.Tokens.{Lexeme, IsSpelled, lexemes}
 use Rattle.kp_parse_grammar.specs.Language.{State, Way, JOB, job, language, at, is_over}
-use Rattle.kp_parse_grammar.specs.{inner.Follow.tables, Reading.JobGoes}
+use Rattle.kp_parse_grammar.specs.{Follow.tables, Reading.JobGoes}
 use Rattle.kp_parse_grammar.proofs.Predictive.{is_predictive}
 use Rattle.kp_parse.specs.Sentence.{IsTree, IsWrong, IsTooDeep, place_from}
 

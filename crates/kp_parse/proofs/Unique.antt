@@ -6,7 +6,7 @@ use Rattle.kp_grammar.proofs.Derivations.{one_state, one_wrong, one_over, not_ov
 use Rattle.kp_ast.specs.declared.tree.Job.{Job}
 use Rattle.kp_lex.specs.declared.token.Token.{Token}
 use Rattle.kp_parse_grammar.specs.{Tokens.lexeme_of, Tokens.lexemes, Language.JOB, Language.job, Language.language, Language.at, Language.is_over}
-use Rattle.kp_parse_grammar.specs.inner.Follow.{tables}
+use Rattle.kp_parse_grammar.specs.Follow.{tables}
 use Rattle.kp_parse_grammar.proofs.Predictive.{is_predictive}
 use Rattle.kp_parse.specs.Sentence.{IsTree, IsWrong, IsTooDeep, Breaks, place_from}
 use Rattle.kp_parse.proofs.Text.{limit, same_job}

@@ -8,7 +8,7 @@ use Rattle.kp_ast.specs.declared.tree.Job.{Job}
 use Rattle.kp_lex.specs.declared.token.Token.{Token}
 use Rattle.kp_parse_grammar.specs.Tokens.{Lexeme, lexemes}
 use Rattle.kp_parse_grammar.specs.Language.{JOB, Sym, State, language, rules, at, is_over}
-use Rattle.kp_parse_grammar.specs.{inner.Follow.tables, Reading.JobGoes}
+use Rattle.kp_parse_grammar.specs.{Follow.tables, Reading.JobGoes}
 use Rattle.kp_parse_grammar.proofs.{Predictive.is_predictive, Ranked.rank, Ranked.is_ranked, Shapes.reads_job}
 use Rattle.kp_parse.{specs.Sentence.IsTree, specs.Sentence.Breaks, proofs.Text.is_tree, proofs.Text.is_wrong, proofs.Text.is_too_deep}
 

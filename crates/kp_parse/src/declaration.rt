@@ -3,7 +3,7 @@ ghost use Rattle.std.specs.Prelude.{◌≡◌, ◌==◌, [], ◌∷◌, length, 
 ghost use Rattle.kp_grammar.specs.{Grammar.Nonterminal, Tables.among};
 ghost use Rattle.kp_lex.specs.declared.token.Keyword.TheVariants as keywords;
 ghost use Rattle.kp_parse_grammar.specs.Tokens.{keyword_class};
-ghost use Rattle.kp_parse_grammar.specs.inner.Follow.{decl_words};
+ghost use Rattle.kp_parse_grammar.specs.Follow.{decl_words};
 ghost use Rattle.kp_parse_grammar.specs.Language.{decls, decl as decl_value, param as param_value, params as params_value, perhaps_named, number as number_value, literal as literal_value, expr as expr_value, DECLS, DECL, INDEX, ENABLE, PAR, PARS};
 ghost use Rattle.kp_parse_grammar.specs.Reading.{class_at, Turns, Ends};
 ghost use Rattle.kp_parse_grammar.specs.inner.Stretch.{TurnsAll, EndsAll};

@@ -6,7 +6,7 @@ use Rattle.kp_bits.specs.declared.operator.BinOp.{BinOp}
 use Rattle.kp_lex.specs.declared.token.Mark.{Mark}
 use Rattle.kp_parse_grammar.specs.Language.{Sym, State, Value, at, rules, counted, make_binary, expr, CHAIN, OPERAND, MORE, UNARY, POST}
 use Rattle.kp_parse_grammar.specs.{declared.level.Level.Level, declared.fault.Fault.Fault, Tokens.Lexeme, Tokens.mark_class}
-use Rattle.kp_parse_grammar.specs.inner.{Operators.operators_of, Operators.operator_at, Operators.HasOperator, Follow.tables}
+use Rattle.kp_parse_grammar.specs.{inner.Operators.operators_of, inner.Operators.operator_at, inner.Operators.HasOperator, Follow.tables}
 use Rattle.kp_parse_grammar.specs.Reading.{Goes, class_at, Reads, Fails, ReadsYet}
 use Rattle.kp_parse_grammar.proofs.{Steps.passed, Steps.by_counted, Steps.one, Picks.other}
 use Rattle.kp_parse_grammar.specs.declared.level.Level.TheVariants as levels

@@ -6,7 +6,7 @@ use Rattle.kp_grammar.specs.{Grammar.Nonterminal, Grammar.Action, Tables.pick, T
 use Rattle.kp_lex.specs.declared.token.Keyword.{Keyword}
 use Rattle.kp_parse_grammar.specs.Language.{Sym, State, Step, rules, language, mark, placed, counted, opening, opening_at, closing, separating, NAME, NUM, LIT, DECL, DECLS, STMT, STMTS, WHOLE, EXPR, CHAIN, CHOICE, UNARY, POST, SLICES, LOW, PRIM, EXTENDED, CALL, EXPRS, PARTS, one_decl, one_stmt, enter, leave, make_choice, make_not, make_slice, same_bit, make_literal, make_concat, make_call, make_name, no_exprs, one_expr}
 use Rattle.kp_parse_grammar.specs.Tokens.{Lexeme, LITERAL, IDENTIFIER, keyword_class, mark_class}
-use Rattle.kp_parse_grammar.specs.inner.{Follow.tables, Follow.decl_words, Follow.stmt_words, Extension.ExtendsAt, Extension.extending}
+use Rattle.kp_parse_grammar.specs.{Follow.tables, Follow.decl_words, Follow.stmt_words, inner.Extension.ExtendsAt, inner.Extension.extending}
 use Rattle.kp_parse_grammar.specs.Reading.{Goes, Finds}
 use Rattle.kp_lex.specs.declared.token.Keyword.TheVariants as keywords
 use Rattle.kp_lex.specs.declared.token.Mark.TheVariants as marks

@@ -3,7 +3,7 @@ use Rattle.std.proofs.Common.{ℕ, ◌≡◌, ◌==◌, List, [], ◌∷◌, tru
 use Rattle.kp_grammar.specs.Ranks.{ranks_fit}
 use Rattle.kp_parse_grammar.specs.declared.level.Level.TheVariants as levels
 use Rattle.kp_parse_grammar.specs.Language.{rules, DECLS, STAGES, STMTS, WHOLE, WORDS, SPANS, ENTRIES, EXPR, EXPRS, UNARY, POST, CHAIN}
-use Rattle.kp_parse_grammar.specs.inner.Follow.{tables}
+use Rattle.kp_parse_grammar.specs.Follow.{tables}
 
 abbrev among_ranks : List (ℕ × ℕ) → ℕ → ℕ
 among_ranks [] n = 0

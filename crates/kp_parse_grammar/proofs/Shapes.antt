@@ -8,7 +8,7 @@ use Rattle.kp_grammar.proofs.TableTests.{picks_rule}
 use Rattle.kp_ast.specs.declared.tree.{Named.Named, Num.Num, Lit.Lit, Expr.Expr, Stmt.Stmt, Block.Block, Param.Param, Decl.Decl, Image.Image, Stalls.Stalls}
 use Rattle.kp_ast.specs.declared.tree.{Inputs.Inputs, Job.Job}
 use Rattle.kp_parse_grammar.specs.Language.{Value, Way, Step, State, Sym, language, rules, counts_read, values_read, counts_built, values_built, at, is_over}
-use Rattle.kp_parse_grammar.specs.{declared.level.Level.Level, Tokens.Lexeme, inner.Follow.tables}
+use Rattle.kp_parse_grammar.specs.{declared.level.Level.Level, Tokens.Lexeme, Follow.tables}
 use Rattle.kp_parse_grammar.specs.declared.level.Level.TheVariants as levels
 use Rattle.kp_parse_grammar.specs.Language as l
 

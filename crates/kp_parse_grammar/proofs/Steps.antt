@@ -8,7 +8,7 @@ use Rattle.kp_grammar.proofs.Ways.{took, exceeded}
 use Rattle.kp_ast.specs.declared.tree.{Expr.Expr, Num.Num}
 use Rattle.kp_lex.specs.declared.token.Keyword.{Keyword}
 use Rattle.kp_parse_grammar.specs.Language.{Sym, State, Value, Way, place, expr, number, dropped, as_place, counts_one, opens, opens_at, closes, separates, language, at, is_over}
-use Rattle.kp_parse_grammar.specs.{declared.fault.Fault.Fault, Tokens.Lexeme, inner.Follow.tables, inner.Stretch.Counts}
+use Rattle.kp_parse_grammar.specs.{declared.fault.Fault.Fault, Tokens.Lexeme, Follow.tables, inner.Stretch.Counts}
 use Rattle.kp_parse_grammar.specs.{inner.Extension.extension_of, inner.Extension.extending, Reading.Goes, Reading.Finds, Reading.FaultIs, Reading.Faults}
 use Rattle.kp_lex.specs.declared.token.Keyword.TheVariants as keywords
 use Rattle.kp_parse_grammar.specs.declared.fault.Fault.TheVariants as faults

@@ -4,7 +4,7 @@ use Rattle.std.{proofs.lemmas.List.drop_more, proofs.lemmas.List.drop-map, proof
 use Rattle.kp_grammar.specs.{Grammar.Terminal, Machine.Stops, Machine.look, Machine.wrong}
 use Rattle.kp_grammar.proofs.Ways.{took}
 use Rattle.kp_lex.specs.declared.token.{Token.Token, TokenKind.TokenKind}
-use Rattle.kp_parse_grammar.specs.{Tokens.Lexeme, Tokens.lexeme_of, Tokens.lexemes, Tokens.kind_class, Tokens.IDENTIFIER, Tokens.named_of, inner.Follow.tables}
+use Rattle.kp_parse_grammar.specs.{Tokens.Lexeme, Tokens.lexeme_of, Tokens.lexemes, Tokens.kind_class, Tokens.IDENTIFIER, Tokens.named_of, Follow.tables}
 use Rattle.kp_parse_grammar.specs.Language.{Sym, State, Way, NAME, NUM, LIT, named, number, literal, language, is_over}
 use Rattle.kp_parse_grammar.specs.Reading.{Goes, class_at, Finds, Turns}
 use Rattle.kp_lex.specs.declared.token.Keyword.TheVariants as keywords

@@ -1,4 +1,5 @@
 pub mod Tokens
 pub mod Language
+pub mod Follow
 pub mod Reading
 pub mod inner

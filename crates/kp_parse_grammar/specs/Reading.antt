@@ -7,7 +7,7 @@ use Rattle.kp_ast.specs.declared.tree.Expr.{Expr}
 use Rattle.kp_lex.specs.declared.token.TokenKind.{TokenKind}
 use Rattle.kp_parse_grammar.specs.{declared.fault.Fault.Fault, Tokens.Lexeme, Tokens.kind_class}
 use Rattle.kp_parse_grammar.specs.Language.{Sym, State, Value, Way, closes, at, is_over, exprs, language, EXPRS, PARTS, JOB}
-use Rattle.kp_parse_grammar.specs.inner.Follow.{tables}
+use Rattle.kp_parse_grammar.specs.Follow.{tables}
 use Rattle.kp_parse_grammar.specs.declared.fault.Fault.TheVariants as faults
 
 abbrev pub Goes : List Sym → State → List Lexeme → Outcome State → Type 0

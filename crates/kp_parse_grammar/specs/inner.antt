@@ -1,5 +1,4 @@
 -- Definitions for private contracts and proofs, here and in kp_parse: a reader of `parse` doesn't need them.
-pub mod Follow
 pub mod Rank
 pub mod Operators
 pub mod Stretch

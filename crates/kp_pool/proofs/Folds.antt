@@ -1,11 +1,12 @@
 -- The replacement of a foldable node has its word, and is no deeper.
-use Rattle.std.proofs.Common.{◌≡◌, ℕ, Bool, true, false, ◌+◌, ◌-◌, ◌<◌, ◌≤◌, ◌^◌, ◌%◌, ◌/◌, ◌==◌, ◌&&◌, List, [], ◌∷◌, map, length, get_or, refl, sym, subst, ap, ◌∙◌, arith, All, max, cond, bit_and, bit_or, leb, leb-true, ◌||◌}
+use Rattle.std.proofs.Common.{◌≡◌, ℕ, Bool, true, false, ◌+◌, ◌-◌, ◌<◌, ◌≤◌, ◌^◌, ◌%◌, ◌/◌, ◌==◌, ◌&&◌, List, [], ◌∷◌, map, length, get_or, refl, sym, subst, ap, ◌∙◌, arith, All, max, cond, leb, leb-true, ◌||◌}
 use Rattle.std.proofs.Math.Nat.{mod-eq_of_lt, le-max_left, le-max_right, div-one}
 use Rattle.std.proofs.lemmas.Bool.{false≢true, false_from_ne_true, and_parts, cond-true, cond-false, eqb-true, eq-eqb}
-use Rattle.std.proofs.lemmas.{Nat.and_mask, Nat.and_comm, Nat.or_comm, List.Elements.All-head, List.Elements.All-tail}
-use Rattle.std.specs.{Int.Bits.or_zero_r, Int.Bits.or_add_and, List.list_all}
-use Rattle.kp_bits.specs.{Word.IsWord, Word.not_of, Word.and_of, Word.or_of, Word.mux_of, Word.slice_of, declared.operator.BinOp.BinOp}
-use Rattle.kp_bits.specs.Operators.{binary_of, joined_of, is_shift}
+use Rattle.std.proofs.lemmas.{List.Elements.All-head, List.Elements.All-tail}
+use Rattle.std.specs.{List.list_all, Prelude.Some, Prelude.None}
+use Rattle.kp_bits.specs.{Word.IsWord, Word.not_of, Word.mux_of, Word.slice_of, declared.operator.BinOp.BinOp}
+use Rattle.kp_bits.specs.Operators.{binary_of, joined_of, is_shift, commutes, masking_zero}
+use Rattle.kp_bits.proofs.Operators.{masked, unmasked, commuted}
 use Rattle.kp_bits.proofs.{Arithmetic.not_not, Arithmetic.shl_past, Arithmetic.shr_past, Powers.pow_le}
 use Rattle.kp_bits.specs.Word as bits
 use Rattle.kp_net.specs.declared.node.{NodeId.NodeId, Kind.Kind}
@@ -76,8 +77,8 @@ not_twice ns k a b right ok e =
 
 -- `&` and `|` with a constant
 masked_widths : (op : BinOp) (k a b : ℕ) → is_masking op ≡ true → BinaryOk op k a b → a ≡ b
-masked_widths BinOp.And k a b h ok = ok.0 ∙ sym ok.1
-masked_widths BinOp.Or k a b h ok = ok.0 ∙ sym ok.1
+masked_widths BinOp.And k a b h ok = ok.1 refl
+masked_widths BinOp.Or k a b h ok = ok.1 refl
 masked_widths op k a b h ok = absurd (false≢true h)
 
 module _ (ns : List Node) (k : ℕ) (op : BinOp) (a b : NodeId) (w : bits.Word) (right : AllRight ns) (ok : NodeOk ns (length ns) (record { width = k; kind = Binary op a b })) where
@@ -119,13 +120,13 @@ past_by BinOp.Shr s x y l = shr_past x y l
 past_by op s x y l = absurd (false≢true s)
 
 masked_right : (op : BinOp) (k x y : ℕ) → is_masking op ≡ true → BinaryOk op k x y → y ≡ k
-masked_right BinOp.And k x y m ok = ok.1
-masked_right BinOp.Or k x y m ok = ok.1
+masked_right BinOp.And k x y m ok = sym (ok.1 refl) ∙ ok.0
+masked_right BinOp.Or k x y m ok = sym (ok.1 refl) ∙ ok.0
 masked_right op k x y m ok = absurd (false≢true m)
 
 past_wide : (op : BinOp) (k x y : ℕ) → is_shift op ≡ true → BinaryOk op k x y → x ≡ k
-past_wide BinOp.Shl k x y s ok = ok
-past_wide BinOp.Shr k x y s ok = ok
+past_wide BinOp.Shl k x y s ok = ok.0
+past_wide BinOp.Shr k x y s ok = ok.0
 past_wide op k x y s ok = absurd (false≢true s)
 
 pub zero_fits : (ns : List Node) (a : NodeId) → AllRight ns → a.0 < length ns → IsWord (bits.word (wide ns a.0) 0)
@@ -177,41 +178,28 @@ undecided ns k op a b w ok e n g h =
     (ap (λ (x : bits.Word). is_masking op && is_plain x.width (Const x.value)) (sym n.2) ∙ g)
     (ap (λ (x : bits.Word). is_shift op && leb (wide ns a.0) x.value) (sym n.2) ∙ h)
 
--- with all bits 1, and with none
-ones_value : (k v : ℕ) → v < 2 ^ k → bit_and v (2 ^ k - 1) ≡ v
-ones_value k v h = and_mask v k ∙ mod-eq_of_lt h
+-- a masking operator with its zero, with its unit, and with neither
+masking : (op : BinOp) (k z : ℕ) → masking_zero op k ≡ Some z → (is_masking op ≡ true) × (commutes op ≡ true)
+masking BinOp.And k z s = (refl, refl)
+masking BinOp.Or k z s = (refl, refl)
+masking _ k z s = absurd (let n : None ≡ Some z = s in cc)
 
-module _ (w : bits.Word) (h : IsWord w) where
-  pub and_ones : w.value ≡ 2 ^ w.width - 1 → Masks BinOp.And w Masking.Yields
-  and_ones e = (
-    refl,
-    λ a l f.
-        let fits : a.value < 2 ^ w.width = (let P : ℕ → Type 0 = λ n. a.value < 2 ^ n in subst P f l.fits) in
-        let v : bit_and a.value w.value ≡ a.value = ap (bit_and a.value) e ∙ ones_value w.width a.value fits in
-        let u : bit_and w.value a.value ≡ a.value = and_comm w.value a.value ∙ v in
-        ((λ i. record { width = sym f i; value = u i }), (λ i. record { width = a.width; value = v i })),
-  )
+zero_small : (op : BinOp) (k z : ℕ) → masking_zero op k ≡ Some z → z ≤ 2 ^ k - 1
+zero_small BinOp.And k z s = let e : z ≡ 0 = cc in omega (arith, e)
+zero_small BinOp.Or k z s = let e : z ≡ 2 ^ k - 1 = cc in omega (arith, e)
+zero_small _ k z s = absurd (let n : None ≡ Some z = s in cc)
 
-  pub or_zero : w.value ≡ 0 → Masks BinOp.Or w Masking.Yields
-  or_zero e = (
-    refl,
-    λ a l f.
-        let v : bit_or a.value w.value ≡ a.value = ap (bit_or a.value) e ∙ or_zero_r a.value in
-        let u : bit_or w.value a.value ≡ a.value = or_comm w.value a.value ∙ v in
-        ((λ i. record { width = sym f i; value = u i }), (λ i. record { width = a.width; value = v i })),
-  )
+module _ (op : BinOp) (w : bits.Word) (z : ℕ) (s : masking_zero op w.width ≡ Some z) where
+  pub wins : w.value ≡ z → Masks op w Masking.Wins
+  wins e =
+      let m = masking op w.width z s in
+      (m.0, λ a h f. let x = masked op w a h (sym f) (s ∙ ap Some (sym e)) in (x, commuted op a w m.1 f ∙ x))
 
-  pub or_ones : w.value ≡ 2 ^ w.width - 1 → Masks BinOp.Or w Masking.Wins
-  or_ones e = (
-    refl,
-    λ a l f.
-        let fits : a.value < 2 ^ w.width = (let P : ℕ → Type 0 = λ n. a.value < 2 ^ n in subst P f l.fits) in
-        let both : bit_and a.value w.value ≡ a.value = ap (bit_and a.value) e ∙ ones_value w.width a.value fits in
-        let sum = or_add_and a.value w.value in
-        let v : bit_or a.value w.value ≡ w.value = omega (arith, both, sum) in
-        let u : bit_or w.value a.value ≡ w.value = or_comm w.value a.value ∙ v in
-        ((λ i. record { width = w.width; value = u i }), (λ i. record { width = f i; value = v i })),
-  )
+  pub yields : w.value ≡ 2 ^ w.width - 1 - z → Masks op w Masking.Yields
+  yields e =
+      let m = masking op w.width z s in
+      let sum : w.value + z ≡ 2 ^ w.width - 1 = omega (arith, e, zero_small op w.width z s) in
+      (m.0, λ a h f. let x = unmasked op w a z h (sym f) s sum in (x, commuted op a w m.1 f ∙ x))
 
 -- choices
 module _ (ns : List Node) (k : ℕ) (t a b : NodeId) (right : AllRight ns) (ok : NodeOk ns (length ns) (record { width = k; kind = Mux t a b })) where

@@ -9,7 +9,7 @@ ghost use Rattle.kp_net.specs.Widths.{NodeOk, AllRight, BinaryOk, wide, no_node}
 ghost use Rattle.kp_pool.specs.Folding.{is_const, is_not};
 ghost use Rattle.kp_pool.specs.inner.Folds.{FoldsTo, Masks, number_at};
 
-use kp_bits::{BinOp, Bits};
+use kp_bits::{BinOp, Bits, ones};
 use kp_net::{Kind, Node, NodeId};
 
 // The result of folding a requested node.
@@ -220,38 +220,13 @@ fn inverted(nodes: &[Node], a: NodeId) -> Option<NodeId>
 }
 
 // The effect of a constant operand on an operation.
-#[tactic(auto, using(kp_bits::proofs::Powers::mask_of))]
 fn masks(op: BinOp, word: Bits) -> Masking
     requires { IsWord word }
     ensures { Masks op word result }
 {
-    let ones = u64::MAX >> (64 - word.width());
-    match op {
-        BinOp::And => {
-            if word.value() == 0 {
-                Masking::Wins
-            } else if word.value() == ones {
-                Masking::Yields
-            } else {
-                Masking::Neither
-            }
-        }
-        BinOp::Or => {
-            if word.value() == 0 {
-                Masking::Yields
-            } else if word.value() == ones {
-                Masking::Wins
-            } else {
-                Masking::Neither
-            }
-        }
-        BinOp::Xor
-        | BinOp::Add
-        | BinOp::Sub
-        | BinOp::Mul
-        | BinOp::Eq
-        | BinOp::Lt
-        | BinOp::Shl
-        | BinOp::Shr => Masking::Neither,
+    match op.masking_zero(word.width()) {
+        Some(zero) if word.value() == zero => Masking::Wins,
+        Some(zero) if word.value() == ones(word.width()) - zero => Masking::Yields,
+        _ => Masking::Neither,
     }
 }

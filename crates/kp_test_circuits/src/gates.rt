@@ -134,11 +134,7 @@ fn operation(pool: &mut Pool, op: BinOp, a: NodeId, b: NodeId) -> Option<NodeId>
     if pool.width(b) != width {
         return None;
     }
-    let width = match op {
-        BinOp::Eq | BinOp::Lt => 1,
-        _ => width,
-    };
-    Some(binary(pool, op, a, b, width))
+    Some(binary(pool, op, a, b, op.result_width(width)))
 }
 
 /// An operation or a call on single bits.

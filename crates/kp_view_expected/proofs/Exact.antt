@@ -9,7 +9,7 @@ use Rattle.kp_expected.proofs.Transfer.{transfer}
 use Rattle.kp_lex.specs.declared.token.Keyword.TheVariants as keywords
 use Rattle.kp_lex.specs.declared.token.Mark.TheVariants as marks
 use Rattle.kp_lex.specs.declared.token.{TokenKind.TokenKind, Token.Token}
-use Rattle.kp_parse_grammar.specs.{Tokens.Lexeme, Tokens.lexemes, Tokens.LITERAL, Tokens.kind_class, Language.language, Language.JOB, Language.at, inner.Follow.tables}
+use Rattle.kp_parse_grammar.specs.{Tokens.Lexeme, Tokens.lexemes, Tokens.LITERAL, Tokens.kind_class, Language.language, Language.JOB, Language.at, Follow.tables}
 use Rattle.kp_parse_grammar.proofs.Ranked.{rank}
 use Rattle.kp_lex.specs.declared.token.TokenKind.TheVariants as kinds
 use Rattle.kp_view_expected.specs.declared.{token_class.TokenClass.TokenClass, set.Expected.Expected}

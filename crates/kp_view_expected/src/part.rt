@@ -1,5 +1,5 @@
 // The grammar of machine descriptions, without what it builds.
-ghost use Rattle.kp_parse_grammar.{specs.inner.Follow.tables, proofs.Ranked.rank};
+ghost use Rattle.kp_parse_grammar.{specs.Follow.tables, proofs.Ranked.rank};
 ghost use Rattle.kp_view_expected.specs.inner.Plain.{name, number, plain_rules};
 
 use crate::token_class::TokenClass;

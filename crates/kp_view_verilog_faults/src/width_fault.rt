@@ -1,12 +1,10 @@
 // A violated rule of widths: V4.
 ghost use Rattle.kp_view_verilog_faults.specs.Helps.{HasBits, HelpsWidth};
 
-use crate::class::mark_text;
 use crate::sentence::{write_bits, write_named, write_numbers};
 use crate::source::Source;
 use kp_bits::BinOp;
 use kp_view_help::{Term, Terms, Word, write_phrase};
-use kp_vlog::Mark;
 use kp_vread_rules::{Side, WidthFault};
 use std::fmt::{self, Display};
 
@@ -53,7 +51,7 @@ impl<'t> WidthMessage<'t> {
             WidthFault::Operands { op, .. }
             | WidthFault::Compared { op, .. }
             | WidthFault::Shifted { op, .. } => {
-                return Word(spelling(op).as_bytes());
+                return Word(op.symbol().as_bytes());
             }
             WidthFault::Address { file, .. } => self.source.name_at(file as usize),
             _ => self.name,
@@ -144,12 +142,7 @@ fn write_test<W: fmt::Write>(
     target: Sized<'_>,
 ) -> fmt::Result {
     target.fmt(f)?;
-    write_named(
-        f,
-        ", and `{}` gives 1 bit",
-        Word(spelling(op).as_bytes()),
-        0,
-    )
+    write_named(f, ", and `{}` gives 1 bit", Word(op.symbol().as_bytes()), 0)
 }
 
 // The width that is wanted of an address, and the address.
@@ -192,22 +185,6 @@ fn write_two<W: fmt::Write>(f: &mut fmt::Formatter<W>, a: Sized<'_>, b: Sized<'_
     a.fmt(f)?;
     f.write_str(" and ")?;
     b.fmt(f)
-}
-
-// How an operator is written.
-fn spelling(op: BinOp) -> &'static str {
-    mark_text(match op {
-        BinOp::And => Mark::Ampersand,
-        BinOp::Or => Mark::Bar,
-        BinOp::Xor => Mark::Caret,
-        BinOp::Add => Mark::Plus,
-        BinOp::Sub => Mark::Minus,
-        BinOp::Mul => Mark::Star,
-        BinOp::Eq => Mark::EqualsEquals,
-        BinOp::Lt => Mark::Less,
-        BinOp::Shl => Mark::ShiftLeft,
-        BinOp::Shr => Mark::ShiftRight,
-    })
 }
 
 /// What helps where a rule of widths is violated.

@@ -4,7 +4,7 @@ use Rattle.std.proofs.Common.{◌≡◌, ◌∙◌, ℕ, ◌+◌, ◌^◌, ◌�
 use Rattle.std.proofs.lemmas.{Bool.eqb-true, Bool.or_left, Bool.or_right, Bool.or_cases, Bool.not-true, Bool.false_from_ne_true, List.length-map}
 use Rattle.std.proofs.lemmas.List.{Elements.All-nil, Elements.All-cons, Sums.sum_by-cons}
 use Rattle.std.specs.{Prelude.codes, Prelude.◌==◌, Prelude.◌&&◌, Prelude.◌||◌, Prelude.nat_le, Prelude.nat_lt, Prelude.if◌then◌else◌, List.sum_by}
-use Rattle.kp_bits.specs.declared.operator.BinOp.{BinOp}
+use Rattle.kp_bits.specs.{declared.operator.BinOp.BinOp, Operators.is_shift, Operators.result_width}
 use Rattle.kp_net.specs.declared.{node.NodeId.NodeId, node.Node.Node, netlist.Parts.Parts}
 use Rattle.kp_net.specs.Names.{same, among, is_reg_name, is_file_name, is_sample_name}
 use Rattle.kp_net.specs.{Widths.wide, Widths.BinaryOk, Widths.KindOk, Widths.NodeOk, Widths.AllRight, Growth.Held}
@@ -24,11 +24,10 @@ use Rattle.kp_vlog.specs.declared.tree.Right.TheVariants as sides
 
 -- an operator whose operands fit
 op_right : (op : BinOp) (w a b : ℕ) → op_fits op w a b ≡ true → BinaryOk op w a b
-op_right BinOp.Eq w a b h = (eqb-true w 1 (first_true (w == 1) (a == b) h), eqb-true a b (second_true (w == 1) (a == b) h))
-op_right BinOp.Lt w a b h = (eqb-true w 1 (first_true (w == 1) (a == b) h), eqb-true a b (second_true (w == 1) (a == b) h))
-op_right BinOp.Shl w a b h = eqb-true a w h
-op_right BinOp.Shr w a b h = eqb-true a w h
-op_right x w a b h = (eqb-true a w (first_true (a == w) (b == w) h), eqb-true b w (second_true (a == w) (b == w) h))
+op_right op w a b h = (
+  eqb-true (result_width op a) w (first_true (result_width op a == w) (is_shift op || a == b) h),
+  λ s. eqb-true a b (sym (ap (λ t. t || a == b) s) ∙ second_true (result_width op a == w) (is_shift op || a == b) h),
+)
 
 -- the widths of a list of nodes, and whether they exist
 module _ (m : VModule) where

@@ -10,8 +10,9 @@ use Rattle.kp_net.specs.Widths.{wide, KindOk}
 use Rattle.kp_net.specs.declared.node.Kind.TheVariants as kinds
 use Rattle.kp_vlog.specs.declared.token.Keyword.TheVariants as keywords
 use Rattle.kp_vlog.specs.declared.token.Mark.TheVariants as marks
+use Rattle.kp_vlog.specs.Words.{operator_mark}
 use Rattle.kp_vlog.specs.Language.{Value, Sym, make_concat, MODULE, SAMPLES, ITEMS, RIGHT, NAMES, INITS, BODY, VALUES, UPDATES, verilog}
-use Rattle.kp_vlog.proofs.Words.{port_words, each_words, reset_words, sample_words, outs_words, reg_words, file_words, integer_words, sign_mark, more_words, joined_words, right_words, node_words, out_words, start_words, content_words, fill_words, update_words, write_words, writes_words, value_words, body_words, w1, w2, w3, w4, w5, w6, w7, w8, net_words}
+use Rattle.kp_vlog.proofs.Words.{port_words, each_words, reset_words, sample_words, outs_words, reg_words, file_words, integer_words, more_words, joined_words, right_words, node_words, out_words, start_words, content_words, fill_words, update_words, write_words, writes_words, value_words, body_words, w1, w2, w3, w4, w5, w6, w7, w8, net_words}
 use Rattle.kp_vlog.specs.declared.tree.{Num.Num, Lit.Lit, Named.Named, Range.Range, VPort.VPort, Right.Right, Item.Item, Fill.Fill, Init.Init}
 use Rattle.kp_vlog.specs.declared.tree.{ResetValue.ResetValue, ResetList.ResetList, Update.Update, VModule.VModule}
 use Rattle.kp_vlog.specs.{Tokens.Word, Tokens.Token, Tokens.name, Tokens.number, Tokens.literal, Tokens.keyword, Tokens.mark, inner.Follow.tables}
@@ -271,7 +272,7 @@ module _ (P : VModule → Type 0) where
   Continues Q s vs ws = (q' : ℕ → ℕ) (r : Right) → Q r → Reads s (lang.right r ∷ vs) (placed q' (mark marks.Semicolon ∷ ws))
 
   binary_reads : (p : Parts) (k : ℕ) (op : BinOp) (a b : NodeId) (q : ℕ → ℕ) (s : List Sym) (vs : List Value) (ws : List Word) → Continues (ShowsRight p k (kinds.Binary op a b)) s vs ws
-      → Reads (N RIGHT ∷ s) vs (placed q (name (wire a) ∷ mark (sign_mark op) ∷ name (wire b) ∷ mark marks.Semicolon ∷ ws))
+      → Reads (N RIGHT ∷ s) vs (placed q (name (wire a) ∷ mark (operator_mark op) ∷ name (wire b) ∷ mark marks.Semicolon ∷ ws))
   binary_reads p k BinOp.And a b q s vs ws d = goes 6 (d (shift 3 q) _ (a_binary (q 0) (q 2)))
   binary_reads p k x a b q s vs ws d = goes 6 (d (shift 3 q) _ (a_binary (q 0) (q 2)))
 

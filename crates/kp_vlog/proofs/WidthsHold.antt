@@ -3,7 +3,7 @@ use Rattle.std.proofs.Common.{◌≡◌, ◌∙◌, ℕ, zero, suc, ◌+◌, ◌
 use Rattle.std.proofs.lemmas.Bool.{eqb-true, agree_below_at, cond-true, and_from, false_from_ne_true, le-leb, lt-ltb}
 use Rattle.std.proofs.{lemmas.List.Elements.All-head, lemmas.List.Elements.All-tail, Math.Nat.pow-le-pow_right, lemmas.List.Sums.sum_by-cons}
 use Rattle.std.specs.{Prelude.codes, Prelude.All, Prelude.◌==◌, Prelude.◌||◌, Prelude.nat_lt, Prelude.nat_le, Option.is_some, List.sum_by}
-use Rattle.kp_bits.specs.{Word.word, Word.IsWord, declared.operator.BinOp.BinOp}
+use Rattle.kp_bits.specs.{Word.word, Word.IsWord, declared.operator.BinOp.BinOp, Operators.is_shift, Operators.result_width}
 use Rattle.kp_bits.specs.Word as bits
 use Rattle.kp_net.specs.declared.{node.NodeId.NodeId, node.Kind.Kind, node.Node.Node, netlist.Port.Port, netlist.NetReg.NetReg, netlist.NetFile.NetFile}
 use Rattle.kp_net.specs.{Names.IsNamed, Netlist.Net}
@@ -112,12 +112,14 @@ names_length : (parts : List NodeId) (xs : List Named) → ShowsNames parts xs �
 names_length _ _ no_name = refl
 names_length _ _ (a_name {parts = parts} {xs = xs} at sh) = ap suc (names_length parts xs sh)
 
+or_else : (s t : Bool) → (s ≡ false → t ≡ true) → (s || t) ≡ true
+or_else true t h = refl
+or_else false t h = h refl
+
 op_ok : (op : BinOp) (k a b x y : ℕ) → BinaryOk op k a b → x ≡ a → y ≡ b → op_fits op k x y ≡ true
-op_ok BinOp.Eq k a b x y h e f = and_from (k == 1) (x == y) (eq-eqb k 1 h.0) (eq-eqb x y (e ∙ h.1 ∙ sym f))
-op_ok BinOp.Lt k a b x y h e f = and_from (k == 1) (x == y) (eq-eqb k 1 h.0) (eq-eqb x y (e ∙ h.1 ∙ sym f))
-op_ok BinOp.Shl k a b x y h e f = eq-eqb x k (e ∙ h)
-op_ok BinOp.Shr k a b x y h e f = eq-eqb x k (e ∙ h)
-op_ok z k a b x y h e f = and_from (x == k) (y == k) (eq-eqb x k (e ∙ h.0)) (eq-eqb y k (f ∙ h.1))
+op_ok op k a b x y h e f =
+    and_from (result_width op x == k) (is_shift op || x == y) (eq-eqb _ k (ap (result_width op) e ∙ h.0))
+    (or_else (is_shift op) (x == y) (λ s. eq-eqb x y (e ∙ h.1 s ∙ sym f)))
 
 right_wide : (net : Net) (s : Scope) (m k : ℕ) (kind : Kind) (r : Right) → Wide net s → m ≤ length net.nodes → 1 ≤ k → k ≤ 64 → ShowsRight net.parts k kind r → KindOk net.nodes m k kind → CellOk net.nodes net.parts k kind
     → (right_fits s.sizes k r ≡ true) × Clean (right_answers r)

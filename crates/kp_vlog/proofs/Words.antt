@@ -1,11 +1,11 @@
 -- The tokens of the canonical text, each part before others.
 use Rattle.std.specs.Prelude.{ℕ, ◌+◌, ◌-◌, ◌^◌, ◌==◌, if◌then◌else◌, Bool, true, false, List, [], ◌∷◌, get_or, codes, Option, Some, None}
-use Rattle.kp_bits.specs.{Word.word, declared.operator.BinOp.BinOp}
+use Rattle.kp_bits.specs.Word.{word}
 use Rattle.kp_net.specs.declared.{node.NodeId.NodeId, node.Kind.Kind, node.Node.Node, netlist.Port.Port, netlist.WritePort.WritePort, netlist.NetReg.NetReg}
 use Rattle.kp_net.specs.{declared.netlist.NetFile.NetFile, declared.netlist.Parts.Parts, Netlist.Net, Parts.no_port, Parts.no_reg, Parts.no_file, Widths.wide}
 use Rattle.kp_net.specs.declared.node.Kind.TheVariants as kinds
-use Rattle.kp_vlog.specs.declared.token.{Keyword.Keyword, Mark.Mark}
-use Rattle.kp_vlog.specs.{Tokens.Word, Tokens.name, Tokens.number, Tokens.literal, Tokens.keyword, Tokens.mark, Canon.wire, Canon.wire_name}
+use Rattle.kp_vlog.specs.declared.token.Keyword.{Keyword}
+use Rattle.kp_vlog.specs.{Words.operator_mark, Tokens.Word, Tokens.name, Tokens.number, Tokens.literal, Tokens.keyword, Tokens.mark, Canon.wire, Canon.wire_name}
 use Rattle.kp_vlog.proofs.Runs.{literal_for}
 use Rattle.kp_vlog.specs.declared.token.Keyword.TheVariants as keywords
 use Rattle.kp_vlog.specs.declared.token.Mark.TheVariants as marks
@@ -51,18 +51,6 @@ abbrev pub integer_words : List NetFile → List Word → List Word
 integer_words [] ws = ws
 integer_words (f ∷ fs) ws = keyword keywords.Integer ∷ name (codes "i") ∷ mark marks.Semicolon ∷ ws
 
-abbrev pub sign_mark : BinOp → Mark
-sign_mark BinOp.Add = marks.Plus
-sign_mark BinOp.Sub = marks.Minus
-sign_mark BinOp.Mul = marks.Star
-sign_mark BinOp.Shl = marks.ShiftLeft
-sign_mark BinOp.Shr = marks.ShiftRight
-sign_mark BinOp.Lt = marks.Less
-sign_mark BinOp.Eq = marks.EqualsEquals
-sign_mark BinOp.And = marks.Ampersand
-sign_mark BinOp.Xor = marks.Caret
-sign_mark BinOp.Or = marks.Bar
-
 abbrev pub more_words : List NodeId → List Word → List Word
 more_words [] ws = mark marks.CloseBrace ∷ ws
 more_words (a ∷ parts) ws = mark marks.Comma ∷ name (wire a) ∷ more_words parts ws
@@ -78,7 +66,7 @@ right_words p k (kinds.Sample s) ws = name (get_or p.samples s no_port).name ∷
 right_words p k (kinds.Reg r) ws = name (get_or p.regs r no_reg).name ∷ ws
 right_words p k (kinds.Word f a) ws = name (get_or p.files f no_file).name ∷ mark marks.OpenBracket ∷ name (wire a) ∷ mark marks.CloseBracket ∷ ws
 right_words p k (kinds.Not a) ws = mark marks.Tilde ∷ name (wire a) ∷ ws
-right_words p k (kinds.Binary op a b) ws = name (wire a) ∷ mark (sign_mark op) ∷ name (wire b) ∷ ws
+right_words p k (kinds.Binary op a b) ws = name (wire a) ∷ mark (operator_mark op) ∷ name (wire b) ∷ ws
 right_words p k (kinds.Mux t a b) ws = name (wire t) ∷ mark marks.Question ∷ name (wire a) ∷ mark marks.Colon ∷ name (wire b) ∷ ws
 right_words p k (kinds.Concat parts) ws = joined_words parts ws
 right_words p k (kinds.Slice a hi lo) ws = name (wire a) ∷ mark marks.OpenBracket ∷ number hi ∷ mark marks.Colon ∷ number lo ∷ mark marks.CloseBracket ∷ ws

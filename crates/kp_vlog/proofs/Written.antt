@@ -10,13 +10,14 @@ use Rattle.kp_net.specs.Parts.{no_port, no_reg, no_file, NodeIs, WriteOk, PortOk
 use Rattle.kp_net.specs.Widths.{wide, no_node, KindOk, NodeOk}
 use Rattle.kp_net.specs.declared.node.Kind.TheVariants as kinds
 use Rattle.kp_vlog.specs.Canon.{Pieces, wire, wire_name, sign, more_parts, joined, right_side, reset_port, sample_ports, out_ports, header, reg_lines, file_lines, integer_line, node_lines, out_line, start_lines, word_line, word_lines, fill_lines, update_lines, port_line, port_lines, change_lines, reset_lines, body_lines, canon}
-use Rattle.kp_vlog.proofs.Words.{port_words, each_words, reset_words, sample_words, outs_words, header_words, reg_words, file_words, integer_words, sign_mark, more_words, joined_words, right_words, node_words, out_words, start_words, content_word, content_words, fill_words, update_words, write_words, writes_words, change_words, value_words, body_words, w1, w2, w3, w4, w5, w6, w7, w8, net_words}
+use Rattle.kp_vlog.proofs.Words.{port_words, each_words, reset_words, sample_words, outs_words, header_words, reg_words, file_words, integer_words, more_words, joined_words, right_words, node_words, out_words, start_words, content_word, content_words, fill_words, update_words, write_words, writes_words, change_words, value_words, body_words, w1, w2, w3, w4, w5, w6, w7, w8, net_words}
 use Rattle.kp_vlog.specs.Tokens.{Word, name, number, literal, keyword, mark, front, takes}
 use Rattle.kp_vlog.proofs.Lex.{Spells, Says, ate, spells_nothing, spells_takes}
 use Rattle.kp_vlog.proofs.Runs.{IsWritten, spells_number, spells_literal, spells_name, wire_written, literal_for}
 use Rattle.kp_vlog.proofs.NamedText.{module_written, reg_written, file_written, sample_written, all_written}
 use Rattle.kp_vlog.specs.declared.token.Keyword.TheVariants as keywords
 use Rattle.kp_vlog.specs.declared.token.Mark.TheVariants as marks
+use Rattle.kp_vlog.specs.Words.{operator_mark}
 
 -- what the text requires of the parts, with names that can be written
 pub record Writable (net : Net) : Type 0 where
@@ -122,7 +123,7 @@ joined_says m (a ∷ b ∷ parts) ps ws few ok s =
 
 -- an operator between two wires
 sign_says : (op : BinOp) (a b : NodeId) (ps : Pieces) (ws : List Word) → IsWritten (wire a) → IsWritten (wire b) → Says (codes ";\n" ∷ ps) ws
-    → Says (wire a ∷ sign op ∷ wire b ∷ codes ";\n" ∷ ps) (name (wire a) ∷ mark (sign_mark op) ∷ name (wire b) ∷ ws)
+    → Says (wire a ∷ sign op ∷ wire b ∷ codes ";\n" ∷ ps) (name (wire a) ∷ mark (operator_mark op) ∷ name (wire b) ∷ ws)
 sign_says BinOp.And a b ps ws x y s = spells_name (wire a) _ _ x refl (ate 3 refl (spells_name (wire b) _ _ y refl s))
 sign_says z a b ps ws x y s = spells_name (wire a) _ _ x refl (ate 3 refl (spells_name (wire b) _ _ y refl s))
 

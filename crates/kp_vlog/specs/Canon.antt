@@ -1,6 +1,6 @@
 -- The canonical text of a netlist, in the Verilog subset.
 use Rattle.std.specs.Prelude.{ℕ, ◌+◌, ◌-◌, ◌^◌, ◌==◌, Bool, true, false, List, [], ◌∷◌, ◌++◌, get_or, codes, decimal, if◌then◌else◌, Option, Some, None}
-use Rattle.kp_bits.specs.{Word.word, Spelling.spelling, declared.operator.BinOp.BinOp}
+use Rattle.kp_bits.specs.{Word.word, Spelling.spelling, declared.operator.BinOp.BinOp, Operators.symbol}
 use Rattle.kp_net.specs.declared.node.{NodeId.NodeId, Kind.Kind}
 use Rattle.kp_net.specs.declared.node.Kind.TheVariants.{Const, Ext, Sample, Reg, Word, Not, Binary, Mux, Concat, Slice}
 use Rattle.kp_net.specs.declared.{node.Node.Node, netlist.Port.Port, netlist.WritePort.WritePort, netlist.NetReg.NetReg, netlist.NetFile.NetFile}
@@ -23,16 +23,7 @@ wire a = wire_name a.0
 
 -- an operator, with a space on each side
 abbrev pub sign : BinOp → List ℕ
-sign BinOp.Add = codes " + "
-sign BinOp.Sub = codes " - "
-sign BinOp.Mul = codes " * "
-sign BinOp.Shl = codes " << "
-sign BinOp.Shr = codes " >> "
-sign BinOp.Lt = codes " < "
-sign BinOp.Eq = codes " == "
-sign BinOp.And = codes " & "
-sign BinOp.Xor = codes " ^ "
-sign BinOp.Or = codes " | "
+sign op = codes " " ++ (symbol op ++ codes " ")
 
 -- what follows the first part of a concatenation
 abbrev pub more_parts : List NodeId → Pieces

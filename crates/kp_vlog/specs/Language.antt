@@ -4,7 +4,7 @@ use Rattle.kp_bits.specs.declared.{operator.BinOp.BinOp, literal.Literal.Literal
 use Rattle.kp_grammar.specs.Grammar.{Symbol, Terminal, Nonterminal, Action, Rules, Grammar}
 use Rattle.kp_vlog.specs.declared.{token.Keyword.Keyword, token.Mark.Mark, tree.Num.Num, tree.Lit.Lit, tree.Named.Named, tree.Range.Range, tree.VPort.VPort}
 use Rattle.kp_vlog.specs.declared.tree.{Right.Right, Item.Item, Init.Init, ResetValue.ResetValue, ResetList.ResetList, Update.Update, VModule.VModule}
-use Rattle.kp_vlog.specs.Tokens.{Word, Token}
+use Rattle.kp_vlog.specs.{Words.operator_mark, Tokens.Word, Tokens.Token}
 use Rattle.kp_vlog.specs.declared.token.Keyword.TheVariants as keywords
 use Rattle.kp_vlog.specs.declared.token.Mark.TheVariants as marks
 use Rattle.kp_vlog.specs.declared.tree.Right.TheVariants as sides
@@ -256,8 +256,8 @@ abbrev A : Step → Sym
 A a = Action a
 
 -- an operator and its right operand
-abbrev operation : Mark → BinOp → List Sym
-operation m op = mark m ∷ ID ∷ A (make_binary op) ∷ []
+abbrev operation : BinOp → List Sym
+operation op = mark (operator_mark op) ∷ ID ∷ A (make_binary op) ∷ []
 
 -- the next names of a concatenation, at most the given number
 abbrev pub more_names : ℕ → Rules Way Step
@@ -303,16 +303,16 @@ rules = (
     )
     ∷ (
       BEHIND,
-      operation marks.Ampersand BinOp.And
-          ∷ operation marks.Bar BinOp.Or
-          ∷ operation marks.Caret BinOp.Xor
-          ∷ operation marks.Plus BinOp.Add
-          ∷ operation marks.Minus BinOp.Sub
-          ∷ operation marks.Star BinOp.Mul
-          ∷ operation marks.EqualsEquals BinOp.Eq
-          ∷ operation marks.Less BinOp.Lt
-          ∷ operation marks.ShiftLeft BinOp.Shl
-          ∷ operation marks.ShiftRight BinOp.Shr
+      operation BinOp.And
+          ∷ operation BinOp.Or
+          ∷ operation BinOp.Xor
+          ∷ operation BinOp.Add
+          ∷ operation BinOp.Sub
+          ∷ operation BinOp.Mul
+          ∷ operation BinOp.Eq
+          ∷ operation BinOp.Lt
+          ∷ operation BinOp.Shl
+          ∷ operation BinOp.Shr
           ∷ (mark marks.Question ∷ ID ∷ mark marks.Colon ∷ ID ∷ A make_choice ∷ [])
           ∷ (mark marks.OpenBracket ∷ N INDEX ∷ [])
           ∷ (A make_name ∷ []) ∷ [],

@@ -2,7 +2,7 @@
 use Rattle.std.specs.Prelude.{ℕ, ◌+◌, ◌^◌, ◌==◌, nat_lt, nat_le, List, [], ◌∷◌, ◌++◌, length, codes, map, Bool, true, false, not, ◌||◌, ◌&&◌, if◌then◌else◌, Option, Some, None}
 use Rattle.std.specs.Option.{is_some}
 use Rattle.kp_base.specs.First.{first}
-use Rattle.kp_bits.specs.declared.{operator.BinOp.BinOp, literal.Literal.Literal}
+use Rattle.kp_bits.specs.{declared.operator.BinOp.BinOp, declared.literal.Literal.Literal, Operators.is_shift, Operators.result_width}
 use Rattle.kp_net.specs.Names.{same, among, is_module_name, is_reg_name, is_file_name, is_sample_name}
 use Rattle.kp_vlog.specs.Occurrences.{Role, names_module, declares_port, declares_sample, declares_reg, declares_file, declares_integer, declares_wire, gives, uses_wire, uses_source, uses_file, uses_integer, uses_port, starts_reg, starts_word, fills_file, resets_reg, updates_reg, updates_file, gives_no_wire, is_given, needs, Occurrence, names}
 use Rattle.kp_vlog.specs.declared.tree.{Lit.Lit, Named.Named, Range.Range, VPort.VPort, Right.Right, Item.Item, Fill.Fill, Init.Init, ResetValue.ResetValue}
@@ -75,17 +75,9 @@ words_fit w = w.high.value == 0 && is_some (address_width (last_of w))
 abbrev pub literal_fits : Literal → Bool
 literal_fits l = nat_le 1 l.width && (nat_le l.width 64 && nat_lt l.value (2 ^ l.width))
 
+-- the operands of an operator for a target of w bits have one width, but for a shift
 abbrev pub op_fits : BinOp → (width left right : ℕ) → Bool
-op_fits BinOp.And w a b = a == w && b == w
-op_fits BinOp.Or w a b = a == w && b == w
-op_fits BinOp.Xor w a b = a == w && b == w
-op_fits BinOp.Add w a b = a == w && b == w
-op_fits BinOp.Sub w a b = a == w && b == w
-op_fits BinOp.Mul w a b = a == w && b == w
-op_fits BinOp.Eq w a b = w == 1 && a == b
-op_fits BinOp.Lt w a b = w == 1 && a == b
-op_fits BinOp.Shl w a b = a == w
-op_fits BinOp.Shr w a b = a == w
+op_fits op w a b = result_width op a == w && (is_shift op || a == b)
 
 abbrev pub width_sum : Sizes → List Named → ℕ
 width_sum ss [] = 0

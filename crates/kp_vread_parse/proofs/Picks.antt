@@ -4,9 +4,9 @@ use Rattle.std.proofs.lemmas.Bool.{eqb-true}
 use Rattle.kp_bits.specs.declared.operator.BinOp.{BinOp}
 use Rattle.kp_grammar.specs.{Grammar.Nonterminal, Grammar.Action, Tables.pick, Tables.among, Machine.Outcome, Machine.look, Machine.goes}
 use Rattle.kp_vlog.specs.Language.{Sym, Value, verilog, mark, ID, mark_class, NAMES, BEHIND, make_binary, make_name, one_name}
-use Rattle.kp_vlog.specs.{declared.token.Mark.Mark, Tokens.Token, inner.Follow.tables}
+use Rattle.kp_vlog.specs.{Words.operator_mark, declared.token.Mark.Mark, Tokens.Token, inner.Follow.tables}
 use Rattle.kp_vlog.specs.declared.token.Mark.TheVariants as marks
-use Rattle.kp_vread_parse.specs.inner.{Words.operator_classes, Words.sign, Reading.Goes}
+use Rattle.kp_vread_parse.specs.inner.{Words.operator_classes, Reading.Goes}
 
 pub other : (b : Bool) (x y z : Option (List Sym)) → false ≡ b → y ≡ z → cond (b || false) x y ≡ z
 other true x y z h e = cc h
@@ -23,7 +23,7 @@ unchosen false x y h = refl
 at_class : (n c k : ℕ) (body : List Sym) → pick verilog.rules tables n c ≡ Some body → true ≡ (k == c) → pick verilog.rules tables n k ≡ Some body
 at_class n c k body p h = subst (λ (d : ℕ). pick verilog.rules tables n d ≡ Some body) (sym (eqb-true k c (sym h))) p
 
-op_body : (op : BinOp) → pick verilog.rules tables BEHIND (mark_class (sign op)) ≡ Some (mark (sign op) ∷ ID ∷ Action (make_binary op) ∷ [])
+op_body : (op : BinOp) → pick verilog.rules tables BEHIND (mark_class (operator_mark op)) ≡ Some (mark (operator_mark op) ∷ ID ∷ Action (make_binary op) ∷ [])
 op_body BinOp.And = refl
 op_body _ = refl
 
@@ -66,8 +66,8 @@ pub goes_at : {n : ℕ} {body s : List Sym} {v : List Value} {ts : List Token} {
 goes_at {n} {body} {ts = ts} c h p l = goes body (at_class n c (look verilog ts) body p h) l
 
 module _ {s : List Sym} {v : List Value} {ts : List Token} {o : Outcome (List Value)} where
-  pub behind_op : (m : Mark) (op : BinOp) → m ≡ sign op → look verilog ts ≡ mark_class (sign op) → Goes (mark m ∷ ID ∷ Action (make_binary op) ∷ s) v ts o → Goes (Nonterminal BEHIND ∷ s) v ts o
-  behind_op m op e h l = goes (mark (sign op) ∷ ID ∷ Action (make_binary op) ∷ []) (subst (λ (d : ℕ). pick verilog.rules tables BEHIND d ≡ Some (mark (sign op) ∷ ID ∷ Action (make_binary op) ∷ [])) (sym h) (op_body op)) (subst (λ (k : Mark). Goes (mark k ∷ ID ∷ Action (make_binary op) ∷ s) v ts o) e l)
+  pub behind_op : (m : Mark) (op : BinOp) → m ≡ operator_mark op → look verilog ts ≡ mark_class (operator_mark op) → Goes (mark m ∷ ID ∷ Action (make_binary op) ∷ s) v ts o → Goes (Nonterminal BEHIND ∷ s) v ts o
+  behind_op m op e h l = goes (mark (operator_mark op) ∷ ID ∷ Action (make_binary op) ∷ []) (subst (λ (d : ℕ). pick verilog.rules tables BEHIND d ≡ Some (mark (operator_mark op) ∷ ID ∷ Action (make_binary op) ∷ [])) (sym h) (op_body op)) (subst (λ (k : Mark). Goes (mark k ∷ ID ∷ Action (make_binary op) ∷ s) v ts o) e l)
 
   pub behind_else : among (look verilog ts) operator_classes ≡ false → false ≡ (look verilog ts == mark_class marks.Question) → false ≡ (look verilog ts == mark_class marks.OpenBracket) → Goes (Action make_name ∷ s) v ts o → Goes (Nonterminal BEHIND ∷ s) v ts o
   behind_else h q b l = goes (Action make_name ∷ []) (no_operator_body (look verilog ts) h q b) l

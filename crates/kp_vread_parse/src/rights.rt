@@ -3,7 +3,8 @@ ghost use Rattle.std.specs.Prelude.{◌≡◌, ◌==◌, ◌&&◌, nat_lt, [], �
 ghost use Rattle.kp_grammar.specs.{Grammar.Nonterminal, Tables.among};
 ghost use Rattle.kp_vlog.specs.declared.token.Mark.TheVariants as marks;
 ghost use Rattle.kp_vlog.specs.Language.{mark_class, LITERAL, NUMBER, RIGHT, BEHIND, INDEX, NAMES, named, names as names_value, right as right_value};
-ghost use Rattle.kp_vread_parse.specs.inner.Words.{sign, TWO_NAMES};
+ghost use Rattle.kp_vlog.specs.Words.{operator_mark};
+ghost use Rattle.kp_vread_parse.specs.inner.Words.{TWO_NAMES};
 ghost use Rattle.kp_vread_parse.specs.inner.Reading.{class_at, Turns, Ends};
 
 use crate::fault::Fault;
@@ -91,7 +92,7 @@ fn binary(
     first: Named,
     at: usize,
 ) -> Result<(Right, usize), Fault>
-    requires { class_at tokens.now at ≡ mark_class (sign operator) }
+    requires { class_at tokens.now at ≡ mark_class (operator_mark operator) }
     ensures { MatchResult result (λ x. Turns tokens.now (Nonterminal BEHIND ∷ []) (named first ∷ []) (right_value x.0 ∷ []) at x.1 0) (Ends tokens.now (Nonterminal BEHIND ∷ []) (named first ∷ []) at) }
 {
     let next = tokens.skip(&[Fixed::Sign(mark_of(operator))], at)?;
@@ -184,7 +185,7 @@ fn goes_on(tokens: &Tokens<'_>, left: usize, at: usize) -> bool
 
 // The punctuator of an operator.
 fn mark_of(operator: BinOp) -> Mark
-    ensures { result ≡ sign operator }
+    ensures { result ≡ operator_mark operator }
 {
     match operator {
         BinOp::And => Mark::Ampersand,

@@ -4,7 +4,8 @@ ghost use Rattle.kp_vlog.specs.declared.token.VKind.TheVariants as kinds;
 ghost use Rattle.kp_vlog.specs.Outcome.{token_of, word_of};
 ghost use Rattle.kp_vlog.specs.Language.{word_class, keyword_class, mark_class, IDENTIFIER, NUMBER, LITERAL, ID, NUM, LIT, named, number as number_value, literal as literal_value};
 ghost use Rattle.kp_vread_parse.specs.inner.Spelled.{IsSpelled};
-ghost use Rattle.kp_vread_parse.specs.inner.Words.{class_of, symbol, sign as sign_of, operator_classes};
+ghost use Rattle.kp_vread_parse.specs.inner.Words.{class_of, symbol, operator_classes};
+ghost use Rattle.kp_vlog.specs.Words.{operator_mark};
 ghost use Rattle.kp_grammar.specs.Tables.{among};
 ghost use Rattle.kp_vread_parse.specs.inner.Reading.{class_at, Follows, Turns, Ends};
 
@@ -164,7 +165,7 @@ impl<'t> Tokens<'t> {
 
     /// The operator at this token, if it is one.
     pub(crate) fn operator_at(&self, at: usize) -> Option<BinOp>
-        ensures { MatchOption result (among (class_at self.now at) operator_classes ≡ false) (λ op. class_at self.now at ≡ mark_class (sign_of op)) }
+        ensures { MatchOption result (among (class_at self.now at) operator_classes ≡ false) (λ op. class_at self.now at ≡ mark_class (operator_mark op)) }
     {
         match self.kind(at) {
             Some(VKind::Mark(mark)) => operator(mark),
@@ -300,7 +301,7 @@ fn is_literal(kind: VKind) -> bool
 
 // The operator of this punctuator, if it has one.
 fn operator(sign: Mark) -> Option<BinOp>
-    ensures { MatchOption result (among (mark_class sign) operator_classes ≡ false) (λ op. mark_class sign ≡ mark_class (sign_of op)) }
+    ensures { MatchOption result (among (mark_class sign) operator_classes ≡ false) (λ op. mark_class sign ≡ mark_class (operator_mark op)) }
 {
     match sign {
         Mark::Ampersand => Some(BinOp::And),

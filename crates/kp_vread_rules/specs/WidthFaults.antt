@@ -1,7 +1,7 @@
 -- How a module violates V4.
-use Rattle.std.specs.Prelude.{ℕ, ◌+◌, ◌-◌, ◌^◌, ◌==◌, ◌&&◌, nat_lt, nat_le, List, [], ◌∷◌, ◌++◌, Bool, true, if◌then◌else◌, Option}
+use Rattle.std.specs.Prelude.{ℕ, ◌+◌, ◌-◌, ◌^◌, ◌==◌, ◌&&◌, nat_lt, nat_le, List, [], ◌∷◌, ◌++◌, Bool, true, not, if◌then◌else◌, Option}
 use Rattle.kp_base.specs.{Check.answer, First.first}
-use Rattle.kp_bits.specs.declared.{operator.BinOp.BinOp, literal.Literal.Literal}
+use Rattle.kp_bits.specs.{declared.operator.BinOp.BinOp, declared.literal.Literal.Literal, Operators.is_shift, Operators.is_comparison}
 use Rattle.kp_vlog.specs.{Occurrences.Occurrence, Occurrences.names}
 use Rattle.kp_vlog.specs.declared.tree.{Init.Init, Item.Item, Lit.Lit, Named.Named, Range.Range, ResetValue.ResetValue, Right.Right}
 use Rattle.kp_vlog.specs.declared.tree.{Update.Update, VModule.VModule, VPort.VPort}
@@ -27,11 +27,11 @@ abbrev pub literal_fault : Literal → WidthFault
 literal_fault l = if nat_le 1 l.width && nat_le l.width 64 then faults.LiteralValue l.value l.width else faults.LiteralWidth l.width
 
 abbrev pub op_fault : BinOp → Side → Side → Side → WidthFault
-op_fault BinOp.Eq a b t = if a.width == b.width then faults.Comparison BinOp.Eq t else faults.Compared BinOp.Eq a b
-op_fault BinOp.Lt a b t = if a.width == b.width then faults.Comparison BinOp.Lt t else faults.Compared BinOp.Lt a b
-op_fault BinOp.Shl a b t = faults.Shifted BinOp.Shl a t
-op_fault BinOp.Shr a b t = faults.Shifted BinOp.Shr a t
-op_fault op a b t = faults.Operands op a b t
+op_fault op a b t =
+    if is_shift op then faults.Shifted op a t
+    else if not (is_comparison op) then faults.Operands op a b t
+    else if a.width == b.width then faults.Comparison op t
+    else faults.Compared op a b
 
 -- Given the sizes of names, and all names of the module.
 module _ (ss : Sizes) (os : List Occurrence) where

@@ -201,13 +201,8 @@ fn right_fits<'m>(asked: &Asked<'_, 'm>, width: u128, right: &'m Right) -> bool
 fn op_fits(op: BinOp, width: u128, a: u128, b: u128) -> bool
     ensures { result ≡ is_op op width a b }
 {
-    match op {
-        BinOp::And | BinOp::Or | BinOp::Xor | BinOp::Add | BinOp::Sub | BinOp::Mul => {
-            a == width && b == width
-        }
-        BinOp::Eq | BinOp::Lt => width == 1 && a == b,
-        BinOp::Shl | BinOp::Shr => a == width,
-    }
+    let found = if op.is_comparison() { 1 } else { a };
+    found == width && (op.is_shift() || a == b)
 }
 
 // Whether a wire of this width has the bits.
@@ -253,18 +248,14 @@ fn right_fault<'m>(asked: &Asked<'_, 'm>, target: &'m Named, right: &'m Right) -
 fn op_fault(op: BinOp, a: Side, b: Side, target: Side) -> WidthFault
     ensures { result ≡ op_fault op a b target }
 {
-    match op {
-        BinOp::Eq | BinOp::Lt => {
-            if a.width == b.width {
-                WidthFault::Comparison { op, target }
-            } else {
-                WidthFault::Compared { op, a, b }
-            }
-        }
-        BinOp::Shl | BinOp::Shr => WidthFault::Shifted { op, a, target },
-        BinOp::And | BinOp::Or | BinOp::Xor | BinOp::Add | BinOp::Sub | BinOp::Mul => {
-            WidthFault::Operands { op, a, b, target }
-        }
+    if op.is_shift() {
+        WidthFault::Shifted { op, a, target }
+    } else if !op.is_comparison() {
+        WidthFault::Operands { op, a, b, target }
+    } else if a.width == b.width {
+        WidthFault::Comparison { op, target }
+    } else {
+        WidthFault::Compared { op, a, b }
     }
 }
 

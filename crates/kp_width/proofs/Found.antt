@@ -16,7 +16,7 @@ use Rattle.kp_ast.proofs.Levels.{fold-Lit, fold-Name, fold-Not, fold-Binary, fol
 use Rattle.kp_ast.proofs.Induction.{Every, induction}
 use Rattle.kp_ast.specs.declared.tree.ExprKind.TheOpen as level
 use Rattle.kp_bits.specs.Operators as operators
-use Rattle.kp_width.specs.Expressions.{Part, is_test, is_width, extension_of, params_of, part_of, width_of, sum_of, arguments_of, is_declared, callee_of, called_of, width_at, value_of}
+use Rattle.kp_width.specs.Expressions.{Part, is_width, extension_of, params_of, part_of, width_of, sum_of, arguments_of, is_declared, callee_of, called_of, width_at, value_of}
 use Rattle.kp_width.proofs.Unbroken.{Unbroken, first_split, bind_unbroken, answer_unbroken, width-Lit, width-Name, width-Not, width-Binary, width-Mux, width-Concat, width-Slice, width-Zext, width-Sext, width-Call}
 use Rattle.kp_ast.specs.declared.widths.{Scope.Scope, NameKind.NameKind}
 use Rattle.kp_width.specs.declared.fault.WidthFault.TheVariants as faults
@@ -249,7 +249,7 @@ module _ {F : Type 0} (ds : List Decl) (done : ℕ) (s : Scoped) (known : Known)
         record {
           there = two (checked_binary op) (there x) (there y) (value x) (value y) f.there g.there
               ∙ so_there _ _ (one_passes (is_shift op) ((value x).width == (value y).width) (λ e. eq-eqb _ _ (same e)));
-          has = subst (λ w. HasWidth (cond (is_test op) 1 w) (operators.binary_of op (value x) (value y))) f.has.width (binary_width op (value x) (value y) f.has.word g.has.word same);
+          has = subst (λ w. HasWidth (operators.result_width op w) (operators.binary_of op (value x) (value y))) f.has.width (binary_width op (value x) (value y) f.has.word g.has.word same);
         });
     mux = λ p t x y g h k a. by_level _ _ _ _ _ _ (width-Mux ds done s p t x y) (fold-Mux _ _ (checked_kind known) checked_level p t x y) (fold-Mux _ _ _ _ p t x y) (λ u.
         let b = none_of_three (asked t) (asked x) (asked y) (sym (fold-Mux _ _ (name_kind ask) name_level p t x y) ∙ a) in

@@ -4,7 +4,7 @@
 use Rattle.std.specs.Prelude.{ℕ, ◌+◌, ◌-◌, ◌^◌, List, [], ◌∷◌, Option, Some, None, Bool, true, false, ◌&&◌, ◌||◌, not, if◌then◌else◌, ◌==◌, nat_lt, nat_le, is_some, min, length, drop, slice_get}
 use Rattle.std.specs.List.{list_any}
 use Rattle.kp_base.specs.{Check.Check, Check.ok, Check.◌>>=◌, Check.wants, declared.place.Place.Place}
-use Rattle.kp_bits.specs.{declared.literal.Literal.Literal, Operators.is_shift, declared.operator.BinOp.BinOp}
+use Rattle.kp_bits.specs.{declared.literal.Literal.Literal, Operators.is_shift, Operators.result_width, declared.operator.BinOp.BinOp}
 use Rattle.kp_ast.specs.{Expressions.is_function, declared.tree.Num.Num, declared.tree.Param.Param, declared.tree.Decl.Decl, declared.tree.Expr.Expr}
 use Rattle.kp_ast.specs.declared.tree.ExprKind.{TheOpen.ExprKind-F, TheOpen.Expr-F, TheFolds.fold-Expr}
 use Rattle.kp_ast.specs.declared.tree.Decl.TheVariants as decls
@@ -19,11 +19,6 @@ pub record Part : Type 0 where
   pub at : Place
   pub width : Check WidthFinding ℕ
 
-abbrev pub is_test : BinOp → Bool
-is_test BinOp.Eq = true
-is_test BinOp.Lt = true
-is_test _ = false
-
 -- widths are 1 to 64
 abbrev pub is_width : ℕ → Bool
 is_width w = nat_le 1 w && nat_le w 64
@@ -34,7 +29,7 @@ literal_of l at = wants (is_width l.width) (found_at at (faults.LiteralWidth l.w
 
 -- E9: the two operands have the same width, except that a shift accepts any amount; `==` and `<` yield one bit
 abbrev pub binary_of : BinOp → (at left right : Place) → ℕ → ℕ → Check WidthFinding ℕ
-binary_of op at left right a b = wants (is_shift op || a == b) (found_at at (faults.Operands op a b left right)) (ok (if is_test op then 1 else a))
+binary_of op at left right a b = wants (is_shift op || a == b) (found_at at (faults.Operands op a b left right)) (ok (result_width op a))
 
 -- E11 and E9: the test of a choice is one bit wide, and its branches have the same width
 abbrev pub choice_of : (at left right : Place) → (condition first second : ℕ) → Check WidthFinding ℕ

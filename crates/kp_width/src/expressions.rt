@@ -64,10 +64,7 @@ fn binary_width(
 ) -> Result<u8, Finding<WidthFault>>
     ensures { result ≡ (binary_of op at left_at right_at a b).found }
 {
-    if op.is_shift() {
-        return Ok(a);
-    }
-    if a != b {
+    if !op.is_shift() && a != b {
         let fault = WidthFault::Operands {
             op,
             left: a,
@@ -77,7 +74,7 @@ fn binary_width(
         };
         return Err(found_at(at, fault));
     }
-    Ok(if is_test_op(op) { 1 } else { a })
+    Ok(op.result_width(a))
 }
 
 fn choice_width(
@@ -357,10 +354,4 @@ fn param_width(params: &[Param], i: usize) -> u64
         Some(p) => p.width.value,
         None => 0,
     }
-}
-
-fn is_test_op(op: BinOp) -> bool
-    ensures { result ≡ is_test op }
-{
-    matches!(op, BinOp::Eq | BinOp::Lt)
 }

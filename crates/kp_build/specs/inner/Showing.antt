@@ -1,6 +1,6 @@
 -- Nodes that have the values of expressions.
 use Rattle.std.specs.Prelude.{◌≡◌, ◌<◌, ◌-◌, ℕ, List, map, length, All, Option, Some, true, is_some}
-use Rattle.kp_bits.specs.{declared.operator.BinOp.BinOp, Word.Word, Word.word, Word.not_of, Word.mux_of, Word.slice_of}
+use Rattle.kp_bits.specs.{Word.Word, Word.word, Word.not_of, Word.mux_of, Word.slice_of}
 use Rattle.kp_ast.specs.{declared.tree.Expr.Expr, Checked.checked, Checked.all_there}
 use Rattle.kp_net.specs.{declared.node.NodeId.NodeId, Nodes.Cells, Nodes.word_at, Growth.Held}
 use Rattle.kp_build.specs.Names.{Scope, known_at}
@@ -31,12 +31,6 @@ value_in p env e c = checked (known_at c p env) e
 
 abbrev pub values_in : Held → Scope → List Expr → Cells → Option (List Word)
 values_in p env es c = all_there (map (checked (known_at c p env)) es)
-
--- the width of the result of an operator, given that of its left operand
-abbrev pub width_after : BinOp → ℕ → ℕ
-width_after BinOp.Eq a = 1
-width_after BinOp.Lt a = 1
-width_after _ a = a
 
 -- n copies of the top bit: all ones or all zeros
 abbrev pub copies : ℕ → Word → Word

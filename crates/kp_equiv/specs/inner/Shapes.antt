@@ -5,7 +5,8 @@ use Rattle.kp_net.specs.declared.node.{NodeId.NodeId, Kind.Kind}
 use Rattle.kp_net.specs.declared.node.Kind.TheVariants.{Const, Ext, Sample, Reg, Word, Not, Binary, Mux, Concat, Slice}
 use Rattle.kp_net.specs.{declared.node.Node.Node, declared.netlist.Parts.Parts, Netlist.Net, Parts.no_port, Parts.no_reg, Parts.no_file, Widths.no_node}
 use Rattle.kp_net.specs.contracts.node.NodePartialEq.TheImpl as nodes
-use Rattle.kp_equiv.specs.{Alike.commutes, Classes.place, Classes.no_class, Classes.class_in, Named.reg_names, Named.file_names, Named.sample_names}
+use Rattle.kp_bits.specs.Operators.{commutes}
+use Rattle.kp_equiv.specs.{Classes.place, Classes.no_class, Classes.class_in, Named.reg_names, Named.file_names, Named.sample_names}
 
 -- the names of the first netlist's registers, files and sample ports
 pub record Known : Type 0 where

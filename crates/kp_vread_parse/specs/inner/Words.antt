@@ -1,10 +1,8 @@
 -- The tokens that parts of a module start with, and parts of a module that the grammar has no name for.
 use Rattle.std.specs.Prelude.{ℕ, List, [], ◌∷◌, ◌++◌}
-use Rattle.kp_bits.specs.declared.operator.BinOp.{BinOp}
 use Rattle.kp_grammar.specs.Grammar.{Terminal, Nonterminal, Action}
 use Rattle.kp_vlog.specs.declared.token.Keyword.TheVariants as keywords
 use Rattle.kp_vlog.specs.Language.{Sym, dropped, word, mark, ID, NUM, LIT, keyword_class, mark_class, IDENTIFIER, WIRE, PORT, STALLS, SAMPLES, ITEMS, RIGHT, INITS, BODY, VALUES, UPDATES, no_ports, no_items, make_assign, two_names, no_inits, no_values, no_updates, first_update, update_reg, update_file}
-use Rattle.kp_vlog.specs.declared.token.Mark.{Mark}
 use Rattle.kp_vread_parse.specs.declared.tokens.Fixed.{Fixed}
 use Rattle.kp_vread_parse.specs.declared.tokens.Fixed.TheVariants as fixed
 use Rattle.kp_vlog.specs.declared.token.Mark.TheVariants as marks
@@ -28,19 +26,6 @@ init_words = IDENTIFIER ∷ keyword_class keywords.For ∷ []
 -- what an update starts with
 abbrev pub update_words : List ℕ
 update_words = IDENTIFIER ∷ keyword_class keywords.If ∷ []
-
--- the punctuator of an operator
-abbrev pub sign : BinOp → Mark
-sign BinOp.And = marks.Ampersand
-sign BinOp.Or = marks.Bar
-sign BinOp.Xor = marks.Caret
-sign BinOp.Add = marks.Plus
-sign BinOp.Sub = marks.Minus
-sign BinOp.Mul = marks.Star
-sign BinOp.Eq = marks.EqualsEquals
-sign BinOp.Lt = marks.Less
-sign BinOp.Shl = marks.ShiftLeft
-sign BinOp.Shr = marks.ShiftRight
 
 abbrev pub operator_classes : List ℕ
 operator_classes = mark_class marks.Ampersand ∷ mark_class marks.Bar ∷ mark_class marks.Caret ∷ mark_class marks.Plus ∷ mark_class marks.Minus ∷ mark_class marks.Star ∷ mark_class marks.EqualsEquals ∷ mark_class marks.Less ∷ mark_class marks.ShiftLeft ∷ mark_class marks.ShiftRight ∷ []

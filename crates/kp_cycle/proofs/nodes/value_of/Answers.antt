@@ -3,7 +3,7 @@ use Rattle.std.proofs.lemmas.List.{get_or_default}
 use Rattle.kp_bits.specs.Word as bits
 use Rattle.kp_bits.specs.Operators.{joined_of}
 use Rattle.kp_net.specs.declared.node.{NodeId.NodeId, Kind.TheVariants.Binary, Kind.TheVariants.Concat, Kind.TheVariants.Slice, Node.Node}
-use Rattle.kp_net.{specs.Widths.no_node, proofs.Exact.operand_widths}
+use Rattle.kp_net.specs.Widths.{no_node}
 use Rattle.kp_cycle.{specs.Steps.given, proofs.Settling.whole, proofs.Settling.kind_ok}
 use Rattle.kp_cycle_plan.specs.Storage.{seen, cells}
 use Rattle.kp_cycle.proofs.nodes.value_of.Goals as goal
@@ -14,7 +14,7 @@ apply-requires c = λ s.
     let x = c.index-nodes-i.result in
     let same : x ≡ get_or ns c.args.i no_node = c.index-nodes-i.is ∙ ap (λ (ms : List Node). get_or ms c.args.i x) c.nodes.ensures.nodes ∙ get_or_default ns c.args.i x no_node c.requires.inside in
     let ok = kind_ok ns c.args.i (Binary c.in-Binary.op c.in-Binary.a c.in-Binary.b) c.requires.fits.right.right c.requires.inside (ap (λ (n : Node). n.kind) (sym same) ∙ c.in-Binary.is) in
-    ap (λ (w : bits.Word). w.width) c.operand-left.ensures.word ∙ operand_widths c.in-Binary.op _ _ _ ok.2 s ∙ sym (ap (λ (w : bits.Word). w.width) c.operand-right.ensures.word)
+    ap (λ (w : bits.Word). w.width) c.operand-left.ensures.word ∙ ok.2.1 s ∙ sym (ap (λ (w : bits.Word). w.width) c.operand-right.ensures.word)
 
 pub returns-in-Concat : goal.returns-in-Concat
 returns-in-Concat c =

@@ -1,7 +1,7 @@
 use Rattle.std.proofs.Common.{ℕ, ◌≡◌, Bool, true, false, ◌||◌, ◌==◌, refl, sym, ◌∙◌}
 use Rattle.kp_grammar.specs.Tables.{among}
 use Rattle.kp_lex.specs.declared.token.Keyword.TheVariants as keywords
-use Rattle.kp_parse_grammar.specs.{Tokens.keyword_class, inner.Follow.decl_words, Reading.class_at}
+use Rattle.kp_parse_grammar.specs.{Tokens.keyword_class, Follow.decl_words, Reading.class_at}
 use Rattle.kp_parse.proofs.declaration.begins_declaration.Goals as goal
 
 -- the fourth of seven tests

@@ -1,13 +1,13 @@
 use Rattle.std.proofs.Common.{refl, sym, ap, ◌∙◌}
 use Rattle.kp_bits.specs.Word as bits
 use Rattle.kp_bits.specs.Operators.{binary_of}
-use Rattle.kp_net.{specs.declared.node.Kind.TheVariants.Binary, proofs.Exact.operand_widths}
+use Rattle.kp_net.specs.declared.node.Kind.TheVariants.{Binary}
 use Rattle.kp_pool.proofs.Folds.{fold_word, number_word, left_wins, left_yields}
 use Rattle.kp_pool.proofs.fold.binary.Goals as goal
 
 pub apply-requires : goal.apply-requires
 apply-requires c = λ s.
-    ap (λ (w : bits.Word). w.width) c.in-Some.ensures.2 ∙ operand_widths c.args.op _ _ _ c.requires.widths.1 s ∙ sym (ap (λ (w : bits.Word). w.width) c.in-Some-number.ensures.2)
+    ap (λ (w : bits.Word). w.width) c.in-Some.ensures.2 ∙ c.requires.widths.1.1 s ∙ sym (ap (λ (w : bits.Word). w.width) c.in-Some-number.ensures.2)
 
 pub returns-in-Some-number : goal.returns-in-Some-number
 returns-in-Some-number c = λ k ok. fold_word c.args.nodes.now k (Binary c.args.op c.args.a c.args.b) c.requires.right ok refl c.apply.result

@@ -1,4 +1,4 @@
--- For each name its first and follow sets. Only proofs use these tables.
+-- For each name its first and follow sets: the tables by which the machine of kp_grammar chooses an alternative.
 use Rattle.std.specs.Prelude.{ℕ, List, [], ◌∷◌, true, false}
 use Rattle.kp_grammar.specs.Tables.{Tables, Row, END_OF_TEXT}
 use Rattle.kp_lex.specs.declared.token.Keyword.TheVariants as keywords
