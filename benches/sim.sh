@@ -1,16 +1,17 @@
 #!/bin/sh
 # Runs the pipelined machines of the examples for 100,000 cycles by `sim`, and the Verilog of each for as many in Verilator and in Icarus
-# Verilog, where they are installed, with the same rows printed. Prints for each machine the seconds from start to end of each, the ratio of
-# `sim` to the others, the nodes of the netlist, the nanoseconds of `sim` for a node in a cycle, and, where valgrind is installed, its machine
-# instructions for a node in a cycle, the row's text included; and then the seconds and the memory of a machine near the limits of the language
-# over 1,000 and 100,000 cycles: sh benches/sim.sh
+# Verilog, where they are installed, with the same rows printed, and by kprun, where it is built, with none. Prints for each machine the seconds
+# from start to end of each, the ratio of `sim` to Verilator and Icarus, the nodes of the netlist, the nanoseconds of `sim` for a node in a cycle,
+# and, where valgrind is installed, its machine instructions for a node in a cycle, the row's text included; and then the seconds and the memory of
+# a machine near the limits of the language over 1,000 and 100,000 cycles: sh benches/sim.sh
 #
-# Each time is the least of three runs, and that of Icarus of one; what Verilator and Icarus take to build isn't counted. KP names another program
-# than ./kp.
+# Each time is the least of three runs, and that of Icarus of one; what Verilator and Icarus take to build isn't counted. KP and KPRUN name other
+# programs than ./kp and crates/kprun/out/kprun.
 set -eu
 . "$(dirname "$0")/common.sh"
 cycles=100000
 riscv=$top/examples/riscv
+kprun=${KPRUN:-$top/crates/kprun/out/kprun}
 
 # bench NAME JOB: prints a module that prints the rows of the machine. Verilator's clock comes from a C++ file, Icarus Verilog makes its own
 # (CLOCK). Samples are 0.
@@ -52,6 +53,9 @@ instructions() {
     valgrind --tool=callgrind --callgrind-out-file=/dev/null "$kp" sim "$1" < "$input" 2>&1 > /dev/null | awk '/Collected/ { print $4 }'
 }
 
+# silent: runs the job of standard input by kprun for these cycles, at whose end its status is 8
+silent() { "$kprun" run --quiet --until retired=1000000000 --limit $cycles || [ $? -eq 8 ]; }
+
 # rows_of FILE WHAT: says so where the rows of a run aren't those of `sim`
 rows_of() {
     grep '^cycle' "$1" | cmp -s - "$work/rows" || echo "$2 of $name: OTHER ROWS"
@@ -60,10 +64,11 @@ rows_of() {
 # race NAME JOB: prints the line of a machine
 race() {
     name=$1 input=$2
-    icarus=- verilator=-
+    icarus=- verilator=- run=-
     sim=$(fastest 3 "$work/written" "$kp" sim $cycles)
     none=$(fastest 3 "$work/start" "$kp" sim 0)
     grep '^cycle' "$work/written" > "$work/rows"
+    [ ! -x "$kprun" ] || run=$(fastest 3 "$work/other" silent)
     "$kp" pipe < "$input" > "$work/m.v"
     nodes=$(grep -c '^  wire' "$work/m.v")
     bench "$name" "$input" > "$work/bench.v"
@@ -82,10 +87,10 @@ race() {
     each=$(awk "BEGIN { printf \"%.2f\", ($sim - $none) * 1e9 / $cycles / $nodes }")
     steps=-
     if command -v valgrind > /dev/null; then
-        steps=$(awk "BEGIN { printf \"%.1f\", ($(instructions 1500) - $(instructions 500)) / 1000 / $nodes }")
+        steps=$(echo "$(instructions 500)" "$(instructions 1500)" | awk -v nodes="$nodes" 'NF == 2 { printf "%.1f", ($2 - $1) / 1000 / nodes }')
     fi
-    printf '%-8s %7s %8s %10s %8s %8s %8s %8s %8s\n' "$name" "$nodes" "$sim" "$verilator" "$icarus" "$(over "$sim" "$verilator")" \
-        "$(over "$sim" "$icarus")" "$each" "$steps"
+    printf '%-8s %7s %8s %10s %8s %8s %8s %8s %8s %8s\n' "$name" "$nodes" "$sim" "$verilator" "$icarus" "$run" "$(over "$sim" "$verilator")" \
+        "$(over "$sim" "$icarus")" "$each" "${steps:--}"
 }
 
 # with_image MACHINE IMAGE: prints a RISC-V machine with a program
@@ -95,7 +100,7 @@ with_image() {
     echo end
 }
 
-printf '%-8s %7s %8s %10s %8s %8s %8s %8s %8s\n' machine nodes 'sim, s' Verilator Icarus ratio ratio ns steps
+printf '%-8s %7s %8s %10s %8s %8s %8s %8s %8s %8s\n' machine nodes 'sim, s' Verilator Icarus kprun ratio ratio ns steps
 looping "$work/processor"
 race dlx5 "$work/processor"
 race dlxs "$top/examples/dlxs.kp"
