@@ -1,8 +1,9 @@
 #!/bin/sh
 # Runs the pipelined machines of the examples for 100,000 cycles by `sim`, and the Verilog of each for as many in Verilator and in Icarus
 # Verilog, where they are installed, with the same rows printed. Prints for each machine the seconds from start to end of each, the ratio of
-# `sim` to the others, the nodes of the netlist, and the nanoseconds of `sim` for a node in a cycle; and then the seconds and the memory of a
-# machine near the limits of the language over 1,000 and 100,000 cycles: sh benches/sim.sh
+# `sim` to the others, the nodes of the netlist, the nanoseconds of `sim` for a node in a cycle, and, where valgrind is installed, its machine
+# instructions for a node in a cycle, the row's text included; and then the seconds and the memory of a machine near the limits of the language
+# over 1,000 and 100,000 cycles: sh benches/sim.sh
 #
 # Each time is the least of three runs, and that of Icarus of one; what Verilator and Icarus take to build isn't counted. KP names another program
 # than ./kp.
@@ -46,6 +47,11 @@ over() {
     case $2 in -) printf -- - ;; *) awk "BEGIN { printf \"%.2f\", $1 / $2 }" ;; esac
 }
 
+# instructions CYCLES: the machine instructions of `sim` of the job in $input
+instructions() {
+    valgrind --tool=callgrind --callgrind-out-file=/dev/null "$kp" sim "$1" < "$input" 2>&1 > /dev/null | awk '/Collected/ { print $4 }'
+}
+
 # rows_of FILE WHAT: says so where the rows of a run aren't those of `sim`
 rows_of() {
     grep '^cycle' "$1" | cmp -s - "$work/rows" || echo "$2 of $name: OTHER ROWS"
@@ -74,8 +80,12 @@ race() {
         rows_of "$work/other" Icarus
     fi
     each=$(awk "BEGIN { printf \"%.2f\", ($sim - $none) * 1e9 / $cycles / $nodes }")
-    printf '%-8s %7s %8s %10s %8s %8s %8s %8s\n' "$name" "$nodes" "$sim" "$verilator" "$icarus" "$(over "$sim" "$verilator")" \
-        "$(over "$sim" "$icarus")" "$each"
+    steps=-
+    if command -v valgrind > /dev/null; then
+        steps=$(awk "BEGIN { printf \"%.1f\", ($(instructions 1500) - $(instructions 500)) / 1000 / $nodes }")
+    fi
+    printf '%-8s %7s %8s %10s %8s %8s %8s %8s %8s\n' "$name" "$nodes" "$sim" "$verilator" "$icarus" "$(over "$sim" "$verilator")" \
+        "$(over "$sim" "$icarus")" "$each" "$steps"
 }
 
 # with_image MACHINE IMAGE: prints a RISC-V machine with a program
@@ -85,7 +95,7 @@ with_image() {
     echo end
 }
 
-printf '%-8s %7s %8s %10s %8s %8s %8s %8s\n' machine nodes 'sim, s' Verilator Icarus ratio ratio ns
+printf '%-8s %7s %8s %10s %8s %8s %8s %8s %8s\n' machine nodes 'sim, s' Verilator Icarus ratio ratio ns steps
 looping "$work/processor"
 race dlx5 "$work/processor"
 race dlxs "$top/examples/dlxs.kp"

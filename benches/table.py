@@ -19,7 +19,7 @@ RATIO, SECONDS = 1.25, 0.1
 
 # What `measured` of checks/common.sh prints, and the rows of sim.sh and of hostile.sh
 MEASURED = re.compile(r'^(?P<what>.*): \S+ s by the clock, (?P<seconds>[\d.]+) s in the program, (?P<kib>\d+) KiB$', re.M)
-RACE = re.compile(r'^(?P<what>\w+) +\d+ +(?P<seconds>[\d.]+)(?: +(?:-|[\d.]+)){5}$', re.M)
+RACE = re.compile(r'^(?P<what>\w+) +\d+ +(?P<seconds>[\d.]+)(?: +(?:-|[\d.]+)){6}$', re.M)
 HOSTILE = re.compile(r'^(?P<text>\S+) +(?P<what>[a-z]+(?: 1)?) +(?P<seconds>[\d.]+) +(?P<mib>\d+)  ', re.M)
 OTHER = re.compile(r'^.*(?:ANOTHER TEXT|OTHER ROWS).*$', re.M)
 

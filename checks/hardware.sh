@@ -1,5 +1,5 @@
 #!/bin/bash
-# Prints how large and how slow the Verilog of `pipe` is in hardware: bash checks/hardware.sh [JOB.kp|MODULE.v ..]
+# Prints how large and how slow the Verilog of `pipe` is in hardware: bash checks/hardware.sh [--outside] [JOB.kp|MODULE.v ..]
 #
 # The designs are those named, or the examples. Yosys maps each to look-up tables with four inputs, with the files left as memories: LUT4 and FF count
 # tables and flip-flops, and `path` is the number of tables on the longest path between registers and memories. It does so twice: by its default script, and
@@ -9,6 +9,7 @@
 #
 # A file of more than 131,072 bits, as the memories of the RISC-V machines, is outside: its words are inputs of the design, and its addresses and what it is
 # written outputs. For nextpnr such a design is placed between registers, from which a word comes at once: a real memory adds its time to the clock.
+# With --outside all files are outside, and nothing is placed, as checks/depth.py needs it.
 #
 # Where benches/by-hand has a pipeline of the same name as a job, it follows the job, and a line `beside` with what the module of `pipe` has for
 # each 1 of the pipeline by hand. Another order of the same cells moves LUT4 by some percent, `path` by one and the clock by a tenth, so small
@@ -23,8 +24,10 @@
 # nextpnr have MOST seconds each, 200 by default. KP names another program than ./kp.
 . "$(dirname "$0")/common.sh"
 seconds=${MOST:-200}
+most=131072 places=yes
+[ "${1:-}" = --outside ] && { most=0 places=; shift; }
 need yosys
-has nextpnr-ice40 || true
+[ -z "$places" ] || has nextpnr-ice40 || places=
 
 # The wires of a module that become outputs.
 exposed() {
@@ -56,13 +59,13 @@ filled() {
 
 # A module whose large files are outside: a word that is read is an input in_WIRE.
 without_large_files() {
-    awk '
+    awk -v most="$most" '
         function file(line) { match(line, /f_[A-Za-z0-9_]+/); return substr(line, RSTART, RLENGTH) }
         function wires(line,  text) { text = line; gsub(/f_[A-Za-z0-9_]+|[^n0-9]+/, " ", text); return text }
         FNR == NR && /^ +reg \[[0-9]+:0\] f_/ {
             it = $0; gsub(/^[^[]*\[|:0\].*/, "", it)
             words = $0; sub(/.*:/, "", words)
-            if ((it + 1) * (words + 1) > 131072) large[file($0)] = 1
+            if ((it + 1) * (words + 1) > most) large[file($0)] = 1
         }
         FNR == NR && /^ +wire \[/ { it = $2; gsub(/[^0-9:]/, "", it); sub(/:.*/, "", it); width[$3] = it }
         FNR == NR && /^ +assign n[0-9]+ = f_/ && (file($0) in large) { inputs = inputs ", input wire [" width[$2 ";"] ":0] in_" $2 }
@@ -156,11 +159,11 @@ design() {
     ends=$(path "$work/path-balanced")
     found="$lut $ff ${path:-0} $(number '^[$]lut$' "$work/stat-balanced") ${ends:-0}"
     mapped="; balanced: $(number '^[$]lut$' "$work/stat-balanced") LUT4, path ${ends:-?}"
-    if [ -n "$outside" ] && has nextpnr-ice40; then
+    if [ -n "$outside" ] && [ -n "$places" ]; then
         between_registers "$text" "$wires" >"$work/between.v"
         timeout "$seconds" yosys -q -p "$begin read_verilog $work/between.v; hierarchy -check -top between; synth_ice40 -top between -json $work/d.json" >"$work/said" 2>&1 &&
             mapped="$mapped; iCE40, memories outside: $(clock)"
-    elif [ "$large" -le 8192 ] && has nextpnr-ice40; then
+    elif [ "$large" -le 8192 ] && [ -n "$places" ]; then
         if timeout "$seconds" yosys -q -p "$begin synth_ice40 -top $top -json $work/d.json; tee -q -o $work/stat stat" >"$work/said" 2>&1; then
             found="$found $(number '^SB_LUT4$' "$work/stat") $(number '^SB_DFF' "$work/stat")"
             mapped="$mapped; iCE40: $(number '^SB_LUT4$' "$work/stat") LUT4, $(number '^SB_DFF' "$work/stat") FF, $(number '^SB_RAM' "$work/stat") RAM"

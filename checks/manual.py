@@ -1,10 +1,13 @@
 #!/usr/bin/env python3
 """Whether the commands of the manual print what the manual says: python3 checks/manual.py [PAGE ..]
 
-In README.md, TUTORIAL.md, LANGUAGE.md, COOKBOOK.md and KPVIEW.md, or in the given pages, it runs each command `./kp WORDS < examples/FILE`,
+In README.md, TUTORIAL.md, LANGUAGE.md, COOKBOOK.md, KPVIEW.md and TOOLS.md, or in the given pages, it runs each command `./kp WORDS < examples/FILE`,
 `examples/with-program JOB PROGRAM | ./kp WORDS` and `./kpview WORDS examples/FILE ..`. A command has to print the indented block that follows it, or, where it is a line `$ ./kp ..` of a
 block, the rest of that block: the lines of the block are consecutive lines of the output, but where a line of dots is in place of others. A command
 that no block follows isn't run. `explain` prints to standard error.
+
+A block of TUTORIAL.md or TOOLS.md that has `tools/kpcut`, `tools/kpasm`, or a file that an earlier block of the page has written, is run as a script for the shell, in a folder
+for the page, and what it prints is compared in the same way. TOOLS.md is read for these blocks alone.
 
 Each row of the rules in docs/LANGUAGE.md is an example too: the job at the top of the page with other lines, or a job of examples/. It has to be
 rejected as the row says.
@@ -16,11 +19,15 @@ import re
 import shlex
 import subprocess
 import sys
+import tempfile
 
 TOP = os.path.dirname(os.path.dirname(os.path.abspath(__file__)))
 KP = os.environ.get("KP", f"{TOP}/kp")
 KPVIEW = os.environ.get("KPVIEW", f"{TOP}/kpview")
 COMMAND = re.compile(r"\./kp ([^<>|`]+?) < (examples/[\w./]+)(?=[`\s]|$)|examples/with-program (\S+) (\S+) \| \./kp ([^<>|`#\n]+?)(?=[`\n]|$)|\./kpview ([^<>|`\n]+?(?: examples/[\w./]+)+)(?=[`\s]|$)")
+SCRIPT = re.compile(r"(?:cat|tools/kp\w+|\./kp(?:view)?) [^;&`$]*")
+WRITTEN = re.compile(r"> (\w+\.kp)$", re.M)
+SCRIPTED = ["docs/TUTORIAL.md", "docs/TOOLS.md"]
 ROW = re.compile(r"^\| (E\d+) \| [^|]* \| (.*) \| ([^|]*`refused (E\d+ \d+:\d+)`) \|$", re.M)
 
 
@@ -94,6 +101,39 @@ def is_printed(said, printed):
     return True
 
 
+def scripts_of(text):
+    """Each script of a page, and the indented lines that follow it without other text between them, where there are any."""
+    written = set()
+    for block in re.findall(r"(?:^(?:    .*)?\n)+", text + "\n", re.M):
+        parts = [[line[4:] for line in it.split("\n")] for it in re.split(r"\n\n+", block.strip("\n")) if it]
+        for at, it in enumerate(parts):
+            script = "\n".join(it)
+            if all(map(SCRIPT.fullmatch, it)) and (re.search(r"\btools/kp(?:cut|asm)\b", script) or written & set(re.findall(r"\b\w+\.kp\b", script))):
+                written |= set(WRITTEN.findall(script))
+                end = next((i for i in range(at + 1, len(parts)) if all(map(SCRIPT.fullmatch, parts[i]))), len(parts))
+                yield script, [line for i, said in enumerate(parts[at + 1 : end]) for line in [""] * bool(i) + said]
+
+
+def run_script(text, folder):
+    """What a block of commands prints, in a folder where the commands of the documents are."""
+    for name, path in (("kp", KP), ("kpview", KPVIEW), ("tools", f"{TOP}/tools"), ("examples", f"{TOP}/examples")):
+        if not os.path.lexists(f"{folder}/{name}"):
+            os.symlink(os.path.abspath(path), f"{folder}/{name}")
+    environment = {**os.environ, "KP": os.path.abspath(KP), "KPVIEW": os.path.abspath(KPVIEW)}
+    ran = subprocess.run(["bash", "-eo", "pipefail", "-c", text], cwd=folder, env=environment, stdout=subprocess.PIPE, stderr=subprocess.STDOUT)
+    printed = ran.stdout.decode().rstrip("\n").split("\n")
+    return printed if ran.returncode == 0 else [f"status {ran.returncode}", *printed]
+
+
+def scripts_that_differ(page, text):
+    """For each script of a page a line that says what is wrong with it, or an empty one."""
+    with tempfile.TemporaryDirectory() as folder:
+        for script, said in scripts_of(text):
+            printed = run_script(script, folder)
+            same = is_printed(said, printed) and not printed[0].startswith("status ")
+            yield "" if same else f"{page}: {script.splitlines()[0]} ..: prints something else: {printed[0]}"
+
+
 def output_of(match):
     words, job, machine, program, more, view = match.groups()
     if view:
@@ -127,7 +167,10 @@ def main(pages):
     commands = differ = 0
     for page in pages:
         text = file_at(page).decode()
-        for match, said in commands_of(blocks_of(text)):
+        for fault in scripts_that_differ(page, text) if page in SCRIPTED else ():
+            commands, differ = commands + 1, differ + bool(fault)
+            print(fault, end="\n" * bool(fault))
+        for match, said in commands_of(blocks_of(text)) if page != "docs/TOOLS.md" else ():
             commands += 1
             if not is_printed(said, output_of(match)):
                 differ += 1
@@ -152,4 +195,4 @@ if __name__ == "__main__":
     if unbuilt():
         print(f"not built: {', '.join(unbuilt())}")
         sys.exit(77)
-    sys.exit(main(sys.argv[1:] or ["README.md", "docs/TUTORIAL.md", "docs/LANGUAGE.md", "docs/COOKBOOK.md", "docs/KPVIEW.md"]))
+    sys.exit(main(sys.argv[1:] or ["README.md", "docs/TUTORIAL.md", "docs/LANGUAGE.md", "docs/COOKBOOK.md", "docs/KPVIEW.md", "docs/TOOLS.md"]))

@@ -1,5 +1,5 @@
 -- Equivalent nodes have equal words, if both netlists have the same sources by name.
-use Rattle.std.proofs.Common.{◌≡◌, ◌∙◌, ℕ, zero, suc, ◌==◌, ◌<◌, true, false, List, [], ◌∷◌, length, map, get_or, refl, sym, ap, arith, ⊎_elim}
+use Rattle.std.proofs.Common.{◌≡◌, ◌∙◌, ℕ, zero, suc, ◌%◌, ◌^◌, ◌==◌, ◌<◌, true, false, List, [], ◌∷◌, length, map, get_or, refl, sym, ap, arith, ⊎_elim}
 use Rattle.std.proofs.lemmas.Bool.{false≢true}
 use Rattle.kp_bits.specs.Word as bits
 use Rattle.kp_bits.specs.{Word.word, Word.not_of, Word.mux_of, Word.slice_of, Operators.is_shift, Operators.commutes, Operators.binary_of, Operators.joined_of, declared.operator.BinOp.BinOp}
