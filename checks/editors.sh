@@ -4,8 +4,8 @@
 # The messages are those that the cases of `explain` in kp_test_cases expect. Each must be found, with its file, line, column, kind and rule, and nothing else:
 # by the regular expression of docs/KPVIEW.md, which editors/vscode/package.json has too, and by Vim with editors/vim/compiler/kpview.vim. The quickfix list of
 # Vim has to have each line of help too. Vim indents each job of examples/ as it stands there, has a fold for each of its stages, and knows the types of jobs,
-# programs and lines of ports. The grammars for VS Code have to have a pattern for each token of the examples. Where Vim isn't installed, the other parts alone
-# are tried.
+# programs and lines of ports. With :compiler kpcore the list has the messages of kpcore and nothing of the module. The grammars for VS Code have to have a
+# pattern for each token of the examples. Where Vim isn't installed, the other parts alone are tried.
 #
 # The last line is `N checked, M wrong`, and the status is 0 where M is 0.
 set -u
@@ -66,6 +66,12 @@ END
     opened "$work/wrong.kp" kp '1:13 1:14 1:15 1:16 1:17'
     printf 'loop: add r1, r2, r3 ; a sum\nmov r1, r32\nbnez r1, loop\n' > "$work/wrong.dlx"
     opened "$work/wrong.dlx" kpdlx '2:1 2:2 2:3 2:9 2:10 2:11'
+    printf '#!/bin/sh\necho module\necho "$1:3:5: error P2: no register has this name" >&2\n' > "$work/kpcore"
+    chmod 755 "$work/kpcore"
+    echo end > "$work/my core.kp"
+    (cd "$work" && PATH="$work:$PATH" vim -N -u NONE -i NONE -n -es --cmd "set runtimepath^=$top/editors/vim" -c 'compiler kpcore' -c 'silent make!' \
+        -c "call writefile(map(getqflist(), 'bufname(v:val.bufnr) . \":\" . v:val.lnum . \":\" . v:val.col . \":\" . v:val.text'), 'made')" -c 'qa!' 'my core.kp') > /dev/null 2>&1 < /dev/null
+    is 'messages of kpcore' 'my core.kp:3:5:P2: no register has this name' "$(cat "$work/made")"
 else
     missing=vim
 fi

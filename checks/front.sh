@@ -79,6 +79,8 @@ said memory 'out of memory'
 same words "$work/status0" sim ten 10
 said words 'usage: kp COMMAND'
 quiet words silence "$work/silent"
+same operand "$work/status0" check "$work/status2"
+said operand "'< $work/status2' reads this file"
 same nothing "$work/status0"
 said nothing 'usage: kp COMMAND'
 same generated "$work/status0" gen 1 10

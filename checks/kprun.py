@@ -144,7 +144,7 @@ with tempfile.TemporaryDirectory() as work:
     check('a job that violates a rule', status == 2 and not out and said.startswith('<stdin>:1:'), said)
     equal('no file', run(['run', f'{work}/none']), (3, '', f'kprun: {work}/none: there is no such file\n'))
     equal('no expectation file', run(['run', '--expect', f'{work}/none', job]), (3, '', f'kprun: {work}/none: there is no such file\n'))
-    equal('a folder', run(['run', work]), (3, '', f'kprun: {work}: reading failed\n'))
+    equal('a folder', run(['run', work]), (3, '', f'kprun: {work}: it is a folder\n'))
     with open(f'{TOP}/examples/dlxs.kp', encoding='ascii') as it:
         dlxs = it.read()
     adds = dlxs.replace("f == 6'h22 ? a - b", "f == 6'h22 ? a + b")

@@ -2,8 +2,8 @@
 # Opens pages that `kpview page` writes in a browser: bash checks/page.sh [FOLDER]
 #
 # The pages are those of mini5, of dlxs with a program, and of a RISC-V processor with one. Chromium, without a window, must print no message on the
-# console of a page; the script of the page must show the chosen cycle, why instructions wait in it, and the tables; in cycle 18 of mini5 the lines of two
-# reads must be marked; and a picture of the page is taken, which FOLDER keeps, if it is given.
+# console of a page; the script of the page must show the chosen cycle, why instructions wait in it, the numbers at the edges of the diagram, and the tables;
+# in cycle 18 of mini5 the lines of two reads must be marked; and a picture of the page is taken, which FOLDER keeps, if it is given.
 #
 # Where Chromium or the word `page` isn't there, nothing is checked. The last line is `N checked, M wrong`, and the status is 0 where M is 0, and 77
 # where nothing could be checked. KP and KPVIEW name other programs than those that are built here, CHROMIUM another browser.
@@ -34,6 +34,7 @@ page() {
     quiet "$name" console "$work/console"
     if grep -q "<output id=\"place\"[^>]*>cycle $cycle of $count</output>" "$work/dom"; then says "$name" cycle ok; else says "$name" cycle "cycle $cycle isn't shown"; fi
     if grep -q '<div id="why"[^>]*><p>' "$work/dom"; then says "$name" reasons ok; else says "$name" reasons "none is given"; fi
+    if [ "$(grep -o '<g class="axis" transform' "$work/dom" | wc -l)" -eq 2 ]; then says "$name" axes ok; else says "$name" axes "they don't stay at the edges"; fi
     if [ "$(grep -c "<tr class=\"new\"\|<tr>" "$work/dom")" -gt 0 ]; then says "$name" tables ok; else says "$name" tables "they are empty"; fi
     open "$file" "$cycle" --screenshot="$keep/$name.png" > /dev/null 2>&1
     if [ -s "$keep/$name.png" ]; then says "$name" picture ok; else says "$name" picture "there is none"; fi

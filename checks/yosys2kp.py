@@ -2,8 +2,8 @@
 """Whether tools/yosys2kp writes the circuit that it is given: python3 checks/yosys2kp.py [JOB.kp ..]
 
 - The module that `pipe` writes of each job of examples/ and examples/cookbook, or of the given jobs, through Yosys and tools/yosys2kp: `equiv` has to say `same
-  roots`, with rst. So Yosys reads the text as `kp` does. Where Yosys forgets that a slice was taken of a slice, `watch 40` has to find no difference
-  instead. Jobs with a file that nothing reads, for which Yosys 0.23 makes no cell, and one whose start words take it minutes, are left out.
+  roots`, with rst. So Yosys reads the text as `kp` does, and slices and concatenations that it writes in another way are alike. One job is left out, whose
+  start words take Yosys 0.23 minutes.
 - A module with every kind of cell (checks/yosys2kp/ops.v) and what is made of it have the same registers, words and outputs over 50,000 random cycles in
   Icarus; with one operator exchanged they don't.
 - What the subset has no text for is reported with the line of the source and the reason.
@@ -22,8 +22,7 @@ TOP = os.path.dirname(os.path.dirname(os.path.abspath(__file__)))
 KP = os.environ.get('KP', f'{TOP}/kp')
 TOOL = f'{TOP}/tools/yosys2kp'
 HERE = f'{TOP}/checks/yosys2kp'
-SLICED = {'dlx5', 'dlxs', 'btb', 'twobit'}
-LEFT_OUT = {'big', 'changes', 'div', 'sra'}
+LEFT_OUT = {'big'}
 
 # An edit of examples/byhand/acc3.v, other words for the tool, and what it says.
 REJECTED = [
@@ -78,10 +77,6 @@ def through_yosys(job, work):
     status, back, said = run(TOOL, '--reset', job, top, written(f'{work}/m.v', module))
     if status:
         return said
-    if os.path.basename(job)[:-3] in SLICED:
-        back = run(TOOL, job, top, f'{work}/m.v')[1]
-        status, said, _ = run(KP, 'watch', '40', text=text + back)
-        return '' if status == 0 else f"watch: {said.rstrip().split(chr(10))[-1]}"
     said = run(KP, 'equiv', text=text + module + back)[1].strip()
     return '' if said.startswith('same roots') else f'equiv: {said}'
 

@@ -12,11 +12,17 @@ FLIP_FLOPS = {'$dff', '$dffe', '$sdff', '$sdffe', '$sdffce', '$adff', '$adffe'}
 OTHER_STATE = re.compile(r'\$(aldff|dffsr|dlatch|adlatch|sr|ff|_DFF|_DLATCH|_SR|_FF|mem_v2|memrd|memwr|mem$)')
 IGNORED = {'$assert', '$assume', '$cover', '$check', '$print', '$scopeinfo'}
 
+# Yosys says this of a memory that nothing reads.
+UNREAD = re.compile(r'internal cell \\\S*\.\\?(\S+) \(\$mem_v2\)')
+
+# In place of `clean`: what `proc` makes for the operands of a write, which nothing reads either.
+UNUSED = 'delete w:$memwr$* %ci1 t:$dff %i;'
+
 # The processes become cells, the hierarchy one module, and the ports of a memory one cell. No ROM is made of a `case`, no register is merged with a read port,
 # and what the job names is kept though no output depends on it.
 SCRIPT = ('{reads}; hierarchy -check -top {top}; setattr -set keep 1 w:*r_* w:q_* {kept}; proc -norom -noopt; flatten; '
           'opt_expr -keepdc t:$meminit* %ci* t:$meminit* %u; opt_mem_priority; memory_share; memory_collect; setattr -set keep 1 t:$mem_v2; '
-          '{opt} clean; setattr -unset keep w:* c:*; write_json {to}')
+          '{opt} {clean} setattr -unset keep w:* c:*; write_json {to}')
 
 
 class Cell:
@@ -94,16 +100,26 @@ def read(files, top, kept, macros, optimised):
     with tempfile.TemporaryDirectory() as work:
         options = ''.join(f' -D{it}' for it in macros)
         reads = '; '.join(f"read_verilog{' -sv' if it.endswith('.sv') else ''}{options} {it}" for it in files)
-        script = SCRIPT.format(reads=reads, top=top, kept=' '.join(f'w:{it}' for it in kept), opt='opt -keepdc;' if optimised else '', to=f'{work}/net.json')
-        ran = subprocess.run(['yosys', '-q', '-p', script], stdout=subprocess.PIPE, stderr=subprocess.STDOUT)
-        if ran.returncode:
-            raise Rejected(failure(ran.stdout.decode(errors='replace').strip() or f'Yosys: status {ran.returncode}'))
+        words = dict(reads=reads, top=top, kept=' '.join(f'w:{it}' for it in kept), opt='opt -keepdc;' if optimised else '', to=f'{work}/net.json')
+        said = yosys(SCRIPT.format(clean='clean;', **words))
+        if said and UNREAD.search(said):
+            # Yosys 0.23 finds fault with its own cell of a memory that nothing reads, in `clean`, and at its end, after the netlist is written.
+            said = yosys(SCRIPT.format(clean=UNUSED, **words))
+            said = '' if UNREAD.search(said) and os.path.exists(f'{work}/net.json') else said
+        if said:
+            raise Rejected(failure(said))
         return of_json(f'{work}/net.json', top)
+
+
+def yosys(script):
+    """What Yosys says where it fails, or an empty text."""
+    ran = subprocess.run(['yosys', '-q', '-p', script], stdout=subprocess.PIPE, stderr=subprocess.STDOUT)
+    return '' if ran.returncode == 0 else ran.stdout.decode(errors='replace').strip() or f'Yosys: status {ran.returncode}'
 
 
 def failure(said):
     """What Yosys said when it failed, as one line."""
-    unread = re.search(r'internal cell \\\S*\.\\?(\S+) \(\$mem_v2\)', said)
+    unread = UNREAD.search(said)
     if unread:
         return f'Yosys makes no cell for the memory {unread[1]}, since nothing reads it'
     return next((it for it in said.split('\n') if 'ERROR' in it), said.split('\n')[-1]).replace('ERROR: ', 'Yosys: ')

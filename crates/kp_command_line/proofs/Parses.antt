@@ -1,37 +1,57 @@
--- What `clap` finds and refuses for words none of which begins with `-`.
+-- What `clap` finds and refuses for words none of which is a flag.
 use Rattle.std.proofs.Common.{◌≡◌, ◌∙◌, ◌⊎◌, ℕ, ◌+◌, zero, suc, Bool, cond, true, false, refl, sym, ap, ap₂, subst, List, [], ◌∷◌, ◌++◌, map, fold, ◌&&◌, ◌||◌, ◌==◌, Option, Some, None, is_some, inl, inr, codes, append-nil, append_assoc, arith, true≢false}
 use Rattle.std.proofs.lemmas.{List.map-append, Bool.le-ltb, Bool.lt-ltb, Bool.ne_eqb, Bool.or_parts, Slice.Eq.bytes_eq-Decides}
-use Rattle.std.specs.{Prelude.⊤, Prelude.Box, Prelude.find, Prelude.length, Prelude.nat_lt, Prelude.option_map, Prelude.slice_get, Box.box_value, List.list_all, List.list_any, Str.bytes_eq, Option.option_map_or}
+use Rattle.std.specs.{Prelude.⊤, Prelude.Box, Prelude.find, Prelude.length, Prelude.nat_lt, Prelude.option_and_then, Prelude.option_map, Prelude.slice_get, Box.box_value, List.list_all, List.list_any, Str.bytes_eq, Option.option_map_or}
 use Rattle.clap.specs.Walk.{Held, Names, Row, Rule, Step, Walk, idle, positional, value, answers_to, arg_by_index, subcommand_met, word_met, walked, walk, walk_from, nothing_held, to_positional, after_step, subcommand_or_other, settled, finished}
-use Rattle.clap.specs.Lexer.{long_of, short_of}
+use Rattle.clap.specs.Lexer.{long_of, long_of_rest, short_of, short_of_rest, strip_byte}
 use Rattle.clap.specs.Simple.{App, Shape, built, built_leaf, entered, filled_from, has_simple_rules, is_ready, is_ready_leaf, is_simple, is_simple_leaf, new_shape, rows_at, inherited, label_of, subcommand_of, with_rule, with_subcommand, subcommand_rows}
 use Rattle.clap.specs.{Kinds.Kinds, Kinds.or_else, Kinds.range_kinds, Kinds.values_kinds, declared.parser.matches.SubCommand.SubCommand, declared.parser.matches.ArgMatches.TheViews.out-SubCommand}
 use Rattle.clap.specs.Faults.{fault_of, has_free_rules, is_simple_and_free, built_fault, level_fault, turn_fault, step_fault, walk_fault, word_fault, defaults_fault, settle_fault, check_fault, entered_fault, other_fault}
 use Rattle.clap.specs.declared.builder.value_parser.ValueParser.TheVariants as parsers
 use Rattle.clap.specs.declared.error.kind.ErrorKind.TheVariants as kind
 use Rattle.clap.proofs.{WalkLemmas.walk_stopped, FaultLemmas.leaf_fault, FaultLemmas.stopped_fault}
-use Rattle.kp_command_line.specs.Words.{Matched, Name, Text, begins_with_dash, file_in, has_dash, matched_as, matched_first, matched_in, most_after}
+use Rattle.kp_command_line.specs.Words.{Name, Text, begins_with_dash, file_in, has_flag, is_flag, source_in, matched_as, matched_first, matched_in, most_after}
 use Rattle.kp_command_line.specs.{inner.Programs.named_by, inner.Programs.program_of, inner.Programs.program_shape, inner.Programs.rules_for, inner.Programs.shape_for, inner.Programs.with_words, inner.Programs.words_rule}
 
--- ---- a word that does not begin with `-`
+-- ---- a word that is no flag
 
-no_dashes : (word : Text) → begins_with_dash word ≡ false → bytes_eq word (45 ∷ 45 ∷ []) ≡ false
+pub no_flag : (word : Text) → begins_with_dash word ≡ false → is_flag word ≡ false
+no_flag [] h = refl
+no_flag (c ∷ []) h = refl
+no_flag (c ∷ next ∷ cs) h = h
+
+no_dashes : (word : Text) → is_flag word ≡ false → bytes_eq word (45 ∷ 45 ∷ []) ≡ false
 no_dashes [] h = refl
-no_dashes (c ∷ cs) h = rw h refl
+no_dashes (c ∷ []) h = go (c == 45)
+  where
+    go : (dash : Bool) → (dash && false) ≡ false
+    go true = refl
+    go false = refl
+no_dashes (c ∷ next ∷ cs) h = rw h refl
 
-no_long : (word : Text) → begins_with_dash word ≡ false → long_of word ≡ None
+no_long : (word : Text) → is_flag word ≡ false → long_of word ≡ None
 no_long [] h = refl
-no_long (c ∷ cs) h = rw h refl
+no_long (c ∷ []) h = go (c == 45)
+  where
+    go : (dash : Bool) → option_and_then long_of_rest (option_and_then (strip_byte 45) (cond dash (Some []) None)) ≡ None
+    go true = refl
+    go false = refl
+no_long (c ∷ next ∷ cs) h = rw h refl
 
-no_short : (word : Text) → begins_with_dash word ≡ false → short_of word ≡ None
+no_short : (word : Text) → is_flag word ≡ false → short_of word ≡ None
 no_short [] h = refl
-no_short (c ∷ cs) h = rw h refl
+no_short (c ∷ []) h = go (c == 45)
+  where
+    go : (dash : Bool) → option_and_then short_of_rest (cond dash (Some []) None) ≡ None
+    go true = refl
+    go false = refl
+no_short (c ∷ next ∷ cs) h = rw h refl
 
 abbrev AreFree : List Text → Type 0
-AreFree words = has_dash words ≡ false
+AreFree words = has_flag words ≡ false
 
-first_word : (word : Text) (words : List Text) → AreFree (word ∷ words) → (begins_with_dash word ≡ false) × AreFree words
-first_word word words h = or_parts (begins_with_dash word) (has_dash words) h
+first_word : (word : Text) (words : List Text) → AreFree (word ∷ words) → (is_flag word ≡ false) × AreFree words
+first_word word words h = or_parts (is_flag word) (has_flag words) h
 
 -- a test of the texts of words
 pub any_text : {X : Type 0} (text : X → Text) (test : Text → Bool) (words : List X) → list_any (λ word. test (text word)) words ≡ list_any test (map text words)
@@ -101,9 +121,9 @@ module _ (name : Text) (is_leaf : Bool) (names : Names) (n : ℕ) where
   s = taking name is_leaf (suc n)
 
   -- the first word
-  module _ (w : Text) (dash : begins_with_dash w ≡ false) (none : subcommand_met names idle w ≡ None) where
+  module _ (w : Text) (flag : is_flag w ≡ false) (none : subcommand_met names idle w ≡ None) where
     first_met : word_met s.rules names false idle 1 w nothing_held ≡ (nothing_held, value)
-    first_met = rw (none, no_dashes w dash, no_long w dash, no_short w dash) refl
+    first_met = rw (none, no_dashes w flag, no_long w flag, no_short w flag) refl
 
     first_walked : walked s.rules names (walk_from nothing_held) w ≡ after_words (w ∷ [])
     unfolding walked
@@ -112,15 +132,15 @@ module _ (name : Text) (is_leaf : Bool) (names : Names) (n : ℕ) where
         ap (λ (met : Held × Step). after_step s.rules w (walk_from nothing_held) met.0 met.1) first_met ∙ goes
 
     first_fault : word_fault s names false idle w nothing_held ≡ []
-    first_fault = rw (none, no_dashes w dash, no_long w dash, no_short w dash) refl
+    first_fault = rw (none, no_dashes w flag, no_long w flag, no_short w flag) refl
 
     first_turn : turn_fault s names (walk_from nothing_held) w ≡ []
     first_turn = ap₂ (λ (first : Kinds) (met : Held × Step). or_else first (step_fault s 1 met.0 met.1)) first_fault first_met
 
   -- one word more
-  module _ (words : List Text) (w : Text) (dash : begins_with_dash w ≡ false) where
+  module _ (words : List Text) (w : Text) (flag : is_flag w ≡ false) where
     next_met : word_met s.rules names false positional 1 w (after_words words).held ≡ ((after_words words).held, value)
-    next_met = rw (no_dashes w dash, no_long w dash, no_short w dash) refl
+    next_met = rw (no_dashes w flag, no_long w flag, no_short w flag) refl
 
     next_walked : walked s.rules names (after_words words) w ≡ after_words (words ++ w ∷ [])
     unfolding walked
@@ -129,7 +149,7 @@ module _ (name : Text) (is_leaf : Bool) (names : Names) (n : ℕ) where
         ap (λ (met : Held × Step). after_step s.rules w (after_words words) met.0 met.1) next_met ∙ goes
 
     next_fault : word_fault s names false positional w (after_words words).held ≡ []
-    next_fault = rw (no_dashes w dash, no_long w dash, no_short w dash) refl
+    next_fault = rw (no_dashes w flag, no_long w flag, no_short w flag) refl
 
     next_turn : turn_fault s names (after_words words) w ≡ []
     next_turn =
@@ -199,11 +219,11 @@ module _ (name : Text) (is_leaf : Bool) (leaves : List Shape) where
       or_else first (or_else (entered_fault (own most) w.stopped) (or_else (settle_fault top.rules false w.held)
       (or_else (defaults_fault (settled top.rules w.held).rows top.rules) (check_fault top (finished top.rules w.held) (is_some (entered (own most) w.stopped))))))
 
-  stray_refused : (w : Text) (more : List Text) (next : Kinds) → begins_with_dash w ≡ false → subcommand_met labels idle w ≡ None
+  stray_refused : (w : Text) (more : List Text) (next : Kinds) → is_flag w ≡ false → subcommand_met labels idle w ≡ None
       → Fits true (or_else (walk_fault (taking name is_leaf 0) labels (walk_from nothing_held) (w ∷ more)) next)
   unfolding walk_fault
-  stray_refused w more next dash none =
-      let turn : Fits true (turn_fault (taking name is_leaf 0) labels (walk_from nothing_held) w) = rw (none, no_dashes w dash, no_long w dash, no_short w dash) (stray is_leaf) in
+  stray_refused w more next flag none =
+      let turn : Fits true (turn_fault (taking name is_leaf 0) labels (walk_from nothing_held) w) = rw (none, no_dashes w flag, no_long w flag, no_short w flag) (stray is_leaf) in
       refused_first _ _ (refused_first _ _ turn)
     where
       stray : (leaf : Bool) → Fits true (cond leaf (kind.UnknownArgument ∷ []) (kind.UnknownArgument ∷ kind.InvalidSubcommand ∷ []))
@@ -435,18 +455,18 @@ added program most i xs ys x old new step is more =
     ∙ ap₂ (λ (leaf : Bool) (subs : List Shape). record { top = program_shape program most leaf; subs = subs }) (sym (ne_eqb (i + 1) 0 (λ e. omega (arith, e))))
     (sym (ap (map shape_for) more ∙ map-append shape_for xs (x ∷ [])))
 
--- ---- at most one word, which is a file
+-- ---- at most one word, which names an input
 
-pub dashed : (words : List Text) → has_dash words ≡ true → None ≡ file_in words
-dashed [] h = absurd (true≢false (sym h))
-dashed (name ∷ []) h = go (begins_with_dash name) h
+pub flagged : (words : List Text) → has_flag words ≡ true → None ≡ file_in words
+flagged [] h = absurd (true≢false (sym h))
+flagged (name ∷ []) h = go (is_flag name) h
   where
-    go : (dash : Bool) → (dash || false) ≡ true → None ≡ cond dash None (Some (Some name))
+    go : (flag : Bool) → (flag || false) ≡ true → None ≡ cond flag None (Some (source_in (Some name)))
     go true h = refl
     go false h = absurd (true≢false (sym h))
-dashed (name ∷ other ∷ rest) h = refl
+flagged (name ∷ other ∷ rest) h = refl
 
-pub filed : (words : List Text) → AreFree words → option_map (λ m. slice_get m.rest 0) (matched_in [] 1 words) ≡ file_in words
+pub filed : (words : List Text) → AreFree words → option_map (λ m. source_in (slice_get m.rest 0)) (matched_in [] 1 words) ≡ file_in words
 filed [] free = refl
 filed (name ∷ []) free = rw ((first_word name [] free).0) refl
 filed (name ∷ other ∷ rest) free = rw (lt-ltb 1 (length (name ∷ other ∷ rest)) (omega arith)) refl

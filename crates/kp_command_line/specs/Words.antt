@@ -1,5 +1,5 @@
 -- The words of a command line that may begin with the name of a subcommand.
-use Rattle.std.specs.Prelude.{◌==◌, ℕ, Bool, false, List, [], ◌∷◌, map, length, nat_lt, find, if◌then◌else◌, string_bytes, option_map, Option, Some, None}
+use Rattle.std.specs.Prelude.{◌==◌, ℕ, Bool, false, List, [], ◌∷◌, codes, map, length, nat_lt, find, if◌then◌else◌, string_bytes, option_map, Option, Some, None}
 use Rattle.std.specs.{Borrow.Bor, List.list_any, Str.bytes_eq}
 use Rattle.kp_command_line.specs.declared.{Input.Input, Matched.Matched as code}
 
@@ -17,8 +17,13 @@ abbrev pub begins_with_dash : Text → Bool
 begins_with_dash [] = false
 begins_with_dash (c ∷ cs) = c == 45
 
-abbrev pub has_dash : List Text → Bool
-has_dash words = list_any begins_with_dash words
+-- a flag: `-` with more after it
+abbrev pub is_flag : Text → Bool
+is_flag (c ∷ next ∷ rest) = c == 45
+is_flag _ = false
+
+abbrev pub has_flag : List Text → Bool
+has_flag words = list_any is_flag words
 
 -- The name of a subcommand and the words after it; or no name, and all words.
 pub record Matched : Type 0 where
@@ -31,10 +36,19 @@ matched_seen matched = record { name = option_map (λ name. name.now) matched.na
 abbrev pub file_seen : Input → Option Text
 file_seen input = option_map (λ name. string_bytes name.now) input.file
 
--- At most one word, which is a file and does not begin with `-`. `Some None` is standard input.
+-- the file that a word names, or none for standard input, which is `-` or no word
+abbrev pub source_in : Option Text → Option Text
+source_in None = None
+source_in (Some word) = if bytes_eq word (codes "-") then None else Some word
+
+-- the input of a word, which is no flag: `Some None` is standard input
+abbrev pub input_named : Text → Option (Option Text)
+input_named word = if is_flag word then None else Some (source_in (Some word))
+
+-- that of at most one word
 abbrev pub file_in : List Text → Option (Option Text)
 file_in [] = Some None
-file_in (name ∷ []) = if begins_with_dash name then None else Some (Some name)
+file_in (name ∷ []) = input_named name
 file_in (name ∷ other ∷ rest) = None
 
 -- how many words may follow this word, if it is the name of a subcommand

@@ -1,14 +1,14 @@
 //! The words of a command line, as `clap` matches them: the name of a subcommand and words after it, or words without a name.
 //!
 //! `specs/Words.antt` defines what is matched. `specs/inner/Programs.antt` says what `clap` is given, and `proofs/Parses.antt` what it finds and refuses then.
-//! It makes no texts: help, usage and flags are read before, so no word that is matched begins with `-`.
+//! It makes no texts: help, usage and flags are read before, so no word that is matched is a flag.
 #![tactic(auto)]
 
 ghost use Rattle.std.specs.Prelude.{◌≡◌, IfOk, map, string_bytes, option_map, slice_get, false, []};
 ghost use Rattle.std.specs.List.{list_any};
 ghost use Rattle.clap.specs.{Words.app_of, Words.shape_of, Words.with_rule, Words.with_subcommand, Walk.is_empty};
 ghost use Rattle.clap.specs.declared.builder.command.Command.TheViews.{out-Command};
-ghost use Rattle.kp_command_line.specs.Words.{begins_with_dash, file_in, file_seen, has_dash, matched_in, matched_seen, name_seen};
+ghost use Rattle.kp_command_line.specs.Words.{begins_with_dash, file_in, file_seen, has_flag, input_named, is_flag, matched_in, matched_seen, name_seen, source_in};
 ghost use Rattle.kp_command_line.specs.inner.Programs.{named_by, program_of, shape_for, with_words, words_rule};
 
 use clap::error::ErrorKind;
@@ -33,12 +33,25 @@ pub struct Input<'w> {
 }
 
 impl<'w> Input<'w> {
-    // The first of the words after a name, if there is one.
+    /// The input of a word. `None` for a flag.
+    pub fn named(word: &'w String) -> Option<Self>
+        ensures { option_map file_seen result ≡ input_named (string_bytes word.now) }
+    {
+        if is_flag(word.as_bytes()) {
+            None
+        } else {
+            Some(Input {
+                file: source_in(Some(word)),
+            })
+        }
+    }
+
+    // That of the first of the words after a name.
     fn of(matched: &Matched<'w>) -> Self
-        ensures { file_seen result ≡ slice_get (matched_seen matched.now).rest 0 }
+        ensures { file_seen result ≡ source_in (slice_get (matched_seen matched.now).rest 0) }
     {
         Input {
-            file: matched.rest.first(),
+            file: source_in(matched.rest.first()),
         }
     }
 }
@@ -52,7 +65,7 @@ pub fn match_words<'w>(
     most: usize,
     words: &'w [String],
 ) -> Result<Option<Matched<'w>>, NoMemory>
-    requires { has_dash (map string_bytes words.now) ≡ false }
+    requires { has_flag (map string_bytes words.now) ≡ false }
     ensures { IfOk result (λ matched. option_map matched_seen matched ≡ matched_in (map name_seen names.now) most (map string_bytes words.now)) }
 {
     match command(alloc, program, names, most)?.try_get_matches_from(words) {
@@ -62,7 +75,7 @@ pub fn match_words<'w>(
     }
 }
 
-/// The input of at most one word, which is a file and does not begin with `-`. `None` for other words. The only error is out of memory.
+/// The input of at most one word, which is no flag. `None` for other words. The only error is out of memory.
 pub fn match_file<'w>(
     alloc: Global,
     program: &'static str,
@@ -70,7 +83,7 @@ pub fn match_file<'w>(
 ) -> Result<Option<Input<'w>>, NoMemory>
     ensures { IfOk result (λ input. option_map file_seen input ≡ file_in (map string_bytes words.now)) }
 {
-    if has_dash(words) {
+    if has_flag(words) {
         return Ok(None);
     }
     let matched = match_words(alloc, program, &[], 1, words)?;
@@ -80,11 +93,28 @@ pub fn match_file<'w>(
     }
 }
 
-/// One of the words begins with `-`.
-pub fn has_dash(words: &[String]) -> bool
-    ensures { result ≡ list_any (λ word. begins_with_dash (string_bytes word)) words.now }
+/// The file that a word names. `None` for standard input, which is `-` or no word.
+pub fn source_in<'w>(word: Option<&'w String>) -> Option<&'w String>
+    ensures { option_map (λ name. string_bytes name.now) result ≡ source_in (option_map (λ name. string_bytes name.now) word.entry) }
 {
-    words.iter().any(|word| begins_with_dash(word.as_bytes()))
+    match word {
+        Some(name) if name.as_str() == "-" => None,
+        _ => word,
+    }
+}
+
+/// One of the words is a flag.
+pub fn has_flag(words: &[String]) -> bool
+    ensures { result ≡ list_any (λ word. is_flag (string_bytes word)) words.now }
+{
+    words.iter().any(|word| is_flag(word.as_bytes()))
+}
+
+/// The word is a flag: `-` with more after it.
+pub fn is_flag(word: &[u8]) -> bool
+    ensures { result ≡ is_flag word.now }
+{
+    matches!(word, [b'-', _, ..])
 }
 
 /// The word begins with `-`.

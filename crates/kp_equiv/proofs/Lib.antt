@@ -1,3 +1,7 @@
+pub mod Zipped
+pub mod Wired
+pub mod BitValues
+pub mod Terms
 pub mod Exactness
 pub mod Growing
 pub mod Naming

@@ -1,5 +1,6 @@
 -- Equivalent nodes have equal words, if both netlists have the same sources by name.
-use Rattle.std.proofs.Common.{◌≡◌, ◌∙◌, ℕ, zero, suc, ◌==◌, ◌<◌, true, false, List, [], ◌∷◌, length, map, get_or, refl, sym, ap, arith, ⊎_elim}
+use Rattle.std.proofs.Common.{◌≡◌, ◌∙◌, ℕ, zero, suc, ◌+◌, ◌*◌, ◌%◌, ◌^◌, ◌==◌, ◌<◌, Bool, true, false, cond, List, [], ◌∷◌, length, map, get_or, refl, sym, ap, arith, ⊎_elim}
+use Rattle.std.specs.{Int.bit_at, List.AllZip}
 use Rattle.std.proofs.lemmas.Bool.{false≢true}
 use Rattle.kp_bits.specs.Word as bits
 use Rattle.kp_bits.specs.{Word.word, Word.not_of, Word.mux_of, Word.slice_of, Operators.is_shift, Operators.commutes, Operators.binary_of, Operators.joined_of, declared.operator.BinOp.BinOp}
@@ -9,15 +10,17 @@ use Rattle.kp_net.specs.declared.node.Kind.TheVariants.{Const, Ext, Sample, Reg,
 use Rattle.kp_net.specs.{declared.node.Node.Node, Netlist.Net}
 use Rattle.kp_net.specs.{Nodes.Cells, Nodes.Words, Nodes.word_of_kind, Nodes.word_of_node, Nodes.word_at, Nodes.at, Nodes.on, Parts.NetOk, Parts.CellOk}
 use Rattle.kp_net.{specs.Widths.KindOk, specs.Widths.wide, specs.Widths.no_node, proofs.Values.word_there, proofs.Values.word_wide}
-use Rattle.kp_equiv.specs.Alike.{Relation, AllRelated, PairRelated, KindAlike, Alike, AlikeWithin}
-use Rattle.kp_equiv.specs.inner.Meaning.{SameCells}
+use Rattle.kp_equiv.specs.Alike.{Relation, PairRelated, KindAlike, NodeAlike, BitAlike, Alike, AlikeWithin}
+use Rattle.kp_equiv.specs.declared.bit.Bit.{Bit, TheVariants.Fixed, TheVariants.Of}
+use Rattle.kp_equiv.specs.{Wiring.bits_of, inner.Meaning.SameCells}
+use Rattle.kp_equiv.proofs.{Wired.IsBelow, Wired.bits_below, BitValues.value, BitValues.bit_value, BitValues.bits_value, Zipped.Each}
 
 no_shift : (op : BinOp) → commutes op ≡ true → is_shift op ≡ false
 no_shift BinOp.Shl c = absurd (false≢true c)
 no_shift BinOp.Shr c = absurd (false≢true c)
 no_shift _ c = refl
 
-parts_alike : (R : Relation) (v w : Words) → ((x y : NodeId) → R x y → v x.0 ≡ w y.0) → (xs ys : List NodeId) → AllRelated R xs ys → map (λ x. v x.0) xs ≡ map (λ y. w y.0) ys
+parts_alike : (R : Relation) (v w : Words) → ((x y : NodeId) → R x y → v x.0 ≡ w y.0) → (xs ys : List NodeId) → AllZip R xs ys → map (λ x. v x.0) xs ≡ map (λ y. w y.0) ys
 parts_alike R v w joins [] [] h = refl
 parts_alike R v w joins (x ∷ xs) (y ∷ ys) h = let p = joins x y h.0 in let q = parts_alike R v w joins xs ys h.1 in λ i. p i ∷ q i
 parts_alike R v w joins _ _ h = absurd h
@@ -48,24 +51,50 @@ module _ (R : Relation) (a b : Net) (c d : Cells) (cells : SameCells a b c d) (m
   kinds_alike l o p ok s t h = absurd h
 
 module _ (a b : Net) (oka : NetOk a) (okb : NetOk b) (c d : Cells) (cells : SameCells a b c d) where
+  -- nodes with the same operation have the same words, and so their bits are the same
+  module _ (R : Relation) (joins : (x y : NodeId) → R x y → word_at c a.nodes x.0 ≡ word_at d b.nodes y.0) where
+    nodes_same : (i j : NodeId) → i.0 < length a.nodes → j.0 < length b.nodes → NodeAlike R a b (get_or a.nodes i.0 no_node) (get_or b.nodes j.0 no_node) → word_at c a.nodes i.0 ≡ word_at d b.nodes j.0
+    nodes_same i j li lj h =
+        let x : Node = get_or a.nodes i.0 no_node in
+        let y : Node = get_or b.nodes j.0 no_node in
+        let ox = oka.right i.0 li in
+        let oy = okb.right j.0 lj in
+        let k : word_of_kind c (word_at c a.nodes) x.width x.kind ≡ word_of_kind d (word_at d b.nodes) x.width y.kind
+        = kinds_alike R a b c d cells i.0 x.width (word_at c a.nodes) (word_at d b.nodes) joins (λ z l. word_wide c a.nodes z.0 (omega (arith, l, li)))
+        y.width x.kind y.kind ox.kind (oka.parts.cells i.0 li) (okb.parts.cells j.0 lj) h.1 in
+        word_there c a.nodes i.0 li ox
+        ∙ ap (λ (z : bits.Word). word x.width (z.value % 2 ^ x.width)) k
+        ∙ ap (λ (r : ℕ). word_of_node d (word_at d b.nodes) (record { width = r; kind = y.kind })) h.0
+        ∙ sym (word_there d b.nodes j.0 lj oy)
+
+    bits_same : (m n : ℕ) → m < length a.nodes → n < length b.nodes → (x y : Bit) → IsBelow (suc m) x → IsBelow (suc n) y → BitAlike R a b x y → bit_value c a.nodes x ≡ bit_value d b.nodes y
+    bits_same m n lm ln (Fixed x) (Fixed y) p q h = ap (λ (t : Bool). cond t 1 0) h
+    bits_same m n lm ln (Of i k) (Of j l) p q h =
+        let w = nodes_same i j (omega (arith, p, lm)) (omega (arith, q, ln)) h.1 in let e = h.0 in
+        λ t. bit_at (w t).value (e t)
+    bits_same m n lm ln (Fixed x) (Of j l) p q h = absurd h
+    bits_same m n lm ln (Of i k) (Fixed y) p q h = absurd h
+
+    lists_same : (m n : ℕ) → m < length a.nodes → n < length b.nodes → (xs ys : List Bit) → Each (IsBelow (suc m)) xs → Each (IsBelow (suc n)) ys → AllZip (BitAlike R a b) xs ys
+        → value (bit_value c a.nodes) xs ≡ value (bit_value d b.nodes) ys
+    lists_same m n lm ln [] [] p q h = refl
+    lists_same m n lm ln (x ∷ xs) (y ∷ ys) p q h =
+        let e = bits_same m n lm ln x y p.0 q.0 h.0 in let f = lists_same m n lm ln xs ys p.1 q.1 h.1 in
+        λ t. e t + 2 * f t
+    lists_same m n lm ln _ _ p q h = absurd h
+
   within : (n : ℕ) (i j : NodeId) → AlikeWithin a b n i j → word_at c a.nodes i.0 ≡ word_at d b.nodes j.0
   unfolding AlikeWithin
   within zero i j h = absurd h
   within (suc n) i j h =
-      let x : Node = get_or a.nodes i.0 no_node in
-      let y : Node = get_or b.nodes j.0 no_node in
       let li : i.0 < length a.nodes = h.0 in
       let lj : j.0 < length b.nodes = h.1 in
-      let e = h.2.0 in
-      let ox = oka.right i.0 li in
-      let oy = okb.right j.0 lj in
-      let k : word_of_kind c (word_at c a.nodes) x.width x.kind ≡ word_of_kind d (word_at d b.nodes) x.width y.kind
-      = kinds_alike (AlikeWithin a b n) a b c d cells i.0 x.width (word_at c a.nodes) (word_at d b.nodes) (within n) (λ z l. word_wide c a.nodes z.0 (omega arith))
-      y.width x.kind y.kind ox.kind (oka.parts.cells i.0 li) (okb.parts.cells j.0 lj) h.2.1 in
-      word_there c a.nodes i.0 li ox
-      ∙ ap (λ (z : bits.Word). word x.width (z.value % 2 ^ x.width)) k
-      ∙ ap (λ (r : ℕ). word_of_node d (word_at d b.nodes) (record { width = r; kind = y.kind })) e
-      ∙ sym (word_there d b.nodes j.0 lj oy)
+      let w : (word_at c a.nodes i.0).width ≡ (word_at d b.nodes j.0).width = word_wide c a.nodes i.0 li ∙ h.2 ∙ sym (word_wide d b.nodes j.0 lj) in
+      let v : (word_at c a.nodes i.0).value ≡ (word_at d b.nodes j.0).value
+      = sym (bits_value c a.nodes oka.right i li)
+      ∙ lists_same (AlikeWithin a b n) (within n) i.0 j.0 li lj (bits_of a.nodes i) (bits_of b.nodes j) (bits_below a.nodes oka.right i li) (bits_below b.nodes okb.right j lj) h.3
+      ∙ bits_value d b.nodes okb.right j lj in
+      λ t. word (w t) (v t)
 
   pub alike_words : (i j : NodeId) → Alike a b i j → word_at c a.nodes i.0 ≡ word_at d b.nodes j.0
   alike_words i j h = within h.levels i j h.alike

@@ -2,11 +2,12 @@
 use Rattle.std.proofs.Common.{◌≡◌, ◌∙◌, ◌⊎◌, ℕ, ◌<◌, min, max, Bool, true, false, List, [], ◌∷◌, map, refl, sym, ap, subst, arith, ⊎_elim, inl, inr, All}
 use Rattle.std.proofs.lemmas.{Bool.cases_eq, List.Elements.All-head, List.Elements.All-tail}
 use Rattle.kp_bits.specs.declared.operator.BinOp.{BinOp}
+use Rattle.std.specs.List.{AllZip}
 use Rattle.kp_net.specs.declared.node.{NodeId.NodeId, Kind.Kind}
 use Rattle.kp_net.specs.declared.node.Kind.TheVariants.{Const, Ext, Sample, Reg, Word, Not, Binary, Mux, Concat, Slice}
 use Rattle.kp_net.specs.{Netlist.Net, Parts.CellOk, Widths.KindOk}
 use Rattle.kp_bits.specs.Operators.{commutes}
-use Rattle.kp_equiv.specs.{Alike.Relation, Alike.AllRelated, Alike.PairRelated, Alike.KindAlike, Classes.place}
+use Rattle.kp_equiv.specs.{Alike.Relation, Alike.PairRelated, Alike.KindAlike, Classes.place}
 use Rattle.kp_equiv.specs.inner.Shapes.{Known, known_of, least, greatest, first_of_pair, second_of_pair, shape_kind}
 use Rattle.kp_equiv.proofs.{Places.registers, Places.memories, Places.ports, Places.one_name, Determined.id_is}
 
@@ -45,7 +46,7 @@ pair_from R m n i j op x y u v links lx ly lu lv = by (commutes op) refl
         (λ (h : (m x ≡ n v) × (m y ≡ n u)). inr (is, links x v lx lv h.0, links y u ly lu h.1))
         (ordered (m x) (m y) (n u) (n v) e f)
 
-all_from : (R : Relation) (m n : NodeId → NodeId) (i j : ℕ) (xs ys : List NodeId) → Links R m n i j → All (λ x. x.0 < i) xs → All (λ y. y.0 < j) ys → map m xs ≡ map n ys → AllRelated R xs ys
+all_from : (R : Relation) (m n : NodeId → NodeId) (i j : ℕ) (xs ys : List NodeId) → Links R m n i j → All (λ x. x.0 < i) xs → All (λ y. y.0 < j) ys → map m xs ≡ map n ys → AllZip R xs ys
 all_from R m n i j [] [] links p q e = tt
 all_from R m n i j (x ∷ xs) (y ∷ ys) links p q e = (
   links x y (All-head (λ k. k.0 < i) x xs p) (All-head (λ k. k.0 < j) y ys q) cc,
@@ -90,7 +91,7 @@ pair_to R m n op x y u v joins = ⊎_elim
     let B : greatest (m x) (m y) ≡ greatest (n u) (n v) = cc in
     subst P (sym h.0) (A, B))
 
-all_to : (R : Relation) (m n : NodeId → NodeId) (xs ys : List NodeId) → Joins R m n → AllRelated R xs ys → map m xs ≡ map n ys
+all_to : (R : Relation) (m n : NodeId → NodeId) (xs ys : List NodeId) → Joins R m n → AllZip R xs ys → map m xs ≡ map n ys
 all_to R m n [] [] joins h = refl
 all_to R m n (x ∷ xs) (y ∷ ys) joins h = let e = joins x y h.0 in let f = all_to R m n xs ys joins h.1 in cc
 all_to R m n _ _ joins h = absurd h

@@ -160,7 +160,7 @@ one_width a b i j h = by h.levels h.alike
   where
     by : (d : ℕ) → AlikeWithin a b d i j → wide a.nodes i.0 ≡ wide b.nodes j.0
     by zero k = absurd k
-    by (suc d) k = k.2.0
+    by (suc d) k = k.2
 
 pub twins : (a b : Net) → NetOk a → NetOk b → IsComparable a b → AllAgree a b → Twins a b
 twins a b oka okb fit all =

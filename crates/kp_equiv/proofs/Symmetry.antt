@@ -1,6 +1,8 @@
 -- A netlist agrees with itself, and agreement is symmetric.
 use Rattle.std.proofs.Common.{◌≡◌, ◌∙◌, ℕ, zero, suc, ◌<◌, true, inl, inr, List, [], ◌∷◌, length, get_or, Option, None, Some, refl, sym, subst, arith}
-use Rattle.std.{proofs.lemmas.List.Elements.All-get_or, specs.Prelude.All}
+use Rattle.std.{proofs.lemmas.List.Elements.All-get_or, specs.Prelude.All, specs.List.AllZip}
+use Rattle.kp_equiv.specs.declared.bit.Bit.{Bit, TheVariants.Fixed, TheVariants.Of}
+use Rattle.kp_equiv.{specs.Wiring.bits_of, proofs.Wired.IsBelow, proofs.Wired.bits_below, proofs.Zipped.zip_itself, proofs.Zipped.zip_turned}
 use Rattle.kp_bits.specs.declared.operator.BinOp.{BinOp}
 use Rattle.kp_net.specs.declared.node.{NodeId.NodeId, Kind.Kind}
 use Rattle.kp_net.specs.declared.node.Kind.TheVariants.{Const, Ext, Sample, Reg, Word, Not, Binary, Mux, Concat, Slice}
@@ -8,7 +10,7 @@ use Rattle.kp_net.specs.declared.{node.Node.Node, netlist.NetReg.NetReg, netlist
 use Rattle.kp_net.specs.{Names.among, Netlist.Net, Parts.NetOk, Parts.RegOk, Parts.FileOk, Parts.WriteOk, Parts.no_reg, Parts.no_file}
 use Rattle.kp_net.specs.Widths.{KindOk, AllRight, no_node}
 use Rattle.kp_equiv.specs.Agreement.{Register, File, Full, Ue, Back, names_of_second, RegsAlike, WritesAlike, FilesAlike, PortsAgree, RegisterAgrees, FileAgrees, AllAgree}
-use Rattle.kp_equiv.specs.Alike.{Relation, AllRelated, PairRelated, KindAlike, Alike, AlikeWithin, reg_name, file_name}
+use Rattle.kp_equiv.specs.Alike.{Relation, PairRelated, KindAlike, BitAlike, Alike, AlikeWithin, reg_name, file_name}
 use Rattle.kp_equiv.{specs.Named.reg_names, specs.Sections.AgreeUpTo, specs.Verdicts.IsComparable, proofs.NamedAlike.among_at}
 use Rattle.kp_equiv.proofs.Ordered.{all_behind, agree_more, all_agree as every, roots_all, none_of_second, second_agrees}
 use Rattle.kp_equiv.proofs.Places.{registers, memories, reg_names_are, reg_count}
@@ -17,7 +19,7 @@ use Rattle.kp_equiv.proofs.Running.{Agreed, agreed, regs_alike, files_alike, the
 -- ---- the tree of a node is equivalent to itself
 
 module _ (a : Net) (R : Relation) (m : ℕ) (same : (x : NodeId) → x.0 < m → R x x) where
-  list_refl : (xs : List NodeId) → All (λ (x : NodeId). x.0 < m) xs → AllRelated R xs xs
+  list_refl : (xs : List NodeId) → All (λ (x : NodeId). x.0 < m) xs → AllZip R xs xs
   list_refl [] h = tt
   list_refl (x ∷ xs) h = (same x (h 0 x (omega arith)), list_refl xs (λ i d l. h (suc i) d (omega (arith, l))))
 
@@ -33,13 +35,18 @@ module _ (a : Net) (R : Relation) (m : ℕ) (same : (x : NodeId) → x.0 < m →
   kind_refl k (Concat xs) ok = list_refl xs ok.2
   kind_refl k (Slice x h l) ok = (same x ok.0, refl, refl)
 
+bit_refl : (a : Net) (R : Relation) → AllRight a.nodes → (m : ℕ) → m < length a.nodes → ((x : NodeId) → x.0 < length a.nodes → x.0 < m → R x x) → (x : Bit) → IsBelow (suc m) x → BitAlike R a a x x
+bit_refl a R right m l same (Fixed x) p = refl
+bit_refl a R right m l same (Of j k) p =
+    let n : Node = get_or a.nodes j.0 no_node in
+    (refl, (refl, kind_refl a R j.0 (λ x b. same x (omega (arith, b, p, l)) (omega (arith, b, p))) n.width n.kind (right j.0 (omega (arith, p, l))).kind))
+
 -- its operands precede a node
 within_refl : (a : Net) → AllRight a.nodes → (d : ℕ) (i : NodeId) → i.0 < length a.nodes → i.0 < d → AlikeWithin a a d i i
 unfolding AlikeWithin
 within_refl a right zero i l h = absurd (omega (arith, h))
 within_refl a right (suc d) i l h =
-    let n : Node = get_or a.nodes i.0 no_node in
-    (l, l, (refl, kind_refl a (AlikeWithin a a d) i.0 (λ x b. within_refl a right d x (omega (arith, b, l)) (omega (arith, b, h))) n.width n.kind (right i.0 l).kind))
+    (l, l, refl, zip_itself (IsBelow (suc i.0)) (BitAlike (AlikeWithin a a d) a a) (bits_of a.nodes i) (bit_refl a (AlikeWithin a a d) right i.0 l (λ x b m. within_refl a right d x b (omega (arith, m, h)))) (bits_below a.nodes right i l))
 
 alike_refl : (a : Net) → NetOk a → (i : NodeId) → i.0 < length a.nodes → Alike a a i i
 alike_refl a ok i l = record { levels = suc i.0; alike = within_refl a ok.right (suc i.0) i l (omega arith) }
@@ -47,11 +54,6 @@ alike_refl a ok i l = record { levels = suc i.0; alike = within_refl a ok.right 
 -- ---- equivalence is symmetric
 
 module _ (a b : Net) (R S : Relation) (turn : (x y : NodeId) → R x y → S y x) where
-  list_sym : (xs ys : List NodeId) → AllRelated R xs ys → AllRelated S ys xs
-  list_sym [] [] h = tt
-  list_sym (x ∷ xs) (y ∷ ys) h = (turn x y h.0, list_sym xs ys h.1)
-  list_sym _ _ h = absurd h
-
   pair_sym : (op : BinOp) (x y u v : NodeId) → PairRelated R op x y u v → PairRelated S op u v x y
   pair_sym op x y u v (inl (p, q)) = inl (turn x u p, turn y v q)
   pair_sym op x y u v (inr (c, p, q)) = inr (c, turn y u q, turn x v p)
@@ -65,14 +67,20 @@ module _ (a b : Net) (R S : Relation) (turn : (x y : NodeId) → R x y → S y x
   kind_sym (Not x) (Not y) h = turn x y h
   kind_sym (Binary op x y) (Binary o u v) h = (sym h.0, subst (λ (q : BinOp). PairRelated S q u v x y) h.0 (pair_sym op x y u v h.1))
   kind_sym (Mux t x y) (Mux s u v) h = (turn t s h.0, turn x u h.1, turn y v h.2)
-  kind_sym (Concat xs) (Concat ys) h = list_sym xs ys h
+  kind_sym (Concat xs) (Concat ys) h = zip_turned R S xs ys turn h
   kind_sym (Slice x hi lo) (Slice y g o) h = (turn x y h.0, sym h.1, sym h.2)
   kind_sym o p h = absurd h
+
+bit_sym : (a b : Net) (R S : Relation) → ((x y : NodeId) → R x y → S y x) → (x y : Bit) → BitAlike R a b x y → BitAlike S b a y x
+bit_sym a b R S turn (Fixed x) (Fixed y) p = sym p
+bit_sym a b R S turn (Of u k) (Of v l) p = (sym p.0, (sym p.1.0, kind_sym a b R S turn (get_or a.nodes u.0 no_node).kind (get_or b.nodes v.0 no_node).kind p.1.1))
+bit_sym a b R S turn (Fixed x) (Of v l) p = absurd p
+bit_sym a b R S turn (Of u k) (Fixed y) p = absurd p
 
 within_sym : (a b : Net) (d : ℕ) (i j : NodeId) → AlikeWithin a b d i j → AlikeWithin b a d j i
 unfolding AlikeWithin
 within_sym a b zero i j h = absurd h
-within_sym a b (suc d) i j h = (h.1, h.0, (sym h.2.0, kind_sym a b (AlikeWithin a b d) (AlikeWithin b a d) (within_sym a b d) (get_or a.nodes i.0 no_node).kind (get_or b.nodes j.0 no_node).kind h.2.1))
+within_sym a b (suc d) i j h = (h.1, h.0, sym h.2, zip_turned (BitAlike (AlikeWithin a b d) a b) (BitAlike (AlikeWithin b a d) b a) (bits_of a.nodes i) (bits_of b.nodes j) (bit_sym a b (AlikeWithin a b d) (AlikeWithin b a d) (within_sym a b d)) h.3)
 
 alike_sym : (a b : Net) (i j : NodeId) → Alike a b i j → Alike b a j i
 alike_sym a b i j h = record { levels = h.levels; alike = within_sym a b h.levels i j h.alike }

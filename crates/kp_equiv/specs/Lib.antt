@@ -1,3 +1,4 @@
+pub mod Wiring
 pub mod Alike
 pub mod Classes
 pub mod Named

@@ -1,13 +1,16 @@
 // The classes of the nodes of two netlists.
-ghost use Rattle.std.specs.Prelude.{◌≡◌, ◌≤◌, [], length, IfOk};
+ghost use Rattle.std.specs.Prelude.{◌≡◌, ◌≤◌, [], List, length, IfOk};
 ghost use Rattle.kp_net.specs.Parts.{NetOk};
 ghost use Rattle.kp_equiv.specs.Classes.{Determines};
 ghost use Rattle.kp_equiv.specs.Named.{HasNames};
+ghost use Rattle.kp_equiv.specs.declared.bit.Bit.{Bit};
 ghost use Rattle.kp_equiv.specs.inner.Shapes.{known_of, AreFew, IsTable, Grown};
 
 use crate::classes::Classes;
 use crate::known::Known;
 use crate::table::Table;
+use crate::term::Term;
+use crate::wires::Wires;
 use kp_base::NoMemory;
 use kp_net::{Netlist, NodeId};
 use std::alloc::Global;
@@ -34,7 +37,7 @@ fn classes_by(alloc: Global, known: &Known, a: &Netlist, b: &Netlist) -> Result<
     classes_in(alloc, known, a, b, &mut table)
 }
 
-// The same, given an empty table of shapes.
+// The same, given an empty table.
 fn classes_in(
     alloc: Global,
     known: &Known,
@@ -52,7 +55,7 @@ fn classes_in(
     Ok(Classes { first, second })
 }
 
-// The classes of the nodes of one netlist, by the shapes in the table.
+// The classes of the nodes of one netlist, by the terms in the table.
 fn classes_of_net(
     alloc: Global,
     known: &Known,
@@ -60,16 +63,21 @@ fn classes_of_net(
     table: &mut Table,
 ) -> Result<Vec<NodeId>, NoMemory>
     requires few { AreFew known.now }
-    requires room { length table.old ≤ 16777216 }
+    requires room { length table.old ≤ 33554432 }
     requires table { IsTable table.old }
     ensures right { IfOk result (λ _. NetOk net.now) }
-    ensures classes { IfOk result (λ v. Grown known.now net.now table.old table.new v.items (length net.now.nodes)) }
+    ensures classes { IfOk result (λ v. (ws : List (List Bit)) × Grown known.now net.now table.old table.new v.items ws (length net.now.nodes)) }
 {
     let mut classes = Vec::new(alloc);
+    let mut wires = Vec::new(alloc);
     for n in net.nodes() {
         let shape = known.shape(alloc, net, classes.as_slice(), n);
-        let class = table.number(shape)?;
+        let number = table.number(Term::Operation(shape))?;
+        let bits = Wires::of_node(alloc, wires.as_slice(), number, n)?;
+        let key = bits.copied(alloc)?;
+        let class = table.number(Term::Bits(key))?;
         classes.push(class)?;
+        wires.push(bits)?;
     }
     Ok(classes)
 }

@@ -29,6 +29,8 @@ button { font: inherit; min-width: 3em }
 #diagram svg { display: block }
 .band { fill: #ffe98a; stroke: #111; stroke-width: 2 }
 .chosen text { font-weight: bold; text-decoration: underline }
+.axis { pointer-events: none }
+.axis text { paint-order: stroke; stroke: #fff; stroke-width: 8px; stroke-linejoin: round }
 .tables { display: flex; gap: 32px; align-items: flex-start; overflow: auto; border-top: 1px solid #767676; padding: 8px }
 table { border-collapse: collapse }
 th, td { padding: 1px 16px 1px 0; text-align: left; font-weight: normal; white-space: nowrap; border-bottom: 1px solid #ddd }
@@ -116,12 +118,14 @@ for (const line of recorded('states')) {
 }
 const last = cycles.length - 1;
 
-// All names that are listed, file by file and address by address.
+// All names that are listed: registers, files that change, and the others, address by address.
 const fileOf = name => name.split('[')[0];
 const addressOf = name => Number((name.split('[')[1] || '0').split(']')[0]);
 const names = [...new Set(cycles.flat().map(([name]) => name))];
 const files = [...new Set(names.map(fileOf))];
-names.sort((a, b) => files.indexOf(fileOf(a)) - files.indexOf(fileOf(b)) || addressOf(a) - addressOf(b));
+const changing = new Set(cycles.slice(1).flat().map(([name]) => fileOf(name)));
+const rank = name => name.includes('[') ? changing.has(fileOf(name)) ? 1 : 2 : 0;
+names.sort((a, b) => rank(a) - rank(b) || files.indexOf(fileOf(a)) - files.indexOf(fileOf(b)) || addressOf(a) - addressOf(b));
 
 // The reads of the table of paths: their lines and stages, and what older instructions have for them.
 const reads = [];
@@ -132,7 +136,8 @@ for (const line of recorded('paths')) {
 const lines = byId('source').querySelectorAll('li');
 
 // The cells of the diagram, by cycle.
-const svg = document.querySelector('#diagram svg');
+const diagram = byId('diagram');
+const svg = diagram.querySelector('svg');
 const columns = svg.querySelector(':scope > g');
 const cells = cycles.map(() => []);
 for (const title of svg.querySelectorAll('g > title')) {
@@ -145,6 +150,21 @@ for (const title of svg.querySelectorAll('g > title')) {
 }
 const band = svg.querySelector('#c1 rect').cloneNode();
 band.setAttribute('class', 'band');
+// The numbers of cycles and instructions again, in front of the cells: they stay at the edges where the diagram is scrolled.
+function axis(groups) {
+  const all = svg.appendChild(document.createElementNS(svg.namespaceURI, 'g'));
+  all.setAttribute('class', 'axis');
+  for (const group of groups) all.appendChild(group.cloneNode(false)).append(group.querySelector('text').cloneNode(true));
+  return all;
+}
+const top_axis = axis(columns.children);
+const left_axis = axis(new Set(cells.flat().map(({ cell }) => cell.parentNode)));
+diagram.onscroll = () => {
+  top_axis.setAttribute('transform', 'translate(100,' + (66 + Math.max(0, diagram.scrollTop - 50)) + ')');
+  left_axis.setAttribute('transform', 'translate(' + diagram.scrollLeft + ')');
+};
+diagram.onscroll();
+
 const does = ['moves on', 'waits for a value', 'waits for the stage ahead', 'is held from outside', 'is squashed'];
 
 // A row of a table. The first of its entries is its head.
@@ -236,10 +256,14 @@ function show(cycle) {
   for (const column of svg.querySelectorAll('.chosen')) column.removeAttribute('class');
   band.remove();
   if (chosen < last) {
-    columns.children[chosen].setAttribute('class', 'chosen');
+    for (const numbers of [columns, top_axis]) numbers.children[chosen].setAttribute('class', 'chosen');
     columns.children[chosen].prepend(band);
   }
-  for (const { cell } of [...cells[chosen]].reverse()) cell.scrollIntoView({ block: 'nearest', inline: 'nearest' });
+  const middle = cells[chosen][cells[chosen].length >> 1];
+  if (middle) {
+    const at = middle.cell.getBoundingClientRect(), edge = diagram.getBoundingClientRect();
+    diagram.scrollBy(at.left - edge.left - edge.width / 2, at.top - edge.top - edge.height / 2);
+  }
 }
 
 byId('name').textContent = document.title;

@@ -10,11 +10,15 @@ use Rattle.kp_until.specs.{Parts.part_of, Untils.until_of, Expected.Script, Expe
 use Rattle.kp_until.specs.declared.{part.Part.Part, part.PartFault.PartFault, until.Until.Until, until.Until.TheVariants.Halt, until.UntilFault.UntilFault, expected.LineFault.LineFault, expected.LineRule.LineRule}
 use Rattle.kp_until.specs.declared.expected.LineRule.TheVariants.{Form}
 use Rattle.kp_runner.specs.Words.{Settings}
+use Rattle.kp_runner.specs.declared.answer.{File.File as code}
 
 -- a file: its name and its text
 pub record File : Type 0 where
   pub name : Text
   pub text : List ℕ
+
+abbrev pub file_seen : code → File
+file_seen f = record { name = f.name.items; text = f.text.items }
 
 abbrev pub named : Text → List ℕ → File
 named name text = record { name = name; text = text }

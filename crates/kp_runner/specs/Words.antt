@@ -3,7 +3,7 @@ use Rattle.std.specs.Prelude.{ℕ, Bool, true, false, ◌||◌, ◌==◌, nat_le
 use Rattle.std.specs.declared.alloc.Global.{Global}
 use Rattle.std.specs.{Borrow.Bor, List.list_any, Option.option_map_or, Str.bytes_eq}
 use Rattle.kp_bits.specs.Literals.{number_of}
-use Rattle.kp_command_line.specs.Words.{Text, begins_with_dash, file_in}
+use Rattle.kp_command_line.specs.Words.{Text, file_in}
 use Rattle.kp_runner.specs.declared.request.{Request.Request, Settings.Settings as code}
 use Rattle.kp_runner.specs.declared.request.Request.TheVariants as requests
 
@@ -55,13 +55,8 @@ with_option s word value =
     else (if bytes_eq word (codes "--only") then Some (record s { only = Some value })
     else (if bytes_eq word (codes "--expect") then Some (record s { expect = s.expect ++ value ∷ [] }) else None)))
 
--- `-` is standard input
-abbrev pub input_in : List Text → Option (Option Text)
-input_in (word ∷ []) = if bytes_eq word (codes "-") then Some None else file_in (word ∷ [])
-input_in words = file_in words
-
 abbrev pub with_input : Settings → List Text → Asked
-with_input s words = option_map_or (run s) (input_in words) bad_words
+with_input s words = option_map_or (run s) (file_in words) bad_words
 
 -- what is asked for by these words after options
 abbrev pub asked_with : (Settings → List Text → Asked) → Option Settings → List Text → Asked

@@ -4,8 +4,8 @@ ghost use Rattle.kp_base.specs.Lines.{IsWithin, piece_of};
 ghost use Rattle.kp_directive.specs.Directives.{directives_of, AreWithin};
 ghost use Rattle.kp_until.specs.{Expected.IsCheck, Expected.script_of, Parts.IsPart, Untils.IsUntil};
 ghost use Rattle.kp_runner.specs.Words.{settings_seen, text_of};
-ghost use Rattle.kp_runner.specs.Reading.{line_after, lines_after, own_script, parts_from, parts_read, reading_of as specified_of, script_after, scripts_from, spaced, untils_read};
-ghost use Rattle.kp_runner.specs.inner.Reading.{file_seen, own_seen, reading_seen, IsOf, Reads};
+ghost use Rattle.kp_runner.specs.Reading.{file_seen, line_after, lines_after, own_script, parts_from, parts_read, reading_of as specified_of, script_after, scripts_from, spaced, untils_read};
+ghost use Rattle.kp_runner.specs.inner.Reading.{own_seen, reading_seen, IsOf, Reads};
 
 use crate::answer::{File, Own};
 use crate::message::{expect_message, line_message, misdirected, only_message, until_message};

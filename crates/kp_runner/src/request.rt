@@ -2,11 +2,11 @@
 ghost use Rattle.std.specs.Prelude.{◌≡◌, map, string_bytes, option_map, true, IfOk, Some, None, if◌then◌else◌};
 ghost use Rattle.std.specs.List.{list_any};
 ghost use Rattle.kp_command_line.specs.Words.{file_seen};
-ghost use Rattle.kp_runner.specs.Words.{asked, asked_for, first_settings, input_in, limit_of, is_help, is_version, options_from, settings_seen, with_input, with_option, words_asked};
+ghost use Rattle.kp_runner.specs.Words.{asked, asked_for, first_settings, limit_of, is_help, is_version, options_from, settings_seen, with_input, with_option, words_asked};
 
 use kp_base::NoMemory;
 use kp_bits::read_number;
-use kp_command_line::{Input, match_file};
+use kp_command_line::match_file;
 use std::alloc::Global;
 
 /// The greatest limit.
@@ -99,7 +99,7 @@ impl<'w> Request<'w> {
     fn of_file(alloc: Global, settings: Settings<'w>, words: &'w [String]) -> Result<Self, NoMemory>
         ensures { IfOk result (λ request. asked request ≡ with_input (settings_seen settings.entry) (map string_bytes words.now)) }
     {
-        match input_of(alloc, words)? {
+        match match_file(alloc, "kprun", words)? {
             Some(input) => Ok(Request::Run(settings, input.file)),
             None => Ok(Request::BadWords),
         }
@@ -158,18 +158,6 @@ fn limit_of(word: &[u8]) -> Option<u32>
     } else {
         None
     }
-}
-
-// At most one word, which is a file, or `-` for standard input.
-fn input_of<'w>(alloc: Global, words: &'w [String]) -> Result<Option<Input<'w>>, NoMemory>
-    ensures { IfOk result (λ input. option_map file_seen input ≡ input_in (map string_bytes words.now)) }
-{
-    if let [word] = words {
-        if word.as_str() == "-" {
-            return Ok(Some(Input { file: None }));
-        }
-    }
-    match_file(alloc, "kprun", words)
 }
 
 // One of the words asks for help.

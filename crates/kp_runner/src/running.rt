@@ -3,12 +3,12 @@ ghost use Rattle.std.specs.Prelude.{◌≡◌, ◌<◌, ◌≤◌, ◌^◌, ◌+
 ghost use Rattle.kp_directive.specs.Directives.{directives_of};
 ghost use Rattle.kp_seq.specs.Running.{state};
 ghost use Rattle.kp_until.specs.{Expected.IsCheck, Expected.script_of};
-ghost use Rattle.kp_until_run.specs.inner.Ends.{end_of};
+ghost use Rattle.kp_until_run.specs.Missed.{end_of};
 ghost use Rattle.kp_runner.specs.Words.{settings_seen, text_of};
 ghost use Rattle.kp_runner.specs.Texts.{end_line, end_name, end_status, state_text, verdict_text};
-ghost use Rattle.kp_runner.specs.Reading.{reading_of as specified_of};
+ghost use Rattle.kp_runner.specs.Reading.{file_seen, reading_of as specified_of};
 ghost use Rattle.kp_runner.specs.Due.{lines_of, DueOfReading, FirstMissed, IsEnd, IsFinal};
-ghost use Rattle.kp_runner.specs.inner.{Reading.file_seen, Reading.own_seen, Reading.reading_seen, Reading.IsOf, Saying.IsOfJob};
+ghost use Rattle.kp_runner.specs.inner.{Reading.own_seen, Reading.reading_seen, Reading.IsOf, Saying.IsOfJob};
 
 use crate::answer::{Answer, File, Own};
 use crate::reading::{Reading, reading_of};
@@ -82,12 +82,12 @@ fn end_text(
     missed: &Option<Missed>,
 ) -> Result<Vec<u8>, NoMemory>
     requires first { first.now.job ≡ layout.now }
-    requires last { ended.now.machine.job ≡ layout.now }
+    requires last { ended.now.contents.job ≡ layout.now }
     requires few { ended.now.retired < 2 ^ 32 }
     requires fit { IsOf layout.now reading.now }
     requires missed { IfSome missed.now (IsOfJob layout.now) }
     ensures { IfOk result (λ text. text.items ≡ end_line (end_name (settings_seen settings.now).until ended.now.which) ended.now.retired ended.now.cycles
-        ++ ((if settings.now.quiet then [] else state_text layout.now (state first.now) (state ended.now.machine) (reading_seen reading.now).only)
+        ++ ((if settings.now.quiet then [] else state_text layout.now (state first.now) (state ended.now.contents) (reading_seen reading.now).only)
         ++ verdict_text layout.now (lines_of (reading_seen reading.now).scripts) ended.now.retired ended.now.cycles missed.now)) }
 {
     let lines = lines_of(reading.scripts.as_slice())?;
@@ -95,7 +95,7 @@ fn end_text(
     let mut text = Vec::new(alloc);
     put_end(&mut text, name, ended.retired, ended.cycles)?;
     if !settings.quiet {
-        put_state(&mut text, layout, first, &ended.machine, &reading.only)?;
+        put_state(&mut text, layout, first, &ended.contents, &reading.only)?;
     }
     put_verdict(
         &mut text,
@@ -120,15 +120,15 @@ fn lines_of(scripts: &[Expected]) -> Result<usize, NoMemory>
 
 // The first expectation that isn't met.
 fn missed_in(layout: &Layout<'_>, ended: &Ended<'_>, scripts: &[Expected]) -> Option<Missed>
-    requires job { ended.now.machine.job ≡ layout.now }
+    requires job { ended.now.contents.job ≡ layout.now }
     requires scripts { All (λ e. All (IsCheck layout.now) e.checks.items) scripts.now }
-    ensures first { FirstMissed layout.now (map script_of scripts.now) (end_of ended.now.machine ended.now.retired ended.now.cycles) result }
+    ensures first { FirstMissed layout.now (map script_of scripts.now) (end_of ended.now.contents ended.now.retired ended.now.cycles) result }
     ensures of_job { IfSome result (IsOfJob layout.now) }
 {
     match scripts {
         [script, rest @ ..] => {
             let checks = script.checks.as_slice();
-            let missed = first_missed(layout, &ended.machine, ended.retired, ended.cycles, checks);
+            let missed = first_missed(layout, &ended.contents, ended.retired, ended.cycles, checks);
             if missed.is_some() {
                 return missed;
             }

@@ -15,6 +15,7 @@ use kp_design::Layout;
 use kp_report::targets_in;
 use kp_seq::SeqMachine;
 use kp_until::{Index, Part};
+use kp_until_run::Contents;
 
 /// Which words of a file are printed.
 #[derive(Clone, Copy)]
@@ -24,12 +25,12 @@ enum Keep {
     Changed,
 }
 
-/// Appends the state of a machine: the parts that are chosen, or what differs from the state of the first machine.
+/// Appends the state at the end of a run: the parts that are chosen, or what differs from the state of a machine at the start.
 pub(crate) fn put_state(
     out: &mut Vec<u8>,
     layout: &Layout<'_>,
     first: &SeqMachine<'_>,
-    last: &SeqMachine<'_>,
+    last: &Contents<'_>,
     only: &Option<Vec<Part>>,
 ) -> Result<(), NoMemory>
     requires first { first.now.job ≡ layout.now }
@@ -48,7 +49,7 @@ fn put_target(
     out: &mut Vec<u8>,
     layout: &Layout<'_>,
     first: &SeqMachine<'_>,
-    last: &SeqMachine<'_>,
+    last: &Contents<'_>,
     only: &Option<Vec<Part>>,
     t: u32,
 ) -> Result<(), NoMemory>
@@ -69,7 +70,7 @@ fn put_changed(
     out: &mut Vec<u8>,
     layout: &Layout<'_>,
     first: &SeqMachine<'_>,
-    last: &SeqMachine<'_>,
+    last: &Contents<'_>,
     t: u32,
 ) -> Result<(), NoMemory>
     requires first { first.now.job ≡ layout.now }
@@ -90,7 +91,7 @@ fn put_parts(
     out: &mut Vec<u8>,
     layout: &Layout<'_>,
     first: &SeqMachine<'_>,
-    last: &SeqMachine<'_>,
+    last: &Contents<'_>,
     t: u32,
     parts: &[Part],
 ) -> Result<(), NoMemory>
@@ -111,7 +112,7 @@ fn put_part(
     out: &mut Vec<u8>,
     layout: &Layout<'_>,
     first: &SeqMachine<'_>,
-    last: &SeqMachine<'_>,
+    last: &Contents<'_>,
     t: u32,
     part: Part,
 ) -> Result<(), NoMemory>
@@ -139,7 +140,7 @@ fn put_part(
 fn put_register(
     out: &mut Vec<u8>,
     layout: &Layout<'_>,
-    last: &SeqMachine<'_>,
+    last: &Contents<'_>,
     t: u32,
 ) -> Result<(), NoMemory>
     requires last { last.now.job ≡ layout.now }
@@ -159,7 +160,7 @@ fn put_words(
     layout: &Layout<'_>,
     keep: Keep,
     first: &SeqMachine<'_>,
-    last: &SeqMachine<'_>,
+    last: &Contents<'_>,
     t: u32,
     from: u32,
     count: u32,
@@ -181,7 +182,7 @@ fn put_kept(
     layout: &Layout<'_>,
     keep: Keep,
     first: &SeqMachine<'_>,
-    last: &SeqMachine<'_>,
+    last: &Contents<'_>,
     t: u32,
     a: u32,
 ) -> Result<(), NoMemory>

@@ -5,9 +5,8 @@ ghost use Rattle.kp_frontend.specs.Judging.{most_bytes, JudgesText};
 ghost use Rattle.kp_lex.specs.{Text.HasOutcome, declared.token.Lexed.Lexed};
 ghost use Rattle.kp_view_texts.specs.Heads.{rule_head};
 ghost use Rattle.kp_runner.specs.Words.{asked, reads_input, run, settings_seen, text_of};
-ghost use Rattle.kp_runner.specs.Reading.{named};
+ghost use Rattle.kp_runner.specs.Reading.{file_seen, named};
 ghost use Rattle.kp_runner.specs.Due.{file_name, BeginsWith, DueOfJob, DueOfText, IsDue, IsFinal, Prints, PrintsPart};
-ghost use Rattle.kp_runner.specs.inner.Reading.{file_seen};
 ghost use Rattle.kp_runner.specs.declared.top.Stop.TheVariants as stop;
 
 use crate::answer::{Answer, File, Own};

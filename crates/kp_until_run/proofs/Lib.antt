@@ -1,4 +1,8 @@
-pub mod Trails
+pub mod Histories
 pub mod Reaching
-pub mod Hunting
+pub mod Showing
+pub mod Pasts
+pub mod Opening
+pub mod Races
+pub mod Words
 pub mod Endings

@@ -1,6 +1,6 @@
 -- WHERE A RUN ENDS: the run of the pipelined machine of a job under its own stall words and samples, and the first condition that holds of the sequential
 -- machine after the instructions that have retired.
-use Rattle.std.specs.Prelude.{◌≡◌, ◌≢◌, ℕ, ◌+◌, ◌-◌, ◌<◌, ◌≤◌, List, length, get_or, Option, Some, None}
+use Rattle.std.specs.Prelude.{◌≡◌, ℕ, ◌+◌, ◌-◌, ◌<◌, ◌≤◌, List, length, get_or, Option, Some, None}
 use Rattle.kp_ast.specs.declared.tree.Job.{Job}
 use Rattle.kp_pipeline.specs.Rows.{Row, passed, taken}
 use Rattle.kp_machine.specs.Machine.{machine_of, inputs_from, pipe_of, sequential}

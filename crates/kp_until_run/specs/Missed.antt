@@ -4,10 +4,15 @@ use Rattle.std.specs.List.{list_any}
 use Rattle.kp_bits.specs.Word.{word}
 use Rattle.kp_ast.specs.declared.tree.Job.{Job}
 use Rattle.kp_machine.specs.Words.{HasWord, target}
+use Rattle.kp_seq.specs.Running.{Running, state}
 use Rattle.kp_until.specs.Expected.{End, Meets, names}
-use Rattle.kp_until.specs.declared.expected.{Bound.Bound, Check.Check}
+use Rattle.kp_until.specs.declared.expected.{Check.Check}
 use Rattle.kp_until.specs.declared.expected.Check.TheVariants as checks
 use Rattle.kp_until_run.specs.declared.missed.Missed.{Missed, TheVariants.Word, TheVariants.Retired, TheVariants.Cycles}
+
+-- the end of a run, by a machine in the state there
+abbrev pub end_of : Running → ℕ → ℕ → End
+end_of m retired cycles = record { state = state m; retired = retired; cycles = cycles }
 
 abbrev pub no_check : Check
 no_check = checks.Retired (record { most = false; number = 0 })

@@ -1,3 +1,5 @@
 -- For private contracts and proofs only: a reader need not trust it.
-pub mod Hunting
-pub mod Ends
+pub mod Histories
+pub mod Pasts
+pub mod Races
+pub mod Contents

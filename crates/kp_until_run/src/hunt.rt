@@ -1,143 +1,147 @@
-// The first condition that holds of the sequential machine.
-ghost use Rattle.std.specs.Prelude.{◌≡◌, ℕ, length, All, IfOk, MatchOption};
-ghost use Rattle.kp_machine.specs.Machine.{sequential};
-ghost use Rattle.kp_stage.specs.Start.{AreSamples};
-ghost use Rattle.kp_run.specs.Columns.{row_taken};
-ghost use Rattle.kp_until.specs.Untils.{Holds, IsUntil};
-ghost use Rattle.kp_until_run.specs.Ending.{CountsFor};
-ghost use Rattle.kp_until_run.specs.inner.Hunting.{given, Follows, IsFoundAt, IsSearched, NoneAt};
+// The first condition that holds.
+ghost use Rattle.std.specs.Prelude.{◌≡◌, ◌+◌, ◌-◌, ◌<◌, ◌≤◌, ℕ, true, false, length, get_or, All, MatchOption};
+ghost use Rattle.kp_machine.specs.{Slots.targets_of, Words.HasWord};
+ghost use Rattle.kp_until.specs.Untils.{AreSame, Holds, IsUntil, Repeats};
+ghost use Rattle.kp_until_run.specs.Ending.{retired_in, states_in};
+ghost use Rattle.kp_until_run.specs.inner.Pasts.{words_after, AreHistories, AreNear, CountsBack, IsFoundAt, NoneAt};
 
-use crate::trail::Trail;
-use kp_base::NoMemory;
+use crate::history::History;
 use kp_bits::Bits;
-use kp_design::Layout;
 use kp_frontend::Accepted;
-use kp_run::Column;
-use kp_seq::SeqMachine;
 use kp_until::Until;
-use std::alloc::Global;
 
-/// The first condition that holds: its number, the number of instructions after which it does, and the number that is counted for it.
+/// How many instructions back a state is compared with the present one, at most.
+const BACK: u64 = 4;
+
+/// A condition that holds: its number, and how many instructions fewer are counted for it.
 #[derive(Clone, Copy)]
 pub(crate) struct Found {
     pub which: usize,
-    pub seen: u64,
-    pub count: u64,
+    pub back: u64,
 }
 
-/// The machine where a condition holds, and which one; or a machine, and none.
-#[derive(Drop)]
-pub(crate) struct Hunt<'a> {
-    pub machine: SeqMachine<'a>,
-    pub found: Option<Found>,
-}
-
-/// The first condition that holds after up to `most` instructions, which read these sample values. The only error is out of memory.
-pub(crate) fn search<'a>(
-    alloc: Global,
-    job: &'a Accepted,
-    layout: &Layout<'_>,
-    columns: &[Column],
+/// The first condition that holds after the instructions that have retired in `_cycle` cycles of a run over `_limit` cycles.
+pub(crate) fn found_at(
+    _job: &Accepted,
+    histories: &[History],
     untils: &[Until],
-    most: u32,
-) -> Result<Hunt<'a>, NoMemory>
-    requires layout { layout.now ≡ job.now.design.job }
-    requires columns { length columns.now ≡ length job.now.sections.inputs }
-    requires samples { (i : ℕ) → AreSamples layout.now.decls (row_taken columns.now i) }
-    requires untils { All (IsUntil layout.now) untils.now }
-    ensures { IfOk result (λ h. IsSearched layout.now (given columns.now) untils.now most h.machine h.found) }
-{
-    let mut trail = Trail::open(alloc, job, layout)?;
-    let mut samples = job.sections.inputs.row(alloc, 0)?;
-    let room = samples.as_mut_slice();
-    for steps in 0..u64::from(most) {
-        let found = found_at(&mut trail, layout, columns, room, untils, steps);
-        match found {
-            Some(found) => return Ok(hunted(trail, Some(found))),
-            None => {}
-        }
-        trail.step(layout, columns, room, steps);
-    }
-    let found = found_at(&mut trail, layout, columns, room, untils, u64::from(most));
-    Ok(hunted(trail, found))
-}
-
-fn hunted<'a>(trail: Trail<'a>, found: Option<Found>) -> Hunt<'a>
-    ensures machine { result.machine ≡ trail.entry.lead }
-    ensures found { result.found ≡ found }
-{
-    let Trail {
-        lead,
-        lags,
-        ran: _,
-        recent: _,
-        present: _,
-    } = trail;
-    drop(lags);
-    Hunt {
-        machine: lead,
-        found,
-    }
-}
-
-// The first condition that holds here.
-fn found_at(
-    trail: &mut Trail<'_>,
-    layout: &Layout<'_>,
-    columns: &[Column],
-    room: &mut [Bits],
-    untils: &[Until],
-    steps: u64,
+    retired: u64,
+    _cycle: u32,
+    _limit: u32,
 ) -> Option<Found>
-    requires room { length room.old ≡ length columns.now }
-    requires samples { (i : ℕ) → AreSamples layout.now.decls (row_taken columns.now i) }
-    requires untils { All (IsUntil layout.now) untils.now }
-    requires follows { Follows layout.now (given columns.now) steps trail.old }
-    ensures room { length room.new ≡ length room.old }
-    ensures follows { Follows layout.now (given columns.now) steps trail.new }
-    ensures found { MatchOption result (NoneAt layout.now (sequential layout.now (given columns.now)) untils.now steps)
-        (IsFoundAt layout.now (sequential layout.now (given columns.now)) untils.now steps) }
+    requires untils { All (IsUntil _job.now.design.job) untils.now }
+    requires retired { retired ≡ retired_in _job.now.design.job _cycle }
+    requires near { AreNear _job.now.design.job _limit _cycle }
+    requires histories { AreHistories _job.now.design.job _limit _cycle histories.now }
+    ensures { MatchOption result (NoneAt _job.now.design.job (states_in _job.now.design.job _limit) untils.now retired)
+        (IsFoundAt _job.now.design.job (states_in _job.now.design.job _limit) untils.now retired) }
 {
     for which in 0..untils.len() {
-        if let Some(count) = count_at(trail, layout, columns, room, untils[which], steps) {
-            return Some(Found {
-                which,
-                seen: steps,
-                count,
-            });
+        if let Some(back) = back_at(_job, histories, untils[which], retired, _cycle, _limit) {
+            return Some(Found { which, back });
         }
     }
     None
 }
 
-// The number that is counted for a condition, if it holds here.
-fn count_at(
-    trail: &mut Trail<'_>,
-    layout: &Layout<'_>,
-    columns: &[Column],
-    room: &mut [Bits],
+// How many instructions fewer are counted for a condition, if it holds.
+fn back_at(
+    _job: &Accepted,
+    histories: &[History],
     until: Until,
-    steps: u64,
+    retired: u64,
+    _cycle: u32,
+    _limit: u32,
 ) -> Option<u64>
-    requires room { length room.old ≡ length columns.now }
-    requires samples { (i : ℕ) → AreSamples layout.now.decls (row_taken columns.now i) }
-    requires until { IsUntil layout.now until }
-    requires follows { Follows layout.now (given columns.now) steps trail.old }
-    ensures room { length room.new ≡ length room.old }
-    ensures follows { Follows layout.now (given columns.now) steps trail.new }
-    ensures found { MatchOption result (Holds layout.now (sequential layout.now (given columns.now)) steps until → ⊥)
-        (λ count. Holds layout.now (sequential layout.now (given columns.now)) steps until
-        × CountsFor layout.now (sequential layout.now (given columns.now)) until steps count) }
+    requires until { IsUntil _job.now.design.job until }
+    requires retired { retired ≡ retired_in _job.now.design.job _cycle }
+    requires near { AreNear _job.now.design.job _limit _cycle }
+    requires histories { AreHistories _job.now.design.job _limit _cycle histories.now }
+    ensures { MatchOption result (Holds _job.now.design.job (states_in _job.now.design.job _limit) retired until → ⊥)
+        (λ back. Holds _job.now.design.job (states_in _job.now.design.job _limit) retired until
+        × CountsBack _job.now.design.job (states_in _job.now.design.job _limit) until retired back) }
 {
     match until {
-        Until::Halt => {
-            let back = trail.repeats(layout, columns, room, steps)?;
-            Some(steps - back)
-        }
-        Until::Retired(n) => if n <= steps { Some(steps) } else { None },
+        Until::Halt => repeats(_job, histories, retired, _cycle, _limit),
+        Until::Retired(n) => if n <= retired { Some(0) } else { None },
         Until::Word(t, a, equal, value) => {
-            let same = trail.lead.value(t, a).value() == value.value();
-            if same == equal { Some(steps) } else { None }
+            let found = word_at(_job, histories, t, a, retired, _cycle, _limit);
+            if (found.value() == value.value()) == equal {
+                Some(0)
+            } else {
+                None
+            }
         }
     }
+}
+
+// The least number of instructions back at which the state is the present one.
+fn repeats(
+    _job: &Accepted,
+    histories: &[History],
+    retired: u64,
+    _cycle: u32,
+    _limit: u32,
+) -> Option<u64>
+    requires retired { retired ≡ retired_in _job.now.design.job _cycle }
+    requires near { AreNear _job.now.design.job _limit _cycle }
+    requires histories { AreHistories _job.now.design.job _limit _cycle histories.now }
+    ensures { MatchOption result ((p : ℕ) → Repeats _job.now.design.job (states_in _job.now.design.job _limit) retired p → ⊥)
+        (λ p. Repeats _job.now.design.job (states_in _job.now.design.job _limit) retired p) }
+{
+    for back in 1..BACK + 1 {
+        if back > retired {
+            return None;
+        }
+        if is_same(_job, histories, back, retired, _cycle, _limit) {
+            return Some(back);
+        }
+    }
+    None
+}
+
+// Whether the state is the one of so many instructions back.
+fn is_same(
+    _job: &Accepted,
+    histories: &[History],
+    back: u64,
+    retired: u64,
+    _cycle: u32,
+    _limit: u32,
+) -> bool
+    requires few { back ≤ 4 }
+    requires there { back ≤ retired }
+    requires retired { retired ≡ retired_in _job.now.design.job _cycle }
+    requires near { AreNear _job.now.design.job _limit _cycle }
+    requires histories { AreHistories _job.now.design.job _limit _cycle histories.now }
+    ensures yes { result ≡ true → AreSame _job.now.design.job (states_in _job.now.design.job _limit (retired - back)) (states_in _job.now.design.job _limit retired) }
+    ensures no { result ≡ false → AreSame _job.now.design.job (states_in _job.now.design.job _limit (retired - back)) (states_in _job.now.design.job _limit retired) → ⊥ }
+{
+    for t in 0..histories.len() {
+        let same = histories[t].is_same(retired - back, retired);
+        if !same {
+            return false;
+        }
+    }
+    true
+}
+
+/// The word of a target at an address after `count` instructions, which are at most four fewer than have retired.
+pub(crate) fn word_at(
+    _job: &Accepted,
+    histories: &[History],
+    t: u32,
+    a: u32,
+    count: u64,
+    _cycle: u32,
+    _limit: u32,
+) -> Bits
+    requires there { HasWord _job.now.design.job t a }
+    requires few { count ≤ retired_in _job.now.design.job _cycle }
+    requires many { retired_in _job.now.design.job _cycle ≤ count + 4 }
+    requires near { AreNear _job.now.design.job _limit _cycle }
+    requires histories { AreHistories _job.now.design.job _limit _cycle histories.now }
+    ensures { result ≡ words_after _job.now.design.job _limit t count a }
+{
+    histories[t as usize].word_after(count, a)
 }

@@ -7,12 +7,11 @@ ghost use Rattle.kp_until.specs.Expected.{IsBounded, IsCheck, Meets, names};
 ghost use Rattle.kp_until.specs.declared.expected.Check.TheVariants as checks;
 ghost use Rattle.kp_bits.specs.Word.{word};
 ghost use Rattle.kp_until_run.specs.declared.missed.Missed.TheVariants as missed;
-ghost use Rattle.kp_until_run.specs.Missed.{AreMet, IsMissed, IsSaid};
-ghost use Rattle.kp_until_run.specs.inner.Ends.{end_of};
+ghost use Rattle.kp_until_run.specs.Missed.{end_of, AreMet, IsMissed, IsSaid};
 
+use crate::contents::Contents;
 use kp_bits::Bits;
 use kp_design::Layout;
-use kp_seq::SeqMachine;
 use kp_until::{Bound, Check};
 
 /// What is said of a check that isn't met.
@@ -26,20 +25,20 @@ pub enum Missed {
     Cycles(Bound),
 }
 
-/// The first of the checks that isn't met at the end of a run: by a machine in the state there, after this many instructions and cycles.
+/// The first of the checks that isn't met at the end of a run: in this state, after this many instructions and cycles.
 pub fn first_missed(
     layout: &Layout<'_>,
-    machine: &SeqMachine<'_>,
+    contents: &Contents<'_>,
     retired: u64,
     cycles: u32,
     all: &[Check],
 ) -> Option<Missed>
-    requires job { machine.now.job ≡ layout.now }
+    requires job { contents.now.job ≡ layout.now }
     requires fit { All (IsCheck layout.now) all.now }
-    ensures { MatchOption result (AreMet layout.now all.now (end_of machine.now retired cycles)) (IsMissed layout.now all.now (end_of machine.now retired cycles)) }
+    ensures { MatchOption result (AreMet layout.now all.now (end_of contents.now retired cycles)) (IsMissed layout.now all.now (end_of contents.now retired cycles)) }
 {
     for k in 0..all.len() {
-        if let Some(missed) = missed_at(layout, machine, retired, cycles, all, all[k]) {
+        if let Some(missed) = missed_at(layout, contents, retired, cycles, all, all[k]) {
             return Some(missed);
         }
     }
@@ -49,20 +48,20 @@ pub fn first_missed(
 // What is said of a check, if it isn't met.
 fn missed_at(
     layout: &Layout<'_>,
-    machine: &SeqMachine<'_>,
+    contents: &Contents<'_>,
     retired: u64,
     cycles: u32,
     all: &[Check],
     check: Check,
 ) -> Option<Missed>
-    requires job { machine.now.job ≡ layout.now }
+    requires job { contents.now.job ≡ layout.now }
     requires fit { IsCheck layout.now check }
-    ensures { MatchOption result (Meets layout.now all.now (end_of machine.now retired cycles) check)
-        (λ m. (Meets layout.now all.now (end_of machine.now retired cycles) check → ⊥) × IsSaid layout.now all.now (end_of machine.now retired cycles) check m) }
+    ensures { MatchOption result (Meets layout.now all.now (end_of contents.now retired cycles) check)
+        (λ m. (Meets layout.now all.now (end_of contents.now retired cycles) check → ⊥) × IsSaid layout.now all.now (end_of contents.now retired cycles) check m) }
 {
     match check {
-        Check::Word(t, a, expected) => word_missed(layout, machine, t, a, expected),
-        Check::Others(t, expected) => others_missed(layout, machine, all, t, expected),
+        Check::Word(t, a, expected) => word_missed(layout, contents, t, a, expected),
+        Check::Others(t, expected) => others_missed(layout, contents, all, t, expected),
         Check::Retired(bound) => {
             if is_within(bound, retired) {
                 None
@@ -94,17 +93,17 @@ fn is_within(bound: Bound, n: u64) -> bool
 // A word that has another value than this one.
 fn word_missed(
     layout: &Layout<'_>,
-    machine: &SeqMachine<'_>,
+    contents: &Contents<'_>,
     t: u32,
     a: u32,
     expected: Bits,
 ) -> Option<Missed>
-    requires job { machine.now.job ≡ layout.now }
+    requires job { contents.now.job ≡ layout.now }
     requires there { HasWord layout.now t a }
-    ensures { MatchOption result (state machine.now t a ≡ expected.value)
-        (λ m. (state machine.now t a ≡ expected.value → ⊥) × (m ≡ missed.Word t a (word (target layout.now t).width (state machine.now t a)) expected)) }
+    ensures { MatchOption result (state contents.now t a ≡ expected.value)
+        (λ m. (state contents.now t a ≡ expected.value → ⊥) × (m ≡ missed.Word t a (word (target layout.now t).width (state contents.now t a)) expected)) }
 {
-    let found = machine.value(t, a);
+    let found = contents.value(t, a);
     if found.value() == expected.value() {
         return None;
     }
@@ -114,23 +113,23 @@ fn word_missed(
 // The first word of a target that no check names and that has another value than this one.
 fn others_missed(
     layout: &Layout<'_>,
-    machine: &SeqMachine<'_>,
+    contents: &Contents<'_>,
     all: &[Check],
     t: u32,
     expected: Bits,
 ) -> Option<Missed>
-    requires job { machine.now.job ≡ layout.now }
+    requires job { contents.now.job ≡ layout.now }
     requires target { t < length (targets_of layout.now.decls) }
-    ensures { (retired cycles : ℕ) → MatchOption result (Meets layout.now all.now (end_of machine.now retired cycles) (checks.Others t expected))
-        (λ m. (Meets layout.now all.now (end_of machine.now retired cycles) (checks.Others t expected) → ⊥)
-        × IsSaid layout.now all.now (end_of machine.now retired cycles) (checks.Others t expected) m) }
+    ensures { (retired cycles : ℕ) → MatchOption result (Meets layout.now all.now (end_of contents.now retired cycles) (checks.Others t expected))
+        (λ m. (Meets layout.now all.now (end_of contents.now retired cycles) (checks.Others t expected) → ⊥)
+        × IsSaid layout.now all.now (end_of contents.now retired cycles) (checks.Others t expected) m) }
 {
     let words = 1u32 << layout.address(t);
     for a in 0..words {
         if is_named(all, t, a) {
             continue;
         }
-        if let Some(missed) = word_missed(layout, machine, t, a, expected) {
+        if let Some(missed) = word_missed(layout, contents, t, a, expected) {
             return Some(missed);
         }
     }

@@ -1,7 +1,7 @@
 -- The words of `explain`.
 use Rattle.std.specs.Prelude.{ℕ, Bool, true, false, ◌||◌, List, [], ◌∷◌, codes, if◌then◌else◌, Option, Some, None, is_some, option_and_then, option_map, slice_get, string_bytes}
 use Rattle.std.specs.Str.{bytes_eq}
-use Rattle.kp_command_line.specs.Words.{Matched, Name, file_in, has_dash, matched_in}
+use Rattle.kp_command_line.specs.Words.{Matched, Name, file_in, has_flag, matched_in, source_in}
 use Rattle.kp_view_explain.specs.declared.words.{Order.Order, Subject.Subject}
 use Rattle.kp_view_explain.specs.declared.words.Subject.TheVariants as subjects
 
@@ -29,11 +29,11 @@ subject_in None = Some subjects.Job
 subject_in (Some name) = subject_of name
 
 abbrev pub order_matched : Matched → Option Asked
-order_matched matched = option_map (λ subject. record { subject = subject; strict = false; file = slice_get matched.rest 0 }) (subject_in matched.name)
+order_matched matched = option_map (λ subject. record { subject = subject; strict = false; file = source_in (slice_get matched.rest 0) }) (subject_in matched.name)
 
 -- such a word, or nothing, and at most a file
 abbrev pub with_subject : List (List ℕ) → Option Asked
-with_subject words = if has_dash words then None else option_and_then order_matched (matched_in subject_names 1 words)
+with_subject words = if has_flag words then None else option_and_then order_matched (matched_in subject_names 1 words)
 
 -- `--werror` and at most a file, or the same without it
 abbrev pub with_words : List (List ℕ) → Option Asked

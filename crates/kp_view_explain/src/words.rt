@@ -4,7 +4,7 @@ ghost use Rattle.kp_command_line.specs.Words.{matched_seen};
 ghost use Rattle.kp_view_explain.specs.Words.{asks_help, help_follows, is_help, order_matched, order_of, order_seen, subject_in, subject_of, with_subject, with_words};
 
 use kp_base::NoMemory;
-use kp_command_line::{Matched, has_dash, match_file, match_words};
+use kp_command_line::{Matched, has_flag, match_file, match_words, source_in};
 use std::alloc::Global;
 
 /// The help of `explain`.
@@ -15,8 +15,8 @@ rests on, and what helps. It is written to standard error.
 usage: kpview explain [--werror] [FILE]
        kpview explain read|watch|asm|debug [FILE]
 
-  FILE      the input; without it, standard input is read. Write ./read for a
-            file named read
+  FILE      the input; without it, or with -, standard input is read. Write
+            ./read for a file named read
   --werror  warnings count as errors
 
 The input is a job, or that of a command of kp:
@@ -123,7 +123,7 @@ impl<'w> Order<'w> {
     fn with_subject(alloc: Global, words: &'w [String]) -> Result<Option<Self>, NoMemory>
         ensures { IfOk result (λ order. option_map order_seen order ≡ with_subject (map string_bytes words.now)) }
     {
-        if has_dash(words) {
+        if has_flag(words) {
             return Ok(None);
         }
         let matched = match_words(alloc, "kpview", SUBJECTS.as_slice(), 1, words)?;
@@ -140,7 +140,7 @@ impl<'w> Order<'w> {
         Some(Order {
             subject,
             strict: false,
-            file: matched.rest.first(),
+            file: source_in(matched.rest.first()),
         })
     }
 }

@@ -63,7 +63,8 @@ impl<'t> ReadingFault<'t> {
             ReadingFault::NoToken(_) => "no word of the language begins with {}",
             ReadingFault::LongName(_) =>
                 "a name has at most 64 letters, digits and `_`; this has {}",
-            ReadingFault::NoNumber => "neither a number below 2^64 nor a literal such as `8'h1f`",
+            ReadingFault::NoNumber =>
+                "neither a decimal number below 2^64 nor a literal with its width, such as `12'h105`",
             ReadingFault::Unexpected { .. } => "expected ",
             ReadingFault::AfterEnd => "expected the end of the text after `end`",
             ReadingFault::TooDeep =>

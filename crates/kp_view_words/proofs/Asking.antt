@@ -1,7 +1,7 @@
 -- What words ask for, by the tests on them.
 use Rattle.std.proofs.Common.{◌≡◌, ◌∙◌, ℕ, Bool, true, false, cond, ◌||◌, List, map, Option, refl, ap}
 use Rattle.std.specs.{List.list_any, Option.option_map_or, Prelude.slice_get}
-use Rattle.kp_command_line.{specs.Words.Text, specs.Words.begins_with_dash, proofs.Parses.any_text}
+use Rattle.kp_command_line.{specs.Words.Text, specs.Words.is_flag, proofs.Parses.any_text}
 use Rattle.kp_view_words.specs.Words.{Asked, Task, asked_for, asked_or, asks_help, flagged_task, help, help_place, is_help_flag, is_help_word, is_version_flag, task_named, task_of, topic_of, version}
 
 module _ {X : Type 0} (text : X → Text) (words : List X) where
@@ -29,11 +29,11 @@ module _ {X : Type 0} (text : X → Text) (words : List X) where
   abbrev task_by : Bool → Option Task
   task_by b = cond b (flagged_task all) (task_named all)
 
-  pub with_dash : (task : Option Task) → true ≡ list_any (λ word. begins_with_dash (text word)) words → task ≡ flagged_task all → task ≡ task_of all
-  with_dash task is flagged = flagged ∙ ap task_by (tested begins_with_dash true is)
+  pub with_dash : (task : Option Task) → true ≡ list_any (λ word. is_flag (text word)) words → task ≡ flagged_task all → task ≡ task_of all
+  with_dash task is flagged = flagged ∙ ap task_by (tested is_flag true is)
 
-  pub without_dash : false ≡ list_any (λ word. begins_with_dash (text word)) words → task_named all ≡ task_of all
-  without_dash is = ap task_by (tested begins_with_dash false is)
+  pub without_dash : false ≡ list_any (λ word. is_flag (text word)) words → task_named all ≡ task_of all
+  without_dash is = ap task_by (tested is_flag false is)
 
   -- the first word isn't `help`
   abbrev place_by : Bool → ℕ

@@ -1,3 +1,4 @@
 pub mod Asking
 pub mod Matching
+pub mod Parts
 pub mod Rests

@@ -1,9 +1,9 @@
 -- What the words of a command line ask for.
 use Rattle.std.specs.Prelude.{◌==◌, ◌||◌, ◌&&◌, ◌-◌, ◌+◌, not, ℕ, Bool, false, List, [], ◌∷◌, length, drop, take, leb, ltb, nat_le, nat_lt, slice_get, if◌then◌else◌, codes, Option, Some, None, option_and_then, option_map}
-use Rattle.std.specs.{List.list_all, List.list_any, Option.option_map_or, Str.bytes_eq}
+use Rattle.std.specs.{List.find, List.list_all, List.list_any, Option.option_map_or, Str.bytes_eq}
 use Rattle.kp_base.specs.Characters.{is_digit, is_word, run_length}
 use Rattle.kp_bits.specs.Literals.{number_of}
-use Rattle.kp_command_line.specs.Words.{Text, begins_with_dash, has_dash}
+use Rattle.kp_command_line.specs.Words.{Text, has_flag, input_named, source_in}
 use Rattle.kp_view_words.specs.declared.{task.Memories.Memories, words.Topic.Topic, words.Word.Word}
 use Rattle.kp_view_words.specs.declared.task.Memories.TheVariants.{Inside, Outside}
 use Rattle.kp_view_words.specs.declared.words.Topic.TheVariants as topics
@@ -212,17 +212,17 @@ abbrev pub flagged_task : List Text → Option Task
 flagged_task [] = None
 flagged_task (word ∷ []) = None
 flagged_task (word ∷ flag ∷ files) =
-    if has_dash files then None
+    if has_flag files then None
     else (if asks_picture word flag then with_file paths_svg files
     else (if asks_files word flag then depth_with files else None))
 
 abbrev pub task_of : List Text → Option Task
-task_of all = if has_dash all then flagged_task all else task_named all
+task_of all = if has_flag all then flagged_task all else task_named all
 
--- what is asked for
+-- what is asked for; the file `-` is standard input
 abbrev pub asked_or : Topic → Option Task → Asked
 asked_or topic None = bad_words topic
-asked_or topic (Some task) = show task
+asked_or topic (Some task) = show (record task { file = source_in task.file })
 
 abbrev pub asked_for : List Text → Asked
 asked_for all =
@@ -230,14 +230,19 @@ asked_for all =
     else (if list_any is_version_flag all then version
     else asked_or (topic_of all) (task_of all))
 
+-- whether names of stages follow the word and its N
+abbrev pub takes_names : Text → Bool
+takes_names word = bytes_eq word (codes "diagram") || (bytes_eq word (codes "svg") || bytes_eq word (codes "page"))
+
+-- the first word in the place of such a name that can't be one
+abbrev pub wrong_name : List Text → Option Text
+wrong_name (word ∷ number ∷ rest) = if takes_names word then find (λ name. not (is_name name)) (names_in rest) else None
+wrong_name _ = None
+
 -- THE TWO INPUTS of `same`; none is standard input.
 pub record Pair : Type 0 where
   pub first : Option Text
   pub second : Option Text
-
--- the input of a word: a file, or standard input for `-`
-abbrev pub input_named : Text → Option (Option Text)
-input_named word = if bytes_eq word (codes "-") then Some None else (if begins_with_dash word then None else Some (Some word))
 
 -- at most one of them is standard input
 abbrev pub pair_with : Option Text → Option Text → Option Pair

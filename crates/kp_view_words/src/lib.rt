@@ -4,11 +4,13 @@
 //! What it takes is in its variant of `Order`.
 #![tactic(auto)]
 
+mod misnamed;
 mod pair;
 mod task;
 mod texts;
 mod words;
 
+pub use misnamed::wrong_name;
 pub use pair::Pair;
 pub use task::{Cycles, Later, Memories, Order, Run, Task};
 pub use texts::{help_of, usage_of, version};

@@ -1,9 +1,9 @@
 // The words of `same`.
 ghost use Rattle.std.specs.Prelude.{◌≡◌, map, string_bytes, option_map};
 ghost use Rattle.kp_command_line.specs.Words.{file_seen};
-ghost use Rattle.kp_view_words.specs.{Asked.pair_seen, Words.input_named, Words.pair_of, Words.pair_with};
+ghost use Rattle.kp_view_words.specs.{Asked.pair_seen, Words.pair_of, Words.pair_with};
 
-use kp_command_line::{Input, begins_with_dash};
+use kp_command_line::Input;
 
 /// The two inputs that `same` compares, of which one may be standard input.
 #[derive(Clone, Copy)]
@@ -20,7 +20,7 @@ impl<'w> Pair<'w> {
         match words {
             [word, first, second] => {
                 if word.as_str() == "same" {
-                    Pair::with(input_named(first)?, input_named(second)?)
+                    Pair::with(Input::named(first)?, Input::named(second)?)
                 } else {
                     None
                 }
@@ -40,18 +40,5 @@ impl<'w> Pair<'w> {
                 None => None,
             },
         }
-    }
-}
-
-// The input of a word: a file, or standard input for `-`. No file begins with `-`.
-fn input_named(word: &String) -> Option<Input<'_>>
-    ensures { option_map file_seen result ≡ input_named (string_bytes word.now) }
-{
-    if word.as_str() == "-" {
-        Some(Input { file: None })
-    } else if begins_with_dash(word.as_bytes()) {
-        None
-    } else {
-        Some(Input { file: Some(word) })
     }
 }

@@ -2,14 +2,14 @@
 ghost use Rattle.std.specs.Prelude.{◌≡◌, ◌&&◌, ltb, leb, ◌≤◌, IfOk, IfSome, map, string_bytes, option_map, length, false};
 ghost use Rattle.std.specs.List.{list_any, list_all};
 ghost use Rattle.kp_view_words.specs.{Asked.asked, Asked.file_asked, Asked.order_seen, Asked.run_seen, Asked.task_seen, inner.Asking.run_asked, inner.Asking.span_seen, inner.Matching.task_matched};
-ghost use Rattle.kp_command_line.specs.Words.{has_dash, matched_seen};
+ghost use Rattle.kp_command_line.specs.Words.{has_flag, matched_seen};
 ghost use Rattle.kp_base.specs.Characters.{is_word};
 ghost use Rattle.kp_view_words.specs.Words.{asked_for, diagram_of, diagram_with, from_cycle, named, names_for, run_named, topic_of, topic_named, help_place, is_help_word, is_help_flag, is_version_flag, asks_help, task_of, task_named, task_with, stalls_with, with_file, flagged_task, asks_files, asks_picture, depth_with, run_in, run_with, span_after, span_between, span_of, word_named, count_of, names_in, file_in, is_file_after, is_name, is_path};
 
 use crate::task::{Cycles, Later, Memories, Order, Run, Span, Task};
 use kp_base::{NoMemory, is_digit, is_word, run_length};
 use kp_bits::read_number;
-use kp_command_line::{Matched, has_dash, match_words};
+use kp_command_line::{Matched, has_flag, match_words, source_in};
 use std::alloc::Global;
 
 /// The greatest number of cycles that are drawn.
@@ -85,7 +85,10 @@ impl<'w> Request<'w> {
         }
         let task = task_of(alloc, words)?;
         match task {
-            Some(task) => Ok(Request::Show(task)),
+            Some(task) => Ok(Request::Show(Task {
+                order: task.order,
+                file: source_in(task.file),
+            })),
             None => Ok(Request::BadWords(topic)),
         }
     }
@@ -239,16 +242,16 @@ fn asks_help(words: &[String]) -> bool
 fn task_of<'w>(alloc: Global, words: &'w [String]) -> Result<Option<Task<'w>>, NoMemory>
     ensures { IfOk result (λ task. option_map task_seen task ≡ task_of (map string_bytes words.now)) }
 {
-    if has_dash(words) {
+    if has_flag(words) {
         Ok(flagged_task(words))
     } else {
         task_named(alloc, words)
     }
 }
 
-// What words ask for none of which begins with `-`: a word, with at most 14 further words.
+// What words ask for none of which is a flag: a word, with at most 14 further words.
 fn task_named<'w>(alloc: Global, words: &'w [String]) -> Result<Option<Task<'w>>, NoMemory>
-    requires { has_dash (map string_bytes words.now) ≡ false }
+    requires { has_flag (map string_bytes words.now) ≡ false }
     ensures { IfOk result (λ task. option_map task_seen task ≡ task_named (map string_bytes words.now)) }
 {
     let matched = match_words(alloc, "kpview", WORDS.as_slice(), 0, words)?;
@@ -399,13 +402,13 @@ fn with_file<'w>(order: Order<'w>, rest: &'w [String]) -> Option<Task<'w>>
     })
 }
 
-// What words ask for one of which begins with `-`: `paths --svg` or `depth --files 0`, with at most a file.
+// What words ask for one of which is a flag: `paths --svg` or `depth --files 0`, with at most a file.
 fn flagged_task<'w>(words: &'w [String]) -> Option<Task<'w>>
     ensures { option_map task_seen result ≡ flagged_task (map string_bytes words.now) }
 {
     match words {
         [word, flag, files @ ..] => {
-            if has_dash(files) {
+            if has_flag(files) {
                 None
             } else if asks_picture(word.as_str(), flag.as_str()) {
                 with_file(Order::PathsSvg, files)
@@ -482,7 +485,7 @@ fn run_with<'w>(count: u32, rest: &'w [String]) -> Option<RunAsked<'w>>
 }
 
 // The names among the words after N.
-fn names_in(rest: &[String]) -> &[String]
+pub(crate) fn names_in(rest: &[String]) -> &[String]
     ensures { map string_bytes result.now ≡ names_in (map string_bytes rest.now) }
 {
     match rest.split_last() {
@@ -530,7 +533,7 @@ fn are_names(names: &[String]) -> bool
 }
 
 // The name of a stage.
-fn is_name(word: &str) -> bool
+pub(crate) fn is_name(word: &str) -> bool
     ensures { result ≡ is_name word.now }
 {
     has_name_length(word) && is_all_word(word.as_bytes())

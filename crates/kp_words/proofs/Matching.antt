@@ -3,7 +3,7 @@ use Rattle.std.proofs.Common.{◌≡◌, ◌∙◌, ◌⊎◌, ℕ, Bool, cond, 
 use Rattle.std.proofs.lemmas.{Bool.or_cases, Bool.or_parts, Bool.eqb-true, Bool.le-ltb, Slice.Eq.bytes_eq-Decides}
 use Rattle.std.specs.{Prelude.nat_lt, Prelude.nat_le, Prelude.option_and_then, Str.bytes_eq, List.list_any}
 use Rattle.kp_bits.specs.Literals.{number_of, number_within, numeral_value}
-use Rattle.kp_command_line.{specs.Words.Matched, specs.Words.Text, specs.Words.begins_with_dash, specs.Words.has_dash, specs.Words.matched_first, specs.Words.matched_in, specs.Words.most_after, proofs.Parses.named_or}
+use Rattle.kp_command_line.{specs.Words.Matched, specs.Words.Text, specs.Words.begins_with_dash, specs.Words.has_flag, specs.Words.matched_first, specs.Words.matched_in, specs.Words.most_after, proofs.Parses.named_or, proofs.Parses.no_flag}
 use Rattle.kp_words.specs.declared.commands.Command.TheVariants.{OnJob, Assemble, Read, Watch, Compare, Debug, Generate}
 use Rattle.kp_words.specs.declared.commands.JobCommand.TheVariants.{Seq, Check, Sim, Vcd, Timing, Pipe}
 use Rattle.kp_words.specs.Commands.{is_barred, at_most, command_of, count_of, seed_of, counted_command, plain_command, seeded_command}
@@ -68,11 +68,11 @@ matched (name ∷ rest) = go (command_named name rest)
 
 -- ---- the arguments that are rejected
 
-pub free : (words : List Text) → list_any is_barred words ≡ false → has_dash words ≡ false
+pub free : (words : List Text) → list_any is_barred words ≡ false → has_flag words ≡ false
 free [] h = refl
 free (word ∷ words) h =
     let both = or_parts (is_barred word) (list_any is_barred words) h in
-    rw ((or_parts (begins_with_dash word) (bytes_eq word (codes "help")) both.0).0) (free words both.1)
+    rw (no_flag word (or_parts (begins_with_dash word) (bytes_eq word (codes "help")) both.0).0) (free words both.1)
 
 -- a barred argument is no name
 not_name : (most : ℕ) (name : Text) (P : Type 0) → is_barred name ≡ true → P ⊎ IsName most name → P

@@ -4,11 +4,8 @@ use Rattle.std.specs.Prelude.{All, IfSome}
 use Rattle.kp_ast.specs.declared.tree.Job.{Job}
 use Rattle.kp_until.specs.{Expected.IsCheck, Expected.script_of, Parts.IsPart, Untils.IsUntil}
 use Rattle.kp_runner.specs.{Due.Complains, Reading.Complaint, Reading.File, Reading.Reading}
-use Rattle.kp_runner.specs.declared.{answer.File.File as file, answer.Own.Own, reading.Reading.Reading as code}
+use Rattle.kp_runner.specs.declared.{answer.Own.Own, reading.Reading.Reading as code}
 use Rattle.kp_runner.specs.declared.unread.Unread.{Unread, TheVariants.Refused, TheVariants.NoMemory}
-
-abbrev pub file_seen : file → File
-file_seen f = record { name = f.name.items; text = f.text.items }
 
 abbrev pub own_seen : Own → File
 own_seen own = record { name = own.name.now; text = own.text.now }

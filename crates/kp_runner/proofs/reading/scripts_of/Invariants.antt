@@ -1,7 +1,7 @@
 use Rattle.std.proofs.Common.{◌≡◌, drop, map}
 use Rattle.std.specs.List.{All}
 use Rattle.kp_until.specs.Expected.{IsCheck, script_of}
-use Rattle.kp_runner.specs.{Reading.scripts_from, inner.Reading.file_seen}
+use Rattle.kp_runner.specs.{Reading.scripts_from, Reading.file_seen}
 use Rattle.kp_runner.proofs.reading.scripts_of.Given as goal
 
 abbrev pub invariant-loop-k : goal.invariant-loop-k

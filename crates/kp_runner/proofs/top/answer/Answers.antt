@@ -1,5 +1,5 @@
 use Rattle.std.proofs.Common.{ap, refl, map}
-use Rattle.kp_runner.{specs.Words.asked, specs.Words.bad_words, specs.Words.help, specs.Words.version, specs.inner.Reading.file_seen, proofs.Outcomes.fixed}
+use Rattle.kp_runner.{specs.Words.asked, specs.Words.bad_words, specs.Words.help, specs.Words.version, specs.Reading.file_seen, proofs.Outcomes.fixed}
 use Rattle.kp_runner.proofs.top.answer.Goals as goal
 
 pub returns-in_ok-fixed-in-BadWords-clause-due : goal.returns-in_ok-fixed-in-BadWords-clause-due

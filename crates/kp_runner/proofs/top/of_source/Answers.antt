@@ -1,5 +1,5 @@
 use Rattle.std.proofs.Common.{◌∙◌, ◌≤◌, ℕ, List, length, map, ap, subst, arith, Err}
-use Rattle.kp_runner.{specs.Words.settings_seen, specs.Due.DueOfText, specs.Reading.named, specs.inner.Reading.file_seen, proofs.Outcomes.of_excess, proofs.Outcomes.of_input}
+use Rattle.kp_runner.{specs.Words.settings_seen, specs.Due.DueOfText, specs.Reading.named, specs.Reading.file_seen, proofs.Outcomes.of_excess, proofs.Outcomes.of_input}
 use Rattle.kp_runner.proofs.top.of_source.Goals as goal
 
 pub returns-in_ok-refused-in-Err-TooLong-clause-due : goal.returns-in_ok-refused-in-Err-TooLong-clause-due

@@ -1,8 +1,9 @@
-use Rattle.std.proofs.Common.{◌-◌, ◌≤◌, ◌<◌}
+use Rattle.kp_until_run.specs.Ending.{retired_in, states_in}
+use Rattle.kp_until_run.specs.inner.{Pasts.NoneBelow, Races.IsAt}
 use Rattle.kp_until_run.proofs.ended.run_to.Given as goal
 
-abbrev pub invariant-loop-tried : goal.invariant-loop-tried
-invariant-loop-tried l = (l.tried < l.limit → 1 ≤ l.tried) × (l.tried ≤ l.limit)
-
-abbrev pub decreases-loop-tried : goal.decreases-loop-tried
-decreases-loop-tried l = l.limit - l.tried
+abbrev pub invariant-loop-cycle : goal.invariant-loop-cycle
+invariant-loop-cycle l = record {
+  at : IsAt l.job.design.job l.net l.limit l.cycle l.race;
+  below : NoneBelow l.job.design.job (states_in l.job.design.job l.limit) l.untils (retired_in l.job.design.job l.cycle);
+}

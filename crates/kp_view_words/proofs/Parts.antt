@@ -1,0 +1,57 @@
+-- A word, a second one, and the words after them.
+use Rattle.std.proofs.Common.{◌≡◌, ◌∙◌, ◌-◌, ◌≤◌, Bool, cond, true, false, List, [], ◌∷◌, map, length, take, drop, get_or, Option, Some, None, refl, ap, ap₂, arith}
+use Rattle.std.proofs.lemmas.List.{length-drop, take_all}
+use Rattle.std.specs.{Borrow.Bor, List.find, List.list_any, Option.option_copied, Prelude.not, Prelude.option_map}
+use Rattle.kp_command_line.{specs.Words.Text, specs.Words.has_flag, specs.Words.is_flag, proofs.Parses.any_text}
+use Rattle.kp_view_words.specs.Words.{asks_files, asks_picture, depth_with, flagged_task, is_name, names_in, paths_svg, takes_names, with_file, wrong_name}
+
+-- a flag for files
+by_files : (word flag : Text) (files : List Text) → false ≡ has_flag files → false ≡ asks_picture word flag → true ≡ asks_files word flag
+    → depth_with files ≡ flagged_task (word ∷ flag ∷ files)
+by_files word flag files none picture asks =
+    ap (λ (b : Bool). cond b (depth_with files) None) asks
+    ∙ ap (λ (b : Bool). cond b (with_file paths_svg files) (cond (asks_files word flag) (depth_with files) None)) picture
+    ∙ ap (λ (b : Bool). cond b None (cond (asks_picture word flag) (with_file paths_svg files) (cond (asks_files word flag) (depth_with files) None))) none
+
+module _ {X : Type 0} (text : X → Text) where
+  abbrev after : List X → List X
+  after words = take (length words - 2) (drop 2 words)
+
+  all_after : (words : List X) → after words ≡ drop 2 words
+  all_after words = let l = length-drop 2 words in take_all (length words - 2) (drop 2 words) (omega (arith, l))
+
+  pub flagged_files : (words : List X) (word flag : X) → 2 ≤ length words → word ≡ get_or words 0 word → flag ≡ get_or words 1 flag
+      → false ≡ list_any (λ w. is_flag (text w)) (after words) → false ≡ asks_picture (text word) (text flag) → true ≡ asks_files (text word) (text flag)
+      → depth_with (map text (after words)) ≡ flagged_task (map text words)
+  flagged_files [] word flag b first second none picture asks = absurd (omega (arith, b))
+  flagged_files (x ∷ []) word flag b first second none picture asks = absurd (omega (arith, b))
+  flagged_files (x ∷ y ∷ rest) word flag b first second none picture asks =
+      let left = all_after (x ∷ y ∷ rest) in
+      ap (λ (ws : List X). depth_with (map text ws)) left
+      ∙ by_files (text x) (text y) (map text rest) (none ∙ any_text text is_flag (after (x ∷ y ∷ rest)) ∙ ap (λ (ws : List X). has_flag (map text ws)) left)
+      (picture ∙ ap₂ (λ (w f : X). asks_picture (text w) (text f)) first second) (asks ∙ ap₂ (λ (w f : X). asks_files (text w) (text f)) first second)
+
+  -- the first word that can't be the name of a stage
+  copied : (found : Option (Bor X)) → option_map (λ x. text x.now) found ≡ option_map text (option_copied found)
+  copied None = refl
+  copied (Some x) = refl
+
+  one_more : (test : Text → Bool) (word : X) (words : List X) (b : Bool) → option_map text (find (λ w. test (text w)) words) ≡ find test (map text words)
+      → option_map text (cond b (Some word) (find (λ w. test (text w)) words)) ≡ cond b (Some (text word)) (find test (map text words))
+  one_more test word words true more = refl
+  one_more test word words false more = more
+
+  found_in : (test : Text → Bool) (words : List X) → option_map text (find (λ w. test (text w)) words) ≡ find test (map text words)
+  found_in test [] = refl
+  found_in test (word ∷ words) = one_more test word words (test (text word)) (found_in test words)
+
+  pub first_wrong : (words names : List X) (word : X) (found : Option (Bor X)) → 2 ≤ length words → word ≡ get_or words 0 word
+      → option_copied found ≡ find (λ name. not (is_name (text name))) names → map text names ≡ names_in (map text (after words)) → true ≡ takes_names (text word)
+      → option_map (λ x. text x.now) found ≡ wrong_name (map text words)
+  first_wrong [] names word found b first is are takes = absurd (omega (arith, b))
+  first_wrong (x ∷ []) names word found b first is are takes = absurd (omega (arith, b))
+  first_wrong (x ∷ y ∷ rest) names word found b first is are takes =
+      let left = all_after (x ∷ y ∷ rest) in
+      copied found ∙ ap (option_map text) is ∙ found_in (λ name. not (is_name name)) names
+      ∙ ap (find (λ name. not (is_name name))) (are ∙ ap (λ (ws : List X). names_in (map text ws)) left)
+      ∙ ap (λ (b : Bool). cond b (find (λ name. not (is_name name)) (names_in (map text rest))) None) (takes ∙ ap (λ (w : X). takes_names (text w)) first)
