@@ -4,7 +4,7 @@ ghost use Rattle.kp_view_words.specs.{Asked.task_seen, Words.asks_label, Words.a
 
 use crate::runs::diagram_with;
 use crate::task::Task;
-use kp_command_line::{is_flag, has_flag};
+use kp_command_line::{has_flag, is_flag};
 
 /// The greatest length of the word that names the labels, in bytes.
 const MOST_LABEL: usize = 16_777_216;
