@@ -16,7 +16,7 @@ scripts  = yosys2kp kpasm kpvary kpcut
 lock     = out/build.lock
 
 # The scripts of checks/ that pass or fail.
-all_checks = names.py edits_apply.py reach.py inner.py proved.py isa.py riscv.sh version.sh manual.py editors.sh pictures.sh page.sh memory.sh verilog.sh waves.sh hardware.sh front.sh labs.sh \
+all_checks = names.py rules.py edits_apply.py reach.py inner.py proved.py isa.py riscv.sh version.sh manual.py editors.sh pictures.sh page.sh memory.sh verilog.sh waves.sh hardware.sh front.sh labs.sh \
              explain.py kpasm.py kpcut.py kprun.py yosys2kp.py byhand.py formal.py torture.sh dist.sh deb.sh build.sh edits.sh
 
 .PHONY: all $(programs) $(programs:%=built-%) check checks bench pictures install uninstall dist deb clean help

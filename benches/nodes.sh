@@ -1,6 +1,7 @@
 #!/bin/sh
 # Fills a pool with 1,300,000 different nodes, requests all of them once more, and runs netlists of 400 and of 1,000,000 nodes. Prints
-# the seconds and the memory of each: sh benches/nodes.sh
+# the seconds and the memory of each, and, where valgrind is installed, the machine instructions of a node, which don't depend on what else
+# the computer does: sh benches/nodes.sh
 #
 # The checks of kp_test_circuits, with another main, are proved and built by `rt run` in a temporary folder.
 set -eu
@@ -199,3 +200,15 @@ for words in 'fill 1300000 1' 'fill 1300000 2' 'run 400 100000' 'run 1000000 1' 
     echo "$words" > "$work/words"
     measured "$words" "./$program" < "$work/words"
 done
+
+# instructions WORDS: the machine instructions of a run
+instructions() {
+    echo "$1" > "$work/words"
+    valgrind --tool=callgrind --callgrind-out-file=/dev/null "./$program" < "$work/words" 2>&1 > /dev/null | awk '/Collected/ { print $4 }'
+}
+if command -v valgrind > /dev/null; then
+    echo "$(instructions 'run 400 1000')" "$(instructions 'run 400 3000')" |
+        awk '{ printf "a sum of 64 bits in a cycle: %.1f machine instructions\n", ($2 - $1) / 2000 / 400 }'
+    echo "$(instructions 'fill 100000 1')" "$(instructions 'fill 100000 2')" |
+        awk '{ printf "a request of a new node: %d machine instructions, of one that is there: %d\n", $1 / 100000, ($2 - $1) / 100000 }'
+fi

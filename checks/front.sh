@@ -4,7 +4,8 @@
 # The script kp of this folder is put beside programs that stand for kp, kpview and ./try: installed, as `make install` does, and in a folder of sources. Whatever
 # it says on standard error, standard output and the status have to be those of the program, also where standard input is a folder, is closed or is a
 # terminal, and where standard output is a file, full or closed. It has to say why a status isn't 0 where standard output is a file, and nothing where it is a
-# pipe and standard error a file. The words of its list are those of man/kp.1. The last line is `N checked, M wrong`, and the status is 0 where M is 0.
+# pipe and standard error a file. The words of its list are those of man/kp.1. Of kpview, where it is built or KPVIEW names it, it is checked what it says of
+# files and names that it can't take. The last line is `N checked, M wrong`, and the status is 0 where M is 0.
 KP=:
 . "$(dirname "$0")/common.sh"
 cd "$top" || exit 70
@@ -127,4 +128,21 @@ rm "$program"
 "$front" check < "$work/status0" > "$work/other" 2> "$work/said"
 is missing 70 $?
 said missing 'install kp again'
+
+# kpview, where it is built: a file that can't be read and a word that can't be the name of a stage are named, and `-` is standard input
+kpview=${KPVIEW:-crates/kpview/out/kpview}
+if has "$kpview"; then
+    # refuses STATUS TEXT WORD..
+    refuses() {
+        local status=$1 text=$2
+        shift 2
+        "$kpview" "$@" < examples/acc3.kp > "$work/other" 2> "$work/said"
+        is "kpview $1" "$status" $?
+        said "kpview $1" "$text"
+    }
+    refuses 3 "kpview: $work/none: there is no such file" diagram 5 "$work/none"
+    refuses 3 "kpview: $work/top: it is a folder" stalls 5 "$work/top"
+    refuses 1 'kpview: WRITEBACK: the name of a stage has 1 to 8 letters, digits or `_`' svg 5 READ ADD WRITEBACK examples/acc3.kp
+    is 'kpview -' "$("$kpview" paths examples/acc3.kp)" "$("$kpview" paths - < examples/acc3.kp)"
+fi
 summary

@@ -3,7 +3,7 @@
 
 - each example, with --flat and its functions closed and open, is accepted, `kpview same` shows it, and `kp seq` prints the same after 20 instructions;
 - mini5, dlx5, dlxs and rv32i, flat, get the five stages of the examples by a few lines, and `kp sim` prints the rows of the example;
-- RANDOM random jobs, 40 by default, are written flat and with random lines, with the same results, or are rejected by one of K4 to K6;
+- RANDOM random jobs, 200 by default, are written flat and with random lines, with the same results, or are rejected by one of K4 to K6;
 - each row of `--table` has the longest path of the cut by its stages and its depth;
 - each rule K1 to K6 is reported at its place;
 - where `kpview same` shows nothing, nothing is written, and the status is 6.
@@ -161,7 +161,7 @@ def not_shown(work):
 
 
 def main():
-    count = int(sys.argv[1]) if len(sys.argv) > 1 else 40
+    count = int(sys.argv[1]) if len(sys.argv) > 1 else 200
     checked = wrong = 0
     with tempfile.TemporaryDirectory() as work:
         acc3, late3 = f'{TOP}/examples/acc3.kp', f'{TOP}/examples/late3.kp'

@@ -2,51 +2,26 @@
 #![tactic(auto)]
 
 use kp_base::{StdSink, StdSource};
+use kp_program::{PAGE, STDIN, Stop, ended, words};
 use kp_tool::tool;
-use std::alloc::{AllocError, Global};
-use std::env::Env;
-use std::io::{BufWriter, ErrorKind};
+use std::io;
+use std::io::BufWriter;
 use std::process::ExitCode;
-use std::{env, io};
-
-/// The status if the arguments or a page of output can't be allocated.
-const NO_MEMORY: u8 = 5;
-
-/// The status if writing failed.
-const UNWRITTEN: u8 = 4;
-
-/// The size of a page in bytes.
-const PAGE: usize = 65_536;
 
 fn main(rt: HostRuntime) -> ExitCode {
-    match words(&rt) {
-        Ok(words) => {
-            let Ok(writer) = BufWriter::with_capacity(rt.alloc(), PAGE, io::writer(&rt)) else {
-                return ExitCode::from(NO_MEMORY);
-            };
-            let mut source = StdSource::new(rt.reader());
-            let mut sink = StdSink::new(writer);
-            let status = tool(rt.alloc(), &words, &mut source, &mut sink);
-            match sink.finish() {
-                Ok(()) => ExitCode::from(status),
-                Err(_) => ExitCode::from(UNWRITTEN),
-            }
-        }
-        Err(AllocError) => ExitCode::from(NO_MEMORY),
+    match run(&rt) {
+        Ok(status) => ExitCode::from(status),
+        Err(stop) => ExitCode::from(stop.status()),
     }
 }
 
-// The arguments after the program's name. If one isn't UTF-8, a single empty argument is returned in place of all of them, which no command accepts.
-fn words(rt: &(impl Env + AllocGlobal)) -> Result<Vec<String>, AllocError> {
-    let mut words = Vec::new(rt.alloc());
-    match env::args(rt) {
-        Ok(args) => {
-            for word in args.skip(1) {
-                words.push(word)?;
-            }
-        }
-        Err(error) if error.kind() == ErrorKind::OutOfMemory => return Err(AllocError),
-        Err(_) => words.push(String::new(rt.alloc()))?,
-    }
-    Ok(words)
+fn run<'n>(rt: &HostRuntime) -> Result<u8, Stop<'n>> {
+    let words = words(rt)?;
+    let Ok(writer) = BufWriter::with_capacity(rt.alloc(), PAGE, io::writer(rt)) else {
+        return Err(Stop::NoMemory);
+    };
+    let mut source = StdSource::new(rt.reader());
+    let mut sink = StdSink::new(writer);
+    let status = tool(rt.alloc(), &words, &mut source, &mut sink);
+    ended(status, STDIN, &mut sink)
 }

@@ -27,21 +27,22 @@ module _ (a b : Net) (t : Numbered) (ca cb : List NodeId) (wa wb : List (List Bi
   -- bits with the same number
   module _ (R : Relation) (d : ℕ) (links : (g h : NodeId) → g.0 < d → g.0 < length a.nodes → h.0 < length b.nodes → class_in ca g ≡ class_in cb h → R g h)
       (m n : ℕ) (lm : m < length a.nodes) (ln : n < length b.nodes) (lower : m ≤ d) where
-    bit_from : (x y z : Bit) → IsBelow (suc m) x → IsBelow (suc n) y → FirstBit x z → SecondBit y z → BitAlike R a b x y
+    bit_from : (x y z : Bit) → IsBelow a.nodes (suc m) x → IsBelow b.nodes (suc n) y → FirstBit x z → SecondBit y z → BitAlike R a b x y
     bit_from (Fixed x) (Fixed y) (Fixed z) lx ly p q = p ∙ sym q
     bit_from (Of u k) (Of v l) (Of w o) lx ly p q =
         let x : Node = get_or a.nodes u.0 no_node in
         let y : Node = get_or b.nodes v.0 no_node in
-        let lu : u.0 < length a.nodes = omega (arith, lx, lm) in
-        let lv : v.0 < length b.nodes = omega (arith, ly, ln) in
+        let below = lx.0 in
+        let lu : u.0 < length a.nodes = omega (arith, below, lm) in
+        let lv : v.0 < length b.nodes = (let q = ly.0 in omega (arith, q, ln)) in
         let terms : Operation (shape (known_of a) a.parts (class_in ca) x) ≡ Operation (shape (known_of a) b.parts (class_in cb) y) = table.apart _ _ w.0 p.1 q.1 in
         let s : shape (known_of a) a.parts (class_in ca) x ≡ shape (known_of a) b.parts (class_in cb) y = cc terms in (
           p.0 ∙ sym q.0,
           (
             ap (λ (r : Node). r.width) s,
             kinds_from R a b (class_in ca) (class_in cb) u.0 v.0 x.width y.width
-                (λ g h lg lh f. links g h (omega (arith, lg, lx, lower)) (omega (arith, lg, lu)) (omega (arith, lh, lv)) f)
-                x.kind y.kind (oka.right u.0 lu).kind (okb.right v.0 lv).kind (oka.parts.cells u.0 lu) (ap (λ (r : Node). r.kind) s),
+                (λ g h lg lh f. links g h (omega (arith, lg, below, lower)) (omega (arith, lg, lu)) (omega (arith, lh, lv)) f)
+                x.kind y.kind lx.1 (oka.right u.0 lu).kind (okb.right v.0 lv).kind (oka.parts.cells u.0 lu) (ap (λ (r : Node). r.kind) s),
           ),
         )
     bit_from (Fixed x) y (Of w o) lx ly p q = absurd p
@@ -62,7 +63,7 @@ module _ (a b : Net) (t : Numbered) (ca cb : List NodeId) (wa wb : List (List Bi
         lj,
         sym (bits_long a.nodes oka.right i li) ∙ length_all_zip FirstBit (bits_of a.nodes i) (bits_in wa i) p.numbered
             ∙ sym (length_all_zip SecondBit (bits_of b.nodes j) (bits_in wa i) second) ∙ bits_long b.nodes okb.right j lj,
-        zip_joined (IsBelow (suc i.0)) (IsBelow (suc j.0)) FirstBit SecondBit (BitAlike (AlikeWithin a b d) a b) (bits_of a.nodes i) (bits_of b.nodes j) (bits_in wa i)
+        zip_joined (IsBelow a.nodes (suc i.0)) (IsBelow b.nodes (suc j.0)) FirstBit SecondBit (BitAlike (AlikeWithin a b d) a b) (bits_of a.nodes i) (bits_of b.nodes j) (bits_in wa i)
             (bit_from (AlikeWithin a b d) d (alike_from d) i.0 j.0 li lj (omega (arith, h))) (bits_below a.nodes oka.right i li) (bits_below b.nodes okb.right j lj) p.numbered second,
       )
 

@@ -57,11 +57,11 @@ shape_kept ks net cs c i ok l h =
 
 -- so a bit keeps its number
 bit_kept : (ks : Known) (net : Net) (old new : Numbered) (cs : List NodeId) (c : NodeId) → NetOk net → length cs ≤ length net.nodes → Extends old new
-    → (x y : Bit) → IsBelow (length cs) x → IsNumbered ks net old cs x y → IsNumbered ks net new (cs ++ c ∷ []) x y
+    → (x y : Bit) → IsBelow net.nodes (length cs) x → IsNumbered ks net old cs x y → IsNumbered ks net new (cs ++ c ∷ []) x y
 bit_kept ks net old new cs c ok l grows (Fixed x) (Fixed y) below h = h
 bit_kept ks net old new cs c ok l grows (Of i k) (Of n m) below h = (
   h.0,
-  subst (λ (s : Node). Has new (Operation s) n.0) (shape_kept ks net cs c i.0 ok (omega (arith, below, l)) (omega (arith, below)))
+  subst (λ (s : Node). Has new (Operation s) n.0) (shape_kept ks net cs c i.0 ok (let q = below.0 in omega (arith, q, l)) (let q = below.0 in omega (arith, q)))
       (grows (Operation (shape ks net.parts (class_in cs) (get_or net.nodes i.0 no_node))) n.0 h.1),
 )
 bit_kept ks net old new cs c ok l grows (Fixed x) (Of n m) below h = absurd h
@@ -83,8 +83,8 @@ module _ (ks : Known) (net : Net) (old mid new : Numbered) (cs : List NodeId) (w
 
   numbered_before : (j : NodeId) → j.0 < i.0 → AllZip BitsNow (bits_of net.nodes j) (bits_in ws j)
   numbered_before j q =
-      zip_weaker (IsBelow (suc j.0)) (IsNumbered ks net old cs) BitsNow (bits_of net.nodes j) (bits_in ws j)
-      (λ x y below k. bit_kept ks net old new cs c ok (omega (arith, count, l)) grows x y (less_below (suc j.0) (length cs) (omega (arith, q, count)) x below) k)
+      zip_weaker (IsBelow net.nodes (suc j.0)) (IsNumbered ks net old cs) BitsNow (bits_of net.nodes j) (bits_in ws j)
+      (λ x y below k. bit_kept ks net old new cs c ok (omega (arith, count, l)) grows x y (less_below net.nodes (suc j.0) (length cs) (omega (arith, q, count)) x below) k)
       (bits_below net.nodes ok.right j (omega (arith, q, l))) (h j (omega (arith, q, count))).numbered
 
   -- the number of the node itself
@@ -95,8 +95,8 @@ module _ (ks : Known) (net : Net) (old mid new : Numbered) (cs : List NodeId) (w
   numbered_here : AllZip BitsNow (bits_of net.nodes i) bs
   numbered_here =
       subst (λ (xs : List Bit). AllZip BitsNow xs bs) (sym (bits_step net.nodes ok.right i l))
-      (kind_related BitsNow (bits_of net.nodes) (bits_in ws) i.0 i n numbered_before (λ k. (refl, own_number)) (λ x. refl)
-      net.nodes (get_or net.nodes i.0 no_node).width (get_or net.nodes i.0 no_node).kind (ok.right i.0 l).kind)
+      (kind_related BitsNow (bits_of net.nodes) (bits_in ws) i.0 i n numbered_before (λ x. refl)
+      net.nodes (get_or net.nodes i.0 no_node).width (get_or net.nodes i.0 no_node).kind (ok.right i.0 l).kind (λ o k. (refl, own_number)))
 
   pub more_classes : AreClasses ks net new (cs ++ c ∷ []) (ws ++ bs ∷ [])
   more_classes j m = ⊎_elim

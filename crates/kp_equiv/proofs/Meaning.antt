@@ -1,12 +1,12 @@
 -- Equivalent nodes have equal words, if both netlists have the same sources by name.
-use Rattle.std.proofs.Common.{◌≡◌, ◌∙◌, ℕ, zero, suc, ◌+◌, ◌*◌, ◌%◌, ◌^◌, ◌==◌, ◌<◌, Bool, true, false, cond, List, [], ◌∷◌, length, map, get_or, refl, sym, ap, arith, ⊎_elim}
+use Rattle.std.proofs.Common.{◌≡◌, ◌∙◌, ℕ, zero, suc, ◌+◌, ◌*◌, ◌%◌, ◌^◌, ◌==◌, ◌<◌, Bool, true, false, cond, List, [], ◌∷◌, length, get_or, refl, sym, ap, arith, ⊎_elim}
 use Rattle.std.specs.{Int.bit_at, List.AllZip}
 use Rattle.std.proofs.lemmas.Bool.{false≢true}
 use Rattle.kp_bits.specs.Word as bits
-use Rattle.kp_bits.specs.{Word.word, Word.not_of, Word.mux_of, Word.slice_of, Operators.is_shift, Operators.commutes, Operators.binary_of, Operators.joined_of, declared.operator.BinOp.BinOp}
+use Rattle.kp_bits.specs.{Word.word, Word.not_of, Word.mux_of, Word.slice_of, Operators.is_shift, Operators.commutes, Operators.binary_of, declared.operator.BinOp.BinOp}
 use Rattle.kp_bits.proofs.Operators.{commuted}
 use Rattle.kp_net.specs.declared.node.{NodeId.NodeId, Kind.Kind}
-use Rattle.kp_net.specs.declared.node.Kind.TheVariants.{Const, Ext, Sample, Reg, Word, Not, Binary, Mux, Concat, Slice}
+use Rattle.kp_net.specs.declared.node.Kind.TheVariants.{Ext, Sample, Reg, Word, Not, Binary, Mux}
 use Rattle.kp_net.specs.{declared.node.Node.Node, Netlist.Net}
 use Rattle.kp_net.specs.{Nodes.Cells, Nodes.Words, Nodes.word_of_kind, Nodes.word_of_node, Nodes.word_at, Nodes.at, Nodes.on, Parts.NetOk, Parts.CellOk}
 use Rattle.kp_net.{specs.Widths.KindOk, specs.Widths.wide, specs.Widths.no_node, proofs.Values.word_there, proofs.Values.word_wide}
@@ -20,11 +20,6 @@ no_shift BinOp.Shl c = absurd (false≢true c)
 no_shift BinOp.Shr c = absurd (false≢true c)
 no_shift _ c = refl
 
-parts_alike : (R : Relation) (v w : Words) → ((x y : NodeId) → R x y → v x.0 ≡ w y.0) → (xs ys : List NodeId) → AllZip R xs ys → map (λ x. v x.0) xs ≡ map (λ y. w y.0) ys
-parts_alike R v w joins [] [] h = refl
-parts_alike R v w joins (x ∷ xs) (y ∷ ys) h = let p = joins x y h.0 in let q = parts_alike R v w joins xs ys h.1 in λ i. p i ∷ q i
-parts_alike R v w joins _ _ h = absurd h
-
 -- nodes with the same operation return the same words
 module _ (R : Relation) (a b : Net) (c d : Cells) (cells : SameCells a b c d) (m k : ℕ) (v w : Words)
     (joins : (x y : NodeId) → R x y → v x.0 ≡ w y.0) (widths : (x : NodeId) → x.0 < m → (v x.0).width ≡ wide a.nodes x.0) where
@@ -37,7 +32,6 @@ module _ (R : Relation) (a b : Net) (c d : Cells) (cells : SameCells a b c d) (m
       commuted op (v x.0) (v y.0) h.0 (widths x ok.0 ∙ ok.2.1 (no_shift op h.0) ∙ sym (widths y ok.1)) ∙ z)
 
   pub kinds_alike : (l : ℕ) (o p : Kind) → KindOk a.nodes m k o → CellOk a.nodes a.parts k o → CellOk b.nodes b.parts l p → KindAlike R a b o p → word_of_kind c v k o ≡ word_of_kind d w k p
-  kinds_alike l (Const x) (Const y) ok s t h = ap (word k) h
   kinds_alike l Ext Ext ok s t h = ap (word k) cells.ext
   kinds_alike l (Sample x) (Sample y) ok s t h = ap (word k) (cells.sample x y s.0 t.0 h)
   kinds_alike l (Reg x) (Reg y) ok s t h = ap (word k) (cells.reg x y s.0 t.0 h)
@@ -46,8 +40,6 @@ module _ (R : Relation) (a b : Net) (c d : Cells) (cells : SameCells a b c d) (m
   kinds_alike l (Not x) (Not y) ok s t h = ap not_of (joins x y h)
   kinds_alike l (Binary op x y) (Binary o r z) ok s t h = pair_alike op x y r z ok h.1 ∙ ap (λ (q : BinOp). binary_of q (w r.0) (w z.0)) h.0
   kinds_alike l (Mux e x y) (Mux f r z) ok s t h = let p = joins e f h.0 in let q = joins x r h.1 in let u = joins y z h.2 in λ i. mux_of (p i) (q i) (u i)
-  kinds_alike l (Concat xs) (Concat ys) ok s t h = ap joined_of (parts_alike R v w joins xs ys h)
-  kinds_alike l (Slice x hi lo) (Slice y g o) ok s t h = let p = joins x y h.0 in let q = h.1 in let u = h.2 in λ i. slice_of (p i) (q i) (u i)
   kinds_alike l o p ok s t h = absurd h
 
 module _ (a b : Net) (oka : NetOk a) (okb : NetOk b) (c d : Cells) (cells : SameCells a b c d) where
@@ -67,15 +59,15 @@ module _ (a b : Net) (oka : NetOk a) (okb : NetOk b) (c d : Cells) (cells : Same
         ∙ ap (λ (r : ℕ). word_of_node d (word_at d b.nodes) (record { width = r; kind = y.kind })) h.0
         ∙ sym (word_there d b.nodes j.0 lj oy)
 
-    bits_same : (m n : ℕ) → m < length a.nodes → n < length b.nodes → (x y : Bit) → IsBelow (suc m) x → IsBelow (suc n) y → BitAlike R a b x y → bit_value c a.nodes x ≡ bit_value d b.nodes y
+    bits_same : (m n : ℕ) → m < length a.nodes → n < length b.nodes → (x y : Bit) → IsBelow a.nodes (suc m) x → IsBelow b.nodes (suc n) y → BitAlike R a b x y → bit_value c a.nodes x ≡ bit_value d b.nodes y
     bits_same m n lm ln (Fixed x) (Fixed y) p q h = ap (λ (t : Bool). cond t 1 0) h
     bits_same m n lm ln (Of i k) (Of j l) p q h =
-        let w = nodes_same i j (omega (arith, p, lm)) (omega (arith, q, ln)) h.1 in let e = h.0 in
+        let u = p.0 in let v = q.0 in let w = nodes_same i j (omega (arith, u, lm)) (omega (arith, v, ln)) h.1 in let e = h.0 in
         λ t. bit_at (w t).value (e t)
     bits_same m n lm ln (Fixed x) (Of j l) p q h = absurd h
     bits_same m n lm ln (Of i k) (Fixed y) p q h = absurd h
 
-    lists_same : (m n : ℕ) → m < length a.nodes → n < length b.nodes → (xs ys : List Bit) → Each (IsBelow (suc m)) xs → Each (IsBelow (suc n)) ys → AllZip (BitAlike R a b) xs ys
+    lists_same : (m n : ℕ) → m < length a.nodes → n < length b.nodes → (xs ys : List Bit) → Each (IsBelow a.nodes (suc m)) xs → Each (IsBelow b.nodes (suc n)) ys → AllZip (BitAlike R a b) xs ys
         → value (bit_value c a.nodes) xs ≡ value (bit_value d b.nodes) ys
     lists_same m n lm ln [] [] p q h = refl
     lists_same m n lm ln (x ∷ xs) (y ∷ ys) p q h =

@@ -1,15 +1,14 @@
 -- Nodes of one shape have the same operation, and nodes with the same operation have one shape.
-use Rattle.std.proofs.Common.{◌≡◌, ◌∙◌, ◌⊎◌, ℕ, ◌<◌, min, max, Bool, true, false, List, [], ◌∷◌, map, refl, sym, ap, subst, arith, ⊎_elim, inl, inr, All}
-use Rattle.std.proofs.lemmas.{Bool.cases_eq, List.Elements.All-head, List.Elements.All-tail}
+use Rattle.std.proofs.Common.{◌≡◌, ◌∙◌, ◌⊎◌, ℕ, ◌<◌, min, max, Bool, true, false, List, refl, sym, ap, subst, arith, ⊎_elim, inl, inr}
+use Rattle.std.proofs.lemmas.Bool.{cases_eq, false≢true}
 use Rattle.kp_bits.specs.declared.operator.BinOp.{BinOp}
-use Rattle.std.specs.List.{AllZip}
 use Rattle.kp_net.specs.declared.node.{NodeId.NodeId, Kind.Kind}
 use Rattle.kp_net.specs.declared.node.Kind.TheVariants.{Const, Ext, Sample, Reg, Word, Not, Binary, Mux, Concat, Slice}
 use Rattle.kp_net.specs.{Netlist.Net, Parts.CellOk, Widths.KindOk}
 use Rattle.kp_bits.specs.Operators.{commutes}
 use Rattle.kp_equiv.specs.{Alike.Relation, Alike.PairRelated, Alike.KindAlike, Classes.place}
 use Rattle.kp_equiv.specs.inner.Shapes.{Known, known_of, least, greatest, first_of_pair, second_of_pair, shape_kind}
-use Rattle.kp_equiv.proofs.{Places.registers, Places.memories, Places.ports, Places.one_name, Determined.id_is}
+use Rattle.kp_equiv.proofs.{Places.registers, Places.memories, Places.ports, Places.one_name, Determined.id_is, Wired.is_wiring}
 
 -- two numbers in order are two others in order
 in_order : (x y u v : ℕ) → min x y ≡ min u v → max x y ≡ max u v → ((x ≡ u) × (y ≡ v)) ⊎ ((x ≡ v) × (y ≡ u))
@@ -46,34 +45,26 @@ pair_from R m n i j op x y u v links lx ly lu lv = by (commutes op) refl
         (λ (h : (m x ≡ n v) × (m y ≡ n u)). inr (is, links x v lx lv h.0, links y u ly lu h.1))
         (ordered (m x) (m y) (n u) (n v) e f)
 
-all_from : (R : Relation) (m n : NodeId → NodeId) (i j : ℕ) (xs ys : List NodeId) → Links R m n i j → All (λ x. x.0 < i) xs → All (λ y. y.0 < j) ys → map m xs ≡ map n ys → AllZip R xs ys
-all_from R m n i j [] [] links p q e = tt
-all_from R m n i j (x ∷ xs) (y ∷ ys) links p q e = (
-  links x y (All-head (λ k. k.0 < i) x xs p) (All-head (λ k. k.0 < j) y ys q) cc,
-  all_from R m n i j xs ys links (All-tail (λ k. k.0 < i) x xs p) (All-tail (λ k. k.0 < j) y ys q) cc,
-)
-all_from R m n i j _ _ links p q e = cc
-
 module _ (R : Relation) (a b : Net) (m n : NodeId → NodeId) (i j w v : ℕ) (links : Links R m n i j) where
-  pub kinds_from : (k l : Kind) → KindOk a.nodes i w k → KindOk b.nodes j v l → CellOk a.nodes a.parts w k
+  pub kinds_from : (k l : Kind) → is_wiring k ≡ false → KindOk a.nodes i w k → KindOk b.nodes j v l → CellOk a.nodes a.parts w k
       → shape_kind (known_of a) a.parts m k ≡ shape_kind (known_of a) b.parts n l → KindAlike R a b k l
-  kinds_from (Const x) (Const y) p q t e = cc
-  kinds_from Ext Ext p q t e = tt
-  kinds_from (Sample s) (Sample u) p q t e = one_name ports a.parts.samples b.parts.samples s u t.0 cc
-  kinds_from (Reg r) (Reg u) p q t e = one_name registers a.parts.regs b.parts.regs r u t.0 cc
-  kinds_from (Word f x) (Word g y) p q t e = (one_name memories a.parts.files b.parts.files f g t.0 cc, links x y p q cc)
-  kinds_from (Not x) (Not y) p q t e = links x y p.0 q.0 cc
-  kinds_from (Binary op x y) (Binary o u z) p q t e =
+  kinds_from Ext Ext w p q t e = tt
+  kinds_from (Sample s) (Sample u) w p q t e = one_name ports a.parts.samples b.parts.samples s u t.0 cc
+  kinds_from (Reg r) (Reg u) w p q t e = one_name registers a.parts.regs b.parts.regs r u t.0 cc
+  kinds_from (Word f x) (Word g y) w p q t e = (one_name memories a.parts.files b.parts.files f g t.0 cc, links x y p q cc)
+  kinds_from (Not x) (Not y) w p q t e = links x y p.0 q.0 cc
+  kinds_from (Binary op x y) (Binary o u z) w p q t e =
       let f : op ≡ o = cc in (
         f,
         pair_from R m n i j op x y u z links p.0 p.1 q.0 q.1
             (subst (λ (c : BinOp). first_of_pair (commutes op) (m x) (m y) ≡ first_of_pair (commutes c) (n u) (n z)) (sym f) cc)
             (subst (λ (c : BinOp). second_of_pair (commutes op) (m x) (m y) ≡ second_of_pair (commutes c) (n u) (n z)) (sym f) cc),
       )
-  kinds_from (Mux s x y) (Mux r u z) p q t e = (links s r p.0 q.0 cc, links x u p.1 q.1 cc, links y z p.2 q.2 cc)
-  kinds_from (Concat xs) (Concat ys) p q t e = all_from R m n i j xs ys links p.2 q.2 cc
-  kinds_from (Slice x h l) (Slice y g o) p q t e = (links x y p.0 q.0 cc, cc, cc)
-  kinds_from k l p q t e = cc
+  kinds_from (Mux s x y) (Mux r u z) w p q t e = (links s r p.0 q.0 cc, links x u p.1 q.1 cc, links y z p.2 q.2 cc)
+  kinds_from (Const x) l o p q t e = absurd (false≢true (sym o))
+  kinds_from (Concat xs) l o p q t e = absurd (false≢true (sym o))
+  kinds_from (Slice x h g) l o p q t e = absurd (false≢true (sym o))
+  kinds_from k l w p q t e = cc
 
 -- related operands have equal classes
 abbrev Joins : Relation → (NodeId → NodeId) → (NodeId → NodeId) → Type 0
@@ -91,14 +82,8 @@ pair_to R m n op x y u v joins = ⊎_elim
     let B : greatest (m x) (m y) ≡ greatest (n u) (n v) = cc in
     subst P (sym h.0) (A, B))
 
-all_to : (R : Relation) (m n : NodeId → NodeId) (xs ys : List NodeId) → Joins R m n → AllZip R xs ys → map m xs ≡ map n ys
-all_to R m n [] [] joins h = refl
-all_to R m n (x ∷ xs) (y ∷ ys) joins h = let e = joins x y h.0 in let f = all_to R m n xs ys joins h.1 in cc
-all_to R m n _ _ joins h = absurd h
-
 module _ (R : Relation) (a b : Net) (m n : NodeId → NodeId) (ks : Known) (joins : Joins R m n) where
   pub kinds_to : (k l : Kind) → KindAlike R a b k l → shape_kind ks a.parts m k ≡ shape_kind ks b.parts n l
-  kinds_to (Const x) (Const y) h = ap Const h
   kinds_to Ext Ext h = refl
   kinds_to (Sample s) (Sample u) h = ap (λ (c : List ℕ). Sample (place ks.samples c)) h
   kinds_to (Reg r) (Reg u) h = ap (λ (c : List ℕ). Reg (place ks.regs c)) h
@@ -111,6 +96,4 @@ module _ (R : Relation) (a b : Net) (m n : NodeId → NodeId) (ks : Known) (join
       = (λ t. Binary op (g.0 t) (g.1 t)) in
       A ∙ ap (λ (c : BinOp). Binary c (first_of_pair (commutes c) (n u) (n z)) (second_of_pair (commutes c) (n u) (n z))) f
   kinds_to (Mux s x y) (Mux r u z) h = let d = joins s r h.0 in let e = joins x u h.1 in let f = joins y z h.2 in cc
-  kinds_to (Concat xs) (Concat ys) h = ap Concat (all_to R m n xs ys joins h)
-  kinds_to (Slice x c l) (Slice y g o) h = let d = joins x y h.0 in let e = h.1 in let f = h.2 in cc
   kinds_to k l h = absurd h

@@ -1,11 +1,11 @@
 -- A netlist agrees with itself, and agreement is symmetric.
-use Rattle.std.proofs.Common.{◌≡◌, ◌∙◌, ℕ, zero, suc, ◌<◌, true, inl, inr, List, [], ◌∷◌, length, get_or, Option, None, Some, refl, sym, subst, arith}
-use Rattle.std.{proofs.lemmas.List.Elements.All-get_or, specs.Prelude.All, specs.List.AllZip}
+use Rattle.std.proofs.Common.{◌≡◌, ◌∙◌, ℕ, zero, suc, ◌<◌, true, false, inl, inr, List, [], ◌∷◌, length, get_or, Option, None, Some, refl, sym, subst, arith}
+use Rattle.std.{proofs.lemmas.Bool.false≢true, proofs.lemmas.List.Elements.All-get_or}
 use Rattle.kp_equiv.specs.declared.bit.Bit.{Bit, TheVariants.Fixed, TheVariants.Of}
-use Rattle.kp_equiv.{specs.Wiring.bits_of, proofs.Wired.IsBelow, proofs.Wired.bits_below, proofs.Zipped.zip_itself, proofs.Zipped.zip_turned}
+use Rattle.kp_equiv.{specs.Wiring.bits_of, proofs.Wired.is_wiring, proofs.Wired.IsBelow, proofs.Wired.bits_below, proofs.Zipped.zip_itself, proofs.Zipped.zip_turned}
 use Rattle.kp_bits.specs.declared.operator.BinOp.{BinOp}
 use Rattle.kp_net.specs.declared.node.{NodeId.NodeId, Kind.Kind}
-use Rattle.kp_net.specs.declared.node.Kind.TheVariants.{Const, Ext, Sample, Reg, Word, Not, Binary, Mux, Concat, Slice}
+use Rattle.kp_net.specs.declared.node.Kind.TheVariants.{Ext, Sample, Reg, Word, Not, Binary, Mux}
 use Rattle.kp_net.specs.declared.{node.Node.Node, netlist.NetReg.NetReg, netlist.NetFile.NetFile, netlist.WritePort.WritePort}
 use Rattle.kp_net.specs.{Names.among, Netlist.Net, Parts.NetOk, Parts.RegOk, Parts.FileOk, Parts.WriteOk, Parts.no_reg, Parts.no_file}
 use Rattle.kp_net.specs.Widths.{KindOk, AllRight, no_node}
@@ -19,34 +19,29 @@ use Rattle.kp_equiv.proofs.Running.{Agreed, agreed, regs_alike, files_alike, the
 -- ---- the tree of a node is equivalent to itself
 
 module _ (a : Net) (R : Relation) (m : ℕ) (same : (x : NodeId) → x.0 < m → R x x) where
-  list_refl : (xs : List NodeId) → All (λ (x : NodeId). x.0 < m) xs → AllZip R xs xs
-  list_refl [] h = tt
-  list_refl (x ∷ xs) h = (same x (h 0 x (omega arith)), list_refl xs (λ i d l. h (suc i) d (omega (arith, l))))
+  kind_refl : (k : ℕ) (o : Kind) → is_wiring o ≡ false → KindOk a.nodes m k o → KindAlike R a a o o
+  kind_refl k Ext w ok = tt
+  kind_refl k (Sample s) w ok = refl
+  kind_refl k (Reg r) w ok = refl
+  kind_refl k (Word f x) w ok = (refl, same x ok)
+  kind_refl k (Not x) w ok = same x ok.0
+  kind_refl k (Binary op x y) w ok = (refl, inl (same x ok.0, same y ok.1))
+  kind_refl k (Mux t x y) w ok = (same t ok.0, same x ok.1, same y ok.2)
+  kind_refl k _ w ok = absurd (false≢true (sym w))
 
-  kind_refl : (k : ℕ) (o : Kind) → KindOk a.nodes m k o → KindAlike R a a o o
-  kind_refl k (Const n) ok = refl
-  kind_refl k Ext ok = tt
-  kind_refl k (Sample s) ok = refl
-  kind_refl k (Reg r) ok = refl
-  kind_refl k (Word f x) ok = (refl, same x ok)
-  kind_refl k (Not x) ok = same x ok.0
-  kind_refl k (Binary op x y) ok = (refl, inl (same x ok.0, same y ok.1))
-  kind_refl k (Mux t x y) ok = (same t ok.0, same x ok.1, same y ok.2)
-  kind_refl k (Concat xs) ok = list_refl xs ok.2
-  kind_refl k (Slice x h l) ok = (same x ok.0, refl, refl)
-
-bit_refl : (a : Net) (R : Relation) → AllRight a.nodes → (m : ℕ) → m < length a.nodes → ((x : NodeId) → x.0 < length a.nodes → x.0 < m → R x x) → (x : Bit) → IsBelow (suc m) x → BitAlike R a a x x
+bit_refl : (a : Net) (R : Relation) → AllRight a.nodes → (m : ℕ) → m < length a.nodes → ((x : NodeId) → x.0 < length a.nodes → x.0 < m → R x x) → (x : Bit) → IsBelow a.nodes (suc m) x → BitAlike R a a x x
 bit_refl a R right m l same (Fixed x) p = refl
 bit_refl a R right m l same (Of j k) p =
     let n : Node = get_or a.nodes j.0 no_node in
-    (refl, (refl, kind_refl a R j.0 (λ x b. same x (omega (arith, b, p, l)) (omega (arith, b, p))) n.width n.kind (right j.0 (omega (arith, p, l))).kind))
+    let q = p.0 in
+    (refl, (refl, kind_refl a R j.0 (λ x b. same x (omega (arith, b, q, l)) (omega (arith, b, q))) n.width n.kind p.1 (right j.0 (omega (arith, q, l))).kind))
 
 -- its operands precede a node
 within_refl : (a : Net) → AllRight a.nodes → (d : ℕ) (i : NodeId) → i.0 < length a.nodes → i.0 < d → AlikeWithin a a d i i
 unfolding AlikeWithin
 within_refl a right zero i l h = absurd (omega (arith, h))
 within_refl a right (suc d) i l h =
-    (l, l, refl, zip_itself (IsBelow (suc i.0)) (BitAlike (AlikeWithin a a d) a a) (bits_of a.nodes i) (bit_refl a (AlikeWithin a a d) right i.0 l (λ x b m. within_refl a right d x b (omega (arith, m, h)))) (bits_below a.nodes right i l))
+    (l, l, refl, zip_itself (IsBelow a.nodes (suc i.0)) (BitAlike (AlikeWithin a a d) a a) (bits_of a.nodes i) (bit_refl a (AlikeWithin a a d) right i.0 l (λ x b m. within_refl a right d x b (omega (arith, m, h)))) (bits_below a.nodes right i l))
 
 alike_refl : (a : Net) → NetOk a → (i : NodeId) → i.0 < length a.nodes → Alike a a i i
 alike_refl a ok i l = record { levels = suc i.0; alike = within_refl a ok.right (suc i.0) i l (omega arith) }
@@ -59,7 +54,6 @@ module _ (a b : Net) (R S : Relation) (turn : (x y : NodeId) → R x y → S y x
   pair_sym op x y u v (inr (c, p, q)) = inr (c, turn y u q, turn x v p)
 
   kind_sym : (o p : Kind) → KindAlike R a b o p → KindAlike S b a p o
-  kind_sym (Const n) (Const m) h = sym h
   kind_sym Ext Ext h = tt
   kind_sym (Sample s) (Sample t) h = sym h
   kind_sym (Reg r) (Reg q) h = sym h
@@ -67,8 +61,6 @@ module _ (a b : Net) (R S : Relation) (turn : (x y : NodeId) → R x y → S y x
   kind_sym (Not x) (Not y) h = turn x y h
   kind_sym (Binary op x y) (Binary o u v) h = (sym h.0, subst (λ (q : BinOp). PairRelated S q u v x y) h.0 (pair_sym op x y u v h.1))
   kind_sym (Mux t x y) (Mux s u v) h = (turn t s h.0, turn x u h.1, turn y v h.2)
-  kind_sym (Concat xs) (Concat ys) h = zip_turned R S xs ys turn h
-  kind_sym (Slice x hi lo) (Slice y g o) h = (turn x y h.0, sym h.1, sym h.2)
   kind_sym o p h = absurd h
 
 bit_sym : (a b : Net) (R S : Relation) → ((x y : NodeId) → R x y → S y x) → (x y : Bit) → BitAlike R a b x y → BitAlike S b a y x

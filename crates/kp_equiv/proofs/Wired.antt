@@ -1,5 +1,5 @@
 -- The bits of nodes.
-use Rattle.std.proofs.Common.{◌≡◌, ◌∙◌, ℕ, zero, suc, ◌+◌, ◌<◌, ◌==◌, Bool, List, [], ◌∷◌, length, drop, get_or, refl, sym, ap, subst, arith, All, length-append}
+use Rattle.std.proofs.Common.{◌≡◌, ◌∙◌, ℕ, zero, suc, ◌+◌, ◌<◌, ◌==◌, Bool, true, false, List, [], ◌∷◌, length, drop, get_or, refl, sym, ap, subst, arith, All, length-append}
 use Rattle.std.proofs.lemmas.List.{length-take-le, length-drop, FromFn.length-map-range_with_len, Sums.sum_by-cons, Elements.All-head, Elements.All-tail, Elements.same_from_all_zip}
 use Rattle.std.specs.{Int.bit_at, List.AllZip, List.range_with_len, List.sum_by}
 use Rattle.kp_net.specs.declared.node.{NodeId.NodeId, Kind.Kind, Node.Node}
@@ -9,19 +9,26 @@ use Rattle.kp_equiv.specs.declared.bit.Bit.{Bit, TheVariants.Fixed, TheVariants.
 use Rattle.kp_equiv.specs.Wiring.{bits_of_parts, bits_of_kind, bits_within, bits_of}
 use Rattle.kp_equiv.proofs.Zipped.{Each, zip_take, zip_drop, zip_append, zip_each, each_weaker}
 
+-- what only chooses and orders bits
+abbrev pub is_wiring : Kind → Bool
+is_wiring (Const n) = true
+is_wiring (Concat xs) = true
+is_wiring (Slice a hi lo) = true
+is_wiring _ = false
+
 -- related operands have related bits
 module _ (R : Bit → Bit → Type 0) (f g : NodeId → List Bit) (m : ℕ) (i n : NodeId) (operands : (a : NodeId) → a.0 < m → AllZip R (f a) (g a))
-    (own : (k : ℕ) → R (Of i k) (Of n k)) (fixed : (x : Bool) → R (Fixed x) (Fixed x)) where
+    (fixed : (x : Bool) → R (Fixed x) (Fixed x)) where
   parts_related : (xs : List NodeId) → All (λ a. a.0 < m) xs → AllZip R (bits_of_parts f xs) (bits_of_parts g xs)
   parts_related [] h = tt
   parts_related (x ∷ xs) h =
       zip_append R (bits_of_parts f xs) (f x) (bits_of_parts g xs) (g x) (parts_related xs (All-tail (λ a. a.0 < m) x xs h)) (operands x (All-head (λ a. a.0 < m) x xs h))
 
-  pub kind_related : (ns : List Node) (w : ℕ) (k : Kind) → KindOk ns m w k → AllZip R (bits_of_kind f i w k) (bits_of_kind g n w k)
-  kind_related ns w (Const v) h = zip_each R (λ b. Fixed (bit_at v b == 1)) (λ b. Fixed (bit_at v b == 1)) (range_with_len 0 w) (λ b. fixed (bit_at v b == 1))
-  kind_related ns w (Concat xs) h = parts_related xs h.2
-  kind_related ns w (Slice a hi lo) h = zip_take R w (drop lo (f a)) (drop lo (g a)) (zip_drop R lo (f a) (g a) (operands a h.0))
-  kind_related ns w _ h = zip_each R (Of i) (Of n) (range_with_len 0 w) own
+  pub kind_related : (ns : List Node) (w : ℕ) (k : Kind) → KindOk ns m w k → (is_wiring k ≡ false → (b : ℕ) → R (Of i b) (Of n b)) → AllZip R (bits_of_kind f i w k) (bits_of_kind g n w k)
+  kind_related ns w (Const v) h own = zip_each R (λ b. Fixed (bit_at v b == 1)) (λ b. Fixed (bit_at v b == 1)) (range_with_len 0 w) (λ b. fixed (bit_at v b == 1))
+  kind_related ns w (Concat xs) h own = parts_related xs h.2
+  kind_related ns w (Slice a hi lo) h own = zip_take R w (drop lo (f a)) (drop lo (g a)) (zip_drop R lo (f a) (g a) (operands a h.0))
+  kind_related ns w _ h own = zip_each R (Of i) (Of n) (range_with_len 0 w) (own refl)
 
 abbrev Same : Bit → Bit → Type 0
 Same x y = y ≡ x
@@ -33,7 +40,7 @@ all_same (x ∷ xs) = (refl, all_same xs)
 kind_same : (f g : NodeId → List Bit) (ns : List Node) (m w : ℕ) (i : NodeId) (k : Kind) → KindOk ns m w k → ((a : NodeId) → a.0 < m → f a ≡ g a) → bits_of_kind f i w k ≡ bits_of_kind g i w k
 kind_same f g ns m w i k ok e =
     sym (same_from_all_zip Same (bits_of_kind f i w k) (bits_of_kind g i w k)
-    (kind_related Same f g m i i (λ a h. subst (AllZip Same (f a)) (e a h) (all_same (f a))) (λ b. refl) (λ x. refl) ns w k ok) (λ x y h. h))
+    (kind_related Same f g m i i (λ a h. subst (AllZip Same (f a)) (e a h) (all_same (f a))) (λ x. refl) ns w k ok (λ o b. refl)) (λ x y h. h))
 
 -- as many bits as the width says
 module _ (f : NodeId → List Bit) (ns : List Node) (m : ℕ) (long : (a : NodeId) → a.0 < m → length (f a) ≡ wide ns a.0) (i : NodeId) where
@@ -51,14 +58,14 @@ module _ (f : NodeId → List Bit) (ns : List Node) (m : ℕ) (long : (a : NodeI
   kind_long w (Slice a hi lo) h = length-take-le w (drop lo (f a)) (let p = long a h.0 in let q = h.1 in let r = h.2 in let s = h.3 in omega (arith, length-drop lo (f a), p, q, r, s))
   kind_long w _ h = length-map-range_with_len (Of i) 0 w
 
--- the node of a bit is below n
-abbrev pub IsBelow : ℕ → Bit → Type 0
-IsBelow n (Fixed x) = Unit {0}
-IsBelow n (Of i k) = i.0 < n
+-- the node of a bit is below n, and neither a constant nor a slice nor a concatenation
+abbrev pub IsBelow : List Node → ℕ → Bit → Type 0
+IsBelow ns n (Fixed x) = Unit {0}
+IsBelow ns n (Of i k) = (i.0 < n) × (is_wiring (get_or ns i.0 no_node).kind ≡ false)
 
-pub less_below : (m n : ℕ) → m < suc n → (x : Bit) → IsBelow m x → IsBelow n x
-less_below m n l (Fixed x) h = tt
-less_below m n l (Of i k) h = omega (arith, l, h)
+pub less_below : (ns : List Node) (m n : ℕ) → m < suc n → (x : Bit) → IsBelow ns m x → IsBelow ns n x
+less_below ns m n l (Fixed x) h = tt
+less_below ns m n l (Of i k) h = (let q = h.0 in omega (arith, l, q), h.1)
 
 module _ (ns : List Node) (right : AllRight ns) where
   enough : (d e : ℕ) (i : NodeId) → i.0 < length ns → i.0 < d → i.0 < e → bits_within ns d i ≡ bits_within ns e i
@@ -86,14 +93,14 @@ module _ (ns : List Node) (right : AllRight ns) where
   pub bits_long : (i : NodeId) → i.0 < length ns → length (bits_of ns i) ≡ wide ns i.0
   bits_long i l = long_to (suc i.0) i (omega arith) l
 
-  below_to : (d : ℕ) (i : NodeId) → i.0 < d → i.0 < length ns → Each (IsBelow (suc i.0)) (bits_of ns i)
+  below_to : (d : ℕ) (i : NodeId) → i.0 < d → i.0 < length ns → Each (IsBelow ns (suc i.0)) (bits_of ns i)
   below_to zero i h l = absurd (omega (arith, h))
   below_to (suc d) i h l =
-      subst (Each (IsBelow (suc i.0))) (sym (bits_step i l))
-      (kind_related (λ x y. IsBelow (suc i.0) x) (bits_of ns) (bits_of ns) i.0 i i
-      (λ a p. each_weaker (IsBelow (suc a.0)) (IsBelow (suc i.0)) (bits_of ns a) (less_below (suc a.0) (suc i.0) (omega (arith, p))) (below_to d a (omega (arith, p, h)) (omega (arith, p, l))))
-      (λ k. omega arith) (λ x. tt) ns (get_or ns i.0 no_node).width (get_or ns i.0 no_node).kind (right i.0 l).kind)
+      subst (Each (IsBelow ns (suc i.0))) (sym (bits_step i l))
+      (kind_related (λ x y. IsBelow ns (suc i.0) x) (bits_of ns) (bits_of ns) i.0 i i
+      (λ a p. each_weaker (IsBelow ns (suc a.0)) (IsBelow ns (suc i.0)) (bits_of ns a) (less_below ns (suc a.0) (suc i.0) (omega (arith, p))) (below_to d a (omega (arith, p, h)) (omega (arith, p, l))))
+      (λ x. tt) ns (get_or ns i.0 no_node).width (get_or ns i.0 no_node).kind (right i.0 l).kind (λ o b. (omega arith, o)))
 
   -- no bit is of a later node
-  pub bits_below : (i : NodeId) → i.0 < length ns → Each (IsBelow (suc i.0)) (bits_of ns i)
+  pub bits_below : (i : NodeId) → i.0 < length ns → Each (IsBelow ns (suc i.0)) (bits_of ns i)
   bits_below i l = below_to (suc i.0) i (omega arith) l

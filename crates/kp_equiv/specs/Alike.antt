@@ -6,7 +6,7 @@ use Rattle.std.specs.Prelude.{ℕ, zero, suc, ◌<◌, ◌≡◌, ◌⊎◌, tru
 use Rattle.std.specs.List.{AllZip}
 use Rattle.kp_bits.specs.{declared.operator.BinOp.BinOp, Operators.commutes}
 use Rattle.kp_net.specs.declared.node.{NodeId.NodeId, Kind.Kind}
-use Rattle.kp_net.specs.declared.node.Kind.TheVariants.{Const, Ext, Sample, Reg, Word, Not, Binary, Mux, Concat, Slice}
+use Rattle.kp_net.specs.declared.node.Kind.TheVariants.{Ext, Sample, Reg, Word, Not, Binary, Mux}
 use Rattle.kp_equiv.specs.declared.bit.Bit.{Bit, TheVariants.Fixed, TheVariants.Of}
 use Rattle.kp_equiv.specs.Wiring.{bits_of}
 use Rattle.kp_net.specs.{declared.node.Node.Node, Netlist.Net, Parts.no_port, Parts.no_reg, Parts.no_file, Widths.no_node, Widths.wide}
@@ -29,9 +29,8 @@ Relation = NodeId → NodeId → Type 0
 abbrev pub PairRelated : Relation → BinOp → NodeId → NodeId → NodeId → NodeId → Type 0
 PairRelated R op x y u v = (R x u × R y v) ⊎ ((commutes op ≡ true) × R x v × R y u)
 
--- nodes of two netlists have the same operation, with operands that are related
+-- nodes of two netlists have the same operation, with operands that are related; no bit is of a constant, a slice or a concatenation
 abbrev pub KindAlike : Relation → Net → Net → Kind → Kind → Type 0
-KindAlike R a b (Const n) (Const m) = n ≡ m
 KindAlike R a b Ext Ext = Unit {0}
 KindAlike R a b (Sample s) (Sample t) = sample_name a s ≡ sample_name b t
 KindAlike R a b (Reg r) (Reg q) = reg_name a r ≡ reg_name b q
@@ -39,8 +38,6 @@ KindAlike R a b (Word f x) (Word g y) = (file_name a f ≡ file_name b g) × R x
 KindAlike R a b (Not x) (Not y) = R x y
 KindAlike R a b (Binary op x y) (Binary p u v) = (op ≡ p) × PairRelated R op x y u v
 KindAlike R a b (Mux t x y) (Mux s u v) = R t s × R x u × R y v
-KindAlike R a b (Concat xs) (Concat ys) = AllZip R xs ys
-KindAlike R a b (Slice x h l) (Slice y i m) = R x y × (h ≡ i) × (l ≡ m)
 KindAlike R a b _ _ = ⊥
 
 -- two nodes of the same width with the same operation

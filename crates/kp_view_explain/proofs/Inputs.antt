@@ -6,9 +6,9 @@ use Rattle.kp_base.specs.{Refusal.v_rule, declared.refusal.Refusal.Refusal}
 use Rattle.kp_base.specs.declared.refusal.Refused.TheVariants as refused_by
 use Rattle.kp_ast.specs.declared.tree.{Decl.Decl, Job.Job}
 use Rattle.kp_net.specs.Netlist.{Net}
-use Rattle.kp_asm.specs.Program.{assembled}
+use Rattle.kp_asm.specs.{Faults.ProgramFinding, Faults.refusal_of as program_refusal, Program.program_of, Program.verdict_of as program_verdict, Program.assembled}
 use Rattle.kp_vlog.specs.{Denote.Denotes, Verdict.IsRefused}
-use Rattle.kp_debug_script.specs.{Scripts.script_of, declared.command.Command.Command}
+use Rattle.kp_debug_script.specs.{Faults.ScriptFinding, Faults.refusal_of as script_refusal, Faults.verdict_of as script_verdict, Scripts.script_in, Scripts.script_of, declared.command.Command.Command}
 use Rattle.kp_implements.specs.Shows.{IsOfJob}
 use Rattle.kp_vread.specs.Matching.{IsRefused as IsOfOther}
 use Rattle.kp_frontend.specs.Judging.{JudgesText, JudgesHeadText, most_bytes, too_long}
@@ -31,15 +31,18 @@ pub accepted_job : (strict : Bool) (file text : List ℕ) (job : Job) (status : 
 accepted_job strict file text job status said judged printed is = (None, (Ok job, judged, refl), (job, judged, printed, is), tt)
 
 -- a program
-pub accepted_program : (file text words : List ℕ) (status : ℕ) (said : List ℕ) → assembled text ≡ Ok words → status ≡ 0 → said ≡ []
+pub accepted_program : (file text words : List ℕ) (status : ℕ) (said : List ℕ) → program_of text ≡ Ok words → status ≡ 0 → said ≡ []
     → (strict : Bool) → ExplainsShown subjects.Program strict file text status said
-accepted_program file text words status said is zero empty strict = (None, sym (ap rule_of is), (zero, empty), tt)
+unfolding assembled
+accepted_program file text words status said is zero empty strict = (None, sym (ap (λ r. rule_of (program_verdict r)) is), (zero, empty), tt)
 
-pub refused_program : (file text facts said : List ℕ) (refusal : Refusal) (status : ℕ) → assembled text ≡ Err refusal → status ≡ 2
-    → AppendsNoteAt text refusal.place (program_mark text refusal) [] facts → said ≡ rule_head file refusal ++ facts
+pub refused_program : (file text facts said : List ℕ) (f : ProgramFinding) (status : ℕ) → program_of text ≡ Err f → status ≡ 2
+    → AppendsNoteAt text f.place (program_mark text f.place) [] facts → said ≡ rule_head file (program_refusal f) ++ facts
     → (strict : Bool) → ExplainsShown subjects.Program strict file text status said
-refused_program file text facts said refusal status is two note whole strict =
-    refused subjects.Program strict file text said refusal status _ (sym (ap rule_of is)) two refl (noted file text facts said refusal _ note whole)
+unfolding assembled
+refused_program file text facts said f status is two note whole strict =
+    refused subjects.Program strict file text said (program_refusal f) status _ (sym (ap (λ r. rule_of (program_verdict r)) is)) two refl
+    (noted file text facts said (program_refusal f) _ note whole)
 
 -- a job with a script
 pub of_script : (file text : List ℕ) (job : Job) (from status : ℕ) (said : List ℕ) → JudgesHeadText text (Ok (job, from))
@@ -48,18 +51,20 @@ of_script file text job from status said judged (says, shown) strict = (
   rule_of (script_of job.decls text from),
   (Ok (job, from), judged, refl),
   says strict,
-  IfSome_then (rule_of (script_of job.decls text from)) shown (λ r place. (script_mark text r, (Ok (job, from), judged, refl), place)),
+  IfSome_then (rule_of (script_of job.decls text from)) shown (λ r place. (script_mark text r.place, (Ok (job, from), judged, refl), place)),
 )
 
 pub accepted_script : (file text : List ℕ) (from : ℕ) (ds decls : List Decl) (commands : List Command) (status : ℕ) (said : List ℕ) → ds ≡ decls
-    → script_of ds text from ≡ Ok commands → status ≡ 0 → said ≡ [] → ExplainsScript decls file text from status said
-accepted_script file text from ds decls commands status said same is zero empty = rw (sym same, is) ((λ strict. (zero, empty)), tt)
+    → script_in ds text from ≡ Ok commands → status ≡ 0 → said ≡ [] → ExplainsScript decls file text from status said
+accepted_script file text from ds decls commands status said same is zero empty =
+    let verdict : script_of ds text from ≡ Ok commands = ap script_verdict is in rw (sym same, verdict) ((λ strict. (zero, empty)), tt)
 
-pub refused_script : (file text facts : List ℕ) (from : ℕ) (ds decls : List Decl) (refusal : Refusal) (status : ℕ) (said : List ℕ) → ds ≡ decls
-    → script_of ds text from ≡ Err refusal → status ≡ 2 → AppendsNoteAt text refusal.place (script_mark text refusal) [] facts
-    → said ≡ rule_head file refusal ++ facts → ExplainsScript decls file text from status said
-refused_script file text facts from ds decls refusal status said same is two note whole =
-    let shown = noted file text facts said refusal _ note whole in rw (sym same, is) ((λ strict. (two, begins shown)), shown)
+pub refused_script : (file text facts : List ℕ) (from : ℕ) (ds decls : List Decl) (f : ScriptFinding) (status : ℕ) (said : List ℕ) → ds ≡ decls
+    → script_in ds text from ≡ Err f → status ≡ 2 → AppendsNoteAt text f.place (script_mark text f.place) [] facts
+    → said ≡ rule_head file (script_refusal f) ++ facts → ExplainsScript decls file text from status said
+refused_script file text facts from ds decls f status said same is two note whole =
+    let shown = noted file text facts said (script_refusal f) _ note whole in
+    let verdict : script_of ds text from ≡ Err (script_refusal f) = ap script_verdict is in rw (sym same, verdict) ((λ strict. (two, begins shown)), shown)
 
 -- a Verilog text
 pub accepted_verilog : (file text : List ℕ) (net : Net) (status : ℕ) (said : List ℕ) → Denotes 0 text net → status ≡ 0 → said ≡ []

@@ -28,16 +28,16 @@ none_passes test xs none =
     omega (arith, past, within)
 
 -- the set after the tokens before a place
-pub names_next : (text : List ℕ) (tokens before : List Token) (p : Place) (n : ℕ) (found : FoundToken) (set : Expected) (width : Option ℕ) → n ≡ index_at p tokens
+pub names_next : (text : List ℕ) (tokens before : List Token) (p : Place) (n : ℕ) (found : FoundToken) (set : Expected) (after : Before) → n ≡ index_at p tokens
     → found_text found ≡ token_text text (slice_get tokens n) → before ≡ take n tokens
     → ((t : List ℕ) (x : Lexeme) → Lists set (class_of x.kind) ↔ GoesOn (lexemes t before) x)
-    → NamesNext text tokens p (messages.Reading (faults.Unexpected found set width))
-names_next text tokens before p n found set width at here front exact =
+    → NamesNext text tokens p (messages.Reading (faults.Unexpected found set after))
+names_next text tokens before p n found set after at here front exact =
     let same : before ≡ tokens_before p tokens = front ∙ ap (λ (k : ℕ). take k tokens) at in
     record {
       set = set;
       found = found;
-      width = width;
+      before = after;
       is = refl;
       here = here ∙ ap (λ (k : ℕ). token_text text (slice_get tokens k)) at;
       exact = subst (λ (ts : List Token). IsNext text ts set) same (exact text);

@@ -34,7 +34,7 @@ MarksWatched input refusal count (Err first) = count ≡ job_mark input refusal
 
 -- or those of the word in the script after it.
 abbrev pub debugged_mark : List ℕ → Refusal → Result (Job × ℕ) Refusal → ℕ
-debugged_mark input refusal (Ok (job, from)) = script_mark input refusal
+debugged_mark input refusal (Ok (job, from)) = script_mark input refusal.place
 debugged_mark input refusal (Err first) = job_mark input refusal
 
 -- HOW MANY BYTES are marked in an input that violates a rule.
@@ -42,7 +42,7 @@ abbrev pub MarksIn : Subject → List ℕ → Refusal → ℕ → Type 0
 MarksIn subjects.Job input refusal count = count ≡ job_mark input refusal
 MarksIn subjects.Verilog input refusal count = Marks input 0 refusal.place count
 MarksIn subjects.Watched input refusal count = (verdict : Result (Job × ℕ) Refusal) × JudgesHeadText input verdict × MarksWatched input refusal count verdict
-MarksIn subjects.Program input refusal count = count ≡ program_mark input refusal
+MarksIn subjects.Program input refusal count = count ≡ program_mark input refusal.place
 MarksIn subjects.Debugged input refusal count =
     (verdict : Result (Job × ℕ) Refusal) × JudgesHeadText input verdict × (count ≡ debugged_mark input refusal verdict)
 

@@ -5,8 +5,8 @@ ghost use Rattle.kp_view_explain.specs.inner.Shown.{ExplainsShown};
 ghost use Rattle.kp_view_explain.specs.declared.words.Subject.TheVariants as subjects;
 
 use crate::explanation::Explanation;
-use kp_asm::assemble;
-use kp_base::{NoMemory, Refused};
+use kp_asm::{Misread, read_program, refusal_of};
+use kp_base::NoMemory;
 use kp_view_texts::write_program;
 use std::alloc::Global;
 
@@ -21,12 +21,13 @@ pub(crate) fn explain_program(
     ensures said { IfOk result (λ e. (strict : Bool) → ExplainsShown subjects.Program strict file.now text.now e.status e.text.items) }
     ensures low { IfOk result (λ e. (e.status ≤ 2) × (e.status ≢ 1)) }
 {
-    match assemble(alloc, text) {
+    match read_program(alloc, text) {
         Ok(_) => Ok(Explanation::silent(alloc)),
-        Err(Refused::NoMemory) => Err(NoMemory),
-        Err(Refused::Rule(refusal)) => {
+        Err(Misread::NoMemory) => Err(NoMemory),
+        Err(Misread::Found(finding)) => {
             let mut facts = Vec::new(alloc);
-            write_program(alloc, &mut facts, text, refusal)?;
+            write_program(alloc, &mut facts, text, finding)?;
+            let refusal = refusal_of(finding);
             Ok(Explanation::refused(alloc, file, refusal, facts.as_slice())?)
         }
     }

@@ -16,7 +16,7 @@ use kp_lex::{Lexed, Mark, Token, TokenKind, lex};
 use kp_parse::{Parsed, parse};
 use kp_view_excerpt::offset_of;
 use kp_view_expected::expected;
-use kp_view_help::{FoundToken, Word};
+use kp_view_help::{Before, FoundToken, Word};
 use kp_view_message::{Message, ReadingFault};
 use std::alloc::Global;
 
@@ -114,13 +114,13 @@ fn wrong_token<'t>(
 {
     let at = index_of(tokens, place);
     let found = token_at(text, tokens, at);
-    let (before, _) = tokens.split_at(at);
-    let width = declared_width(before);
-    let expected = expected(alloc, before)?;
+    let (front, _) = tokens.split_at(at);
+    let expected = expected(alloc, front)?;
+    let before = end_of(front);
     Ok(Message::Reading(ReadingFault::Unexpected {
         found,
         expected,
-        width,
+        before,
     }))
 }
 
@@ -164,16 +164,19 @@ fn found<'t>(kind: TokenKind, word: Word<'t>) -> FoundToken<'t>
     }
 }
 
-// The width of a value that comes after these tokens, where they end as those of `reg X : 8 =`.
-fn declared_width(tokens: &[Token]) -> Option<u64> {
-    let [.., width, equals] = tokens else {
-        return None;
+// How these tokens end: as those of `reg X : 8 =`, as those of `a[`, or otherwise.
+fn end_of(tokens: &[Token]) -> Before {
+    let [.., before, last] = tokens else {
+        return Before::Other;
     };
-    match (width.kind, equals.kind) {
+    match (before.kind, last.kind) {
         (TokenKind::Number(bits), TokenKind::Mark(Mark::Equals)) if 1 <= bits && bits <= 64 => {
-            Some(bits)
+            Before::Width(bits)
         }
-        _ => None,
+        (TokenKind::Ident | TokenKind::Mark(_), TokenKind::Mark(Mark::OpenBracket)) => {
+            Before::Sliced
+        }
+        _ => Before::Other,
     }
 }
 

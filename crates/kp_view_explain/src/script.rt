@@ -8,7 +8,7 @@ ghost use Rattle.kp_view_explain.specs.inner.Shown.{ExplainsScript, ExplainsShow
 use crate::explanation::Explanation;
 use crate::of_job::explain_head;
 use kp_base::{NoMemory, Refused};
-use kp_debug_script::read_script;
+use kp_debug_script::{Misread, commands_of, refusal_of};
 use kp_frontend::{Head, judge_head};
 use kp_view_texts::write_script;
 use std::alloc::Global;
@@ -49,12 +49,13 @@ fn explain_script(
     ensures low { IfOk result (λ e. (e.status ≤ 2) × (e.status ≢ 1)) }
 {
     let decls = head.job.design.job().decls.as_slice();
-    match read_script(alloc, text, head.rest, decls) {
+    match commands_of(alloc, text, head.rest, decls) {
         Ok(_) => Ok(Explanation::silent(alloc)),
-        Err(Refused::NoMemory) => Err(NoMemory),
-        Err(Refused::Rule(refusal)) => {
+        Err(Misread::NoMemory) => Err(NoMemory),
+        Err(Misread::Found(finding)) => {
             let mut facts = Vec::new(alloc);
-            write_script(alloc, &mut facts, text, decls, refusal)?;
+            write_script(alloc, &mut facts, text, decls, finding)?;
+            let refusal = refusal_of(finding);
             Ok(Explanation::refused(alloc, file, refusal, facts.as_slice())?)
         }
     }

@@ -1,2 +1,3 @@
 pub mod Allows
+pub mod Lines
 pub mod Written

@@ -5,9 +5,10 @@ use Rattle.kp_lex.specs.declared.token.Keyword.TheVariants as keywords
 use Rattle.kp_lex.specs.declared.token.Mark.TheVariants as marks
 use Rattle.kp_view_expected.specs.{GoesOn.Lists, declared.set.Expected.Expected}
 use Rattle.kp_view_expected.specs.declared.token_class.TokenClass.TheVariants as classes
-use Rattle.kp_view_help.specs.declared.{word.Word.Word, found.FoundToken.FoundToken, help.Help.Help, allowed.Allowed.Allowed}
+use Rattle.kp_view_help.specs.declared.{word.Word.Word, found.FoundToken.FoundToken, help.Help.Help, allowed.Allowed.Allowed, allowed.Before.Before}
 use Rattle.kp_view_help.specs.declared.found.FoundToken.TheVariants as tokens
 use Rattle.kp_view_help.specs.declared.help.Help.TheVariants as help
+use Rattle.kp_view_help.specs.declared.allowed.Before.TheVariants as before
 
 -- `!`, `>`, `#` and `/` of other languages; the first byte of a byte order mark, and of typographic quotes and dashes
 abbrev pub byte_help : ℕ → Option Help
@@ -73,21 +74,26 @@ keyword_help a w =
     else None
 
 -- in the place of a literal, whose width may be declared; a literal is a value, or the start of a register or of a word
-abbrev pub number_help : Bool → Option ℕ → Word → Help
-number_help value (Some width) w = help.NumberAsValue w width
-number_help true None w = help.NumberInValue w
-number_help false None w = help.NumberAsWord w
+abbrev pub number_help : Bool → Before → Word → Help
+number_help value (before.Width width) w = help.NumberAsValue w width
+number_help true _ w = help.NumberInValue w
+number_help false _ w = help.NumberAsWord w
 
-abbrev pub token_help : Allowed → Option ℕ → FoundToken → Option Help
-token_help a width (tokens.Number w) = if a.literal then Some (number_help a.value width w) else None
-token_help a width (tokens.Mark w) = mark_help a w
-token_help a width (tokens.Keyword w) = keyword_help a w
-token_help a width (tokens.Name w) = if a.number then Some (help.NameAsNumber w) else None
-token_help a width _ = None
+-- a name in the place of a number: of a slice, or elsewhere
+abbrev pub name_help : Before → Word → Help
+name_help before.Sliced w = help.NameAsNumber w
+name_help _ w = help.Digits
 
--- the token, what may be there, and the width of a value there
-abbrev pub HelpsAt : FoundToken → Expected → Option ℕ → Option Help → Type 0
-HelpsAt found e width result = (a : Allowed) × Describes e a × (result ≡ token_help a width found)
+abbrev pub token_help : Allowed → Before → FoundToken → Option Help
+token_help a b (tokens.Number w) = if a.literal then Some (number_help a.value b w) else None
+token_help a b (tokens.Mark w) = mark_help a w
+token_help a b (tokens.Keyword w) = keyword_help a w
+token_help a b (tokens.Name w) = if a.number then Some (name_help b w) else None
+token_help a b _ = None
+
+-- the token, what may be there, and what is before
+abbrev pub HelpsAt : FoundToken → Expected → Before → Option Help → Type 0
+HelpsAt found e b result = (a : Allowed) × Describes e a × (result ≡ token_help a b found)
 
 -- The width of addresses of so many words is named, if it is one from 5 to 16.
 abbrev pub IsHelpForWords : ℕ → Option Help → Type 0

@@ -63,30 +63,19 @@ wanted_text wanted.Output = codes "a result"
 wanted_text wanted.Hint = codes "a hint"
 wanted_text wanted.Function = codes "a function"
 
--- whether a name of the kind may stand where this is wanted
-abbrev pub takes : Wanted → Kind → Bool
-takes wanted.Value kinds.Pipe = true
-takes wanted.Value kinds.Hint = true
-takes wanted.Value kinds.Sample = true
-takes wanted.Value kinds.Read = true
-takes wanted.Value kinds.Local = true
-takes wanted.Parameter kinds.Parameter = true
-takes wanted.Register kinds.Register = true
-takes wanted.File kinds.File = true
-takes wanted.Pipe kinds.Pipe = true
-takes wanted.Output kinds.Output = true
-takes wanted.Hint kinds.Hint = true
-takes wanted.Function kinds.Function = true
-takes _ _ = false
-
 -- a byte that no token begins with: the character, where ASCII prints one, and else its number
 abbrev pub byte_text : ℕ → List ℕ
 byte_text byte = if nat_lt 32 byte && nat_lt byte 127 then codes "`" ++ encode_utf8 byte ++ codes "`" else codes "the byte " ++ decimal byte
+
+-- a name, the line of its declaration, and its width
+abbrev pub sized_text : Word → ℕ → ℕ → List ℕ
+sized_text w line bits = codes "`" ++ word_text w ++ codes "` (line " ++ decimal line ++ codes ") has " ++ bits_text bits
 
 abbrev pub term_text : Term → List ℕ
 term_text (term.Number n) = decimal n
 term_text (term.Bits count) = bits_text count
 term_text (term.Word w) = word_text w
+term_text (term.Sized w line bits) = sized_text w line bits
 term_text (term.Kind k) = kind_text k
 term_text (term.Wanted w) = wanted_text w
 term_text (term.Class c) = class_text c

@@ -8,6 +8,16 @@ use crate::word::Word;
 use kp_lex::{Keyword, Mark};
 use kp_view_expected::{Expected, TokenClass};
 
+/// What is before a place, of that on which help depends.
+#[derive(Clone, Copy)]
+pub enum Before {
+    /// The width of a value at the place, where it is declared right before.
+    Width(u64),
+    /// A value, and the opening bracket of a slice of it.
+    Sliced,
+    Other,
+}
+
 /// Which tokens may be at a place, of those on which help depends.
 #[derive(Clone, Copy)]
 pub(crate) struct Allowed {
@@ -50,25 +60,28 @@ impl Allowed {
         }
     }
 
-    fn help<'t>(self, found: FoundToken<'t>, width: Option<u64>) -> Option<Help<'t>>
-        ensures { result ≡ token_help self width found.entry }
+    fn help<'t>(self, found: FoundToken<'t>, before: Before) -> Option<Help<'t>>
+        ensures { result ≡ token_help self before found.entry }
     {
         match found {
-            FoundToken::Number(word) if self.literal => Some(self.number_help(word, width)),
+            FoundToken::Number(word) if self.literal => Some(self.number_help(word, before)),
             FoundToken::Mark(word) => self.mark_help(word),
             FoundToken::Keyword(word) => self.keyword_help(word),
-            FoundToken::Name(word) if self.number => Some(Help::NameAsNumber(word)),
+            FoundToken::Name(word) if self.number => Some(match before {
+                Before::Sliced => Help::NameAsNumber(word),
+                _ => Help::Digits,
+            }),
             _ => None,
         }
     }
 
-    fn number_help<'t>(self, word: Word<'t>, width: Option<u64>) -> Help<'t>
-        ensures { result ≡ number_help self.value width word.entry }
+    fn number_help<'t>(self, word: Word<'t>, before: Before) -> Help<'t>
+        ensures { result ≡ number_help self.value before word.entry }
     {
-        match width {
-            Some(width) => Help::NumberAsValue(word, width),
-            None if self.value => Help::NumberInValue(word),
-            None => Help::NumberAsWord(word),
+        match before {
+            Before::Width(width) => Help::NumberAsValue(word, width),
+            _ if self.value => Help::NumberInValue(word),
+            _ => Help::NumberAsWord(word),
         }
     }
 
@@ -175,15 +188,11 @@ impl<'t> Help<'t> {
         }
     }
 
-    /// What helps at a token that can't be there. The width is that of a value there, where it is declared right before.
+    /// What helps at a token that can't be there.
     #[tactic(auto, using(crate::proofs::Allows::at_token))]
-    pub fn at_token(
-        found: FoundToken<'t>,
-        expected: Expected,
-        width: Option<u64>,
-    ) -> Option<Help<'t>>
-        ensures { HelpsAt found.entry expected width result }
+    pub fn at_token(found: FoundToken<'t>, expected: Expected, before: Before) -> Option<Help<'t>>
+        ensures { HelpsAt found.entry expected before result }
     {
-        Allowed::of(expected).help(found, width)
+        Allowed::of(expected).help(found, before)
     }
 }

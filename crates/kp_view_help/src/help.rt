@@ -28,8 +28,10 @@ pub enum Help<'t> {
     NumberInValue(Word<'t>),
     /// The same where a name before it has the width.
     NumberAsWord(Word<'t>),
-    /// A name in the place of a number.
+    /// A name in the place of a number of a slice.
     NameAsNumber(Word<'t>),
+    /// In the place of another number.
+    Digits,
     KeywordAsName(Word<'t>),
     /// An expression in the place of a name.
     NameAlone,
@@ -139,6 +141,7 @@ impl<'t> Help<'t> {
                 "a value is written with its width: `w'd{}`, where w is the declared width",
             Help::NameAsNumber(_) =>
                 "a number is written in digits; bit {} of a value a is `(a >> {})[0]`, and a word of a file M is read by a statement first: `read x = M[{}];`",
+            Help::Digits => "a number is written in digits",
             Help::KeywordAsName(_) => "`{}` is a word of the language, and no name: choose another",
             Help::NameAlone =>
                 "only a name can be here: the enable of a result is a pipe of 1 bit that an earlier stage `put`s, and `let` names the value of an expression",
@@ -274,19 +277,11 @@ impl<'t> Help<'t> {
 }
 
 fn through_pipe(name: Word<'_>, stage: usize, width: Option<u8>) -> Terms<'_> {
-    let stage = stage as u64;
+    let (name, stage) = (Term::Word(name), Term::Number(stage as u64));
     match width {
-        Some(width) => wide_pipe(width, name, stage),
-        None => Terms::Two(Term::Word(name), Term::Number(stage)),
+        Some(width) => Terms::Three(Term::Number(width as u64), name, stage),
+        None => Terms::Two(name, stage),
     }
-}
-
-fn wide_pipe(width: u8, name: Word<'_>, stage: u64) -> Terms<'_> {
-    Terms::Three(
-        Term::Number(width as u64),
-        Term::Word(name),
-        Term::Number(stage),
-    )
 }
 
 // A number of bits, and the literal of this width and this value.

@@ -1,6 +1,6 @@
 // What names are, and what is wanted at a place.
 ghost use Rattle.std.specs.Prelude.{◌≡◌, Some};
-ghost use Rattle.kp_view_help.specs.Texts.{kind_of, kind_text, takes, wanted_text};
+ghost use Rattle.kp_view_help.specs.Texts.{kind_of, kind_text, wanted_text};
 
 use kp_ast::NameKind;
 use std::fmt;
@@ -81,23 +81,6 @@ pub enum Wanted {
 }
 
 impl Wanted {
-    /// Whether a name of this kind may stand there.
-    pub fn takes(self, kind: Kind) -> bool
-        ensures { result ≡ takes self kind }
-    {
-        match (self, kind) {
-            (Wanted::Value, Kind::Pipe | Kind::Hint | Kind::Sample | Kind::Read | Kind::Local)
-            | (Wanted::Parameter, Kind::Parameter)
-            | (Wanted::Register, Kind::Register)
-            | (Wanted::File, Kind::File)
-            | (Wanted::Pipe, Kind::Pipe)
-            | (Wanted::Output, Kind::Output)
-            | (Wanted::Hint, Kind::Hint)
-            | (Wanted::Function, Kind::Function) => true,
-            _ => false,
-        }
-    }
-
     fn text(self) -> &'static str
         ensures { result.now ≡ wanted_text self }
     {

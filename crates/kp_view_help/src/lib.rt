@@ -10,8 +10,9 @@ mod kind;
 mod phrase;
 mod word;
 
+pub use allowed::Before;
 pub use found::FoundToken;
 pub use help::Help;
 pub use kind::{Kind, Wanted};
-pub use phrase::{Term, Terms, write_phrase};
+pub use phrase::{Line, Term, Terms, write_phrase};
 pub use word::{Bits, Word};

@@ -1,8 +1,10 @@
 // Sentences with terms in them.
-ghost use Rattle.std.specs.Prelude.{[], Some, slice_index_or};
+ghost use Rattle.std.specs.Prelude.{◌≡◌, [], Some, slice_index_or};
 ghost use Rattle.std.specs.Fmt.{WritesOnOk};
-ghost use Rattle.kp_view_help.specs.Texts.{byte_text, term_text};
-ghost use Rattle.kp_view_help.specs.Phrases.{phrase_text, terms_texts};
+ghost use Rattle.kp_view_help.specs.Texts.{byte_text, sized_text, term_text};
+ghost use Rattle.kp_view_help.specs.Phrases.{phrase_text, printed, terms_texts};
+ghost use Rattle.kp_view_help.specs.declared.phrase.Term.TheVariants as term_as;
+ghost use Rattle.kp_view_help.specs.declared.phrase.Terms.TheVariants as terms_as;
 ghost use Rattle.kp_view_help.specs.inner.Terms.{IsTermAt};
 
 use crate::found::FoundToken;
@@ -18,6 +20,12 @@ pub enum Term<'t> {
     /// A number of bits: `1 bit`, `8 bits`.
     Bits(u64),
     Word(Word<'t>),
+    /// A name with the line of its declaration and its width.
+    Sized {
+        name: Word<'t>,
+        line: u64,
+        bits: u64,
+    },
     Kind(Kind),
     Wanted(Wanted),
     Class(TokenClass),
@@ -35,6 +43,7 @@ impl<'t> Display for Term<'t> {
             Term::Number(number) => number.fmt(f),
             Term::Bits(count) => Bits(*count).fmt(f),
             Term::Word(word) => word.fmt(f),
+            Term::Sized { name, line, bits } => write_sized(f, *name, *line, Bits(*bits)),
             Term::Kind(kind) => kind.fmt(f),
             Term::Wanted(wanted) => wanted.fmt(f),
             Term::Class(class) => class.fmt(f),
@@ -43,6 +52,18 @@ impl<'t> Display for Term<'t> {
             Term::Text(text) => f.write_str(text),
         }
     }
+}
+
+// A name, the line of its declaration, and its width.
+fn write_sized<W: fmt::Write>(
+    f: &mut fmt::Formatter<W>,
+    name: Word<'_>,
+    line: u64,
+    bits: Bits,
+) -> fmt::Result
+    ensures { WritesOnOk W.write_str_gives f.old result (sized_text name.entry line bits.0) f.new }
+{
+    write!(f, "`{name}` (line {line}) has {bits}")
 }
 
 // A byte, as the character that it is, or as its number where that isn't printed.
@@ -73,65 +94,22 @@ impl<'t> Terms<'t> {
     fn get(&self, number: usize) -> Option<&Term<'t>>
         ensures { IsTermAt self.now number result }
     {
-        match number {
-            0 => self.first(),
-            1 => self.second(),
-            2 => self.third(),
-            3 => self.fourth(),
-            4 => self.fifth(),
-            _ => None,
-        }
-    }
-
-    fn first(&self) -> Option<&Term<'t>>
-        ensures { IsTermAt self.now 0 result }
-    {
-        Some(match self {
-            Terms::None => return None,
-            Terms::One(term)
-            | Terms::Two(term, _)
-            | Terms::Three(term, _, _)
-            | Terms::Four(term, _, _, _)
-            | Terms::Five(term, _, _, _, _) => term,
-        })
-    }
-
-    fn second(&self) -> Option<&Term<'t>>
-        ensures { IsTermAt self.now 1 result }
-    {
-        Some(match self {
-            Terms::None | Terms::One(_) => return None,
-            Terms::Two(_, term)
-            | Terms::Three(_, term, _)
-            | Terms::Four(_, term, _, _)
-            | Terms::Five(_, term, _, _, _) => term,
-        })
-    }
-
-    fn third(&self) -> Option<&Term<'t>>
-        ensures { IsTermAt self.now 2 result }
-    {
-        Some(match self {
-            Terms::Three(_, _, term) | Terms::Four(_, _, term, _) | Terms::Five(_, _, term, _, _) =>
-                term,
-            _ => return None,
-        })
-    }
-
-    fn fourth(&self) -> Option<&Term<'t>>
-        ensures { IsTermAt self.now 3 result }
-    {
-        Some(match self {
-            Terms::Four(_, _, _, term) | Terms::Five(_, _, _, term, _) => term,
-            _ => return None,
-        })
-    }
-
-    fn fifth(&self) -> Option<&Term<'t>>
-        ensures { IsTermAt self.now 4 result }
-    {
-        match self {
-            Terms::Five(_, _, _, _, term) => Some(term),
+        match (number, self) {
+            (0, Terms::One(term))
+            | (0, Terms::Two(term, _))
+            | (0, Terms::Three(term, _, _))
+            | (0, Terms::Four(term, _, _, _))
+            | (0, Terms::Five(term, _, _, _, _))
+            | (1, Terms::Two(_, term))
+            | (1, Terms::Three(_, term, _))
+            | (1, Terms::Four(_, term, _, _))
+            | (1, Terms::Five(_, term, _, _, _))
+            | (2, Terms::Three(_, _, term))
+            | (2, Terms::Four(_, _, term, _))
+            | (2, Terms::Five(_, _, term, _, _))
+            | (3, Terms::Four(_, _, _, term))
+            | (3, Terms::Five(_, _, _, term, _))
+            | (4, Terms::Five(_, _, _, _, term)) => Some(term),
             _ => None,
         }
     }
@@ -171,5 +149,42 @@ fn write_term<W: fmt::Write>(
     match terms.get(number) {
         Some(term) => term.fmt(f),
         None => Ok(()),
+    }
+}
+
+/// A sentence or a line of help: a text with a `{}` for each of its terms.
+#[derive(Clone, Copy)]
+pub struct Line<'t> {
+    pub text: &'static str,
+    pub terms: Terms<'t>,
+}
+
+impl<'t> Line<'t> {
+    /// A text without terms.
+    #[tactic(auto, using(crate::proofs::Lines::none_printed))]
+    pub fn plain(text: &'static str) -> Line<'t>
+        ensures { printed result ≡ [] }
+    {
+        Line {
+            text,
+            terms: Terms::None,
+        }
+    }
+
+    /// A text with this word.
+    pub fn of(text: &'static str, word: Word<'t>) -> Line<'t>
+        ensures text { result.text.now ≡ text.now }
+        ensures terms { result.terms ≡ terms_as.One (term_as.Word word.entry) }
+    {
+        Line {
+            text,
+            terms: Terms::One(Term::Word(word)),
+        }
+    }
+}
+
+impl<'t> Display for Line<'t> {
+    fn fmt<W: fmt::Write>(&self, f: &mut fmt::Formatter<W>) -> fmt::Result {
+        write_phrase(f, self.text, &self.terms)
     }
 }

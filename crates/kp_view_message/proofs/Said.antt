@@ -7,7 +7,7 @@ use Rattle.kp_width.specs.{Faults.rule_of, declared.fault.WidthFault.WidthFault}
 use Rattle.kp_width.specs.declared.fault.WidthFault.TheVariants as faults
 use Rattle.kp_view_excerpt.specs.Tokens.{token_at}
 use Rattle.kp_view_expected.specs.declared.set.Expected.{Expected}
-use Rattle.kp_view_help.specs.{Helps.IsHelpForWords, Helps.HelpsAt, declared.help.Help.Help, declared.word.Word.Word, declared.found.FoundToken.FoundToken}
+use Rattle.kp_view_help.specs.{Helps.IsHelpForWords, Helps.HelpsAt, declared.allowed.Before.Before, declared.help.Help.Help, declared.word.Word.Word, declared.found.FoundToken.FoundToken}
 use Rattle.kp_view_message.specs.Helps.{IsReadingHelp}
 use Rattle.kp_view_message.specs.declared.reading_fault.ReadingFault.{ReadingFault}
 use Rattle.kp_view_message.specs.declared.reading_fault.ReadingFault.TheVariants as reading
@@ -35,6 +35,6 @@ pub held : (text : List ℕ) (n : Word) (job : Job) (here : ℕ) (width : Option
     → helps ≡ (Some (help.KnownThere there), with_word help.HeldBy (through_pipe n here width there) pipe) → AreElsewhereHelps text n job here width there helps
 held text n job here width there pipe helps same is = (pipe, same, is)
 
-pub unexpected : (fault : ReadingFault) (found : FoundToken) (e : Expected) (width : Option ℕ) (result : Option Help) → fault ≡ reading.Unexpected found e width
-    → HelpsAt found e width result → IsReadingHelp fault result
-unexpected fault found e width result is helps = subst (λ (f : ReadingFault). IsReadingHelp f result) (sym is) helps
+pub unexpected : (fault : ReadingFault) (found : FoundToken) (e : Expected) (before : Before) (result : Option Help) → fault ≡ reading.Unexpected found e before
+    → HelpsAt found e before result → IsReadingHelp fault result
+unexpected fault found e before result is helps = subst (λ (f : ReadingFault). IsReadingHelp f result) (sym is) helps

@@ -19,7 +19,7 @@ use Rattle.kp_view_message.specs.Widths.{fit}
 -- at a byte that begins no token, and at an unexpected token, what kp_view_help says of it
 abbrev pub IsReadingHelp : ReadingFault → Option Help → Type 0
 IsReadingHelp (reading.NoToken byte) result = result ≡ byte_help byte
-IsReadingHelp (reading.Unexpected found expected width) result = HelpsAt found expected width result
+IsReadingHelp (reading.Unexpected found expected before) result = HelpsAt found expected before result
 IsReadingHelp reading.TooDeep result = result ≡ Some help.NamePart
 IsReadingHelp _ result = result ≡ None
 

@@ -8,7 +8,7 @@ use Rattle.kp_view_message.specs.declared.message.Message.TheVariants as message
 
 -- `expected CLASSES, found TOKEN`; nothing is said here of the texts of other messages
 abbrev pub reading_text : ReadingFault → Option (List ℕ)
-reading_text (faults.Unexpected found expected width) = Some (codes "expected " ++ expected_text expected ++ codes ", found " ++ found_text found)
+reading_text (faults.Unexpected found expected before) = Some (codes "expected " ++ expected_text expected ++ codes ", found " ++ found_text found)
 reading_text _ = None
 
 abbrev pub message_text : Message → Option (List ℕ)

@@ -1,7 +1,7 @@
 // The message for a violated rule.
 ghost use Rattle.std.specs.Prelude.{◌≡◌};
 ghost use Rattle.kp_view_message.specs.{Helps.AreHelps, Helps.IsHelp, Helps.second_help, Rules.rule_of, Texts.message_text};
-ghost use Rattle.kp_view_message.specs.inner.Places.{HasPlaces, HasTerms, places};
+ghost use Rattle.kp_view_message.specs.inner.Places.{HasPlaces, HasTerms};
 
 use crate::reading_fault::ReadingFault;
 use crate::section_fault::SectionMessage;
@@ -71,7 +71,7 @@ impl<'t> Message<'t> {
             Message::Stage(said) => said.text(),
             Message::Section(said) => said.text(),
             Message::Rule(_, sentence) => sentence.text,
-            Message::Fixed(number) => fixed(*number),
+            Message::Fixed(_) => "this violates a rule (docs/LANGUAGE.md)",
         }
     }
 
@@ -102,26 +102,5 @@ impl<'t> Display for Message<'t> {
             ) => { write!(f, "expected {expected}, found {found}") }
             _ => { write_phrase(f, self.text(), &self.terms()) }
         }
-    }
-}
-
-// The sentence for a rule where no more is known.
-fn fixed(number: u8) -> &'static str
-    ensures { places result.now ≡ 0 }
-{
-    match number {
-        1 => "no word of the language begins here",
-        4 => "no description goes on here",
-        5 => "this name is declared already",
-        6 => "this name isn't known here",
-        7 => "the kind of this name doesn't fit here",
-        8 => "a width is 1 to 64",
-        9 => "two widths differ",
-        10 => "the width of this value isn't that of its target",
-        11 => "a condition has 1 bit",
-        12 => "this slice lies outside its operand",
-        13 => "the value doesn't fit the width of the literal",
-        14 => "an address has another width",
-        _ => "this breaks a rule (docs/LANGUAGE.md)",
     }
 }

@@ -4,7 +4,7 @@ ghost use Rattle.kp_view_message.specs.{Helps.IsReadingHelp, Rules.reading_rule}
 ghost use Rattle.kp_view_message.specs.inner.Places.{count, of_reading, places};
 
 use kp_view_expected::Expected;
-use kp_view_help::{FoundToken, Help, Term, Terms};
+use kp_view_help::{Before, FoundToken, Help, Term, Terms};
 
 /// Why a text is no sentence of the language.
 #[derive(Clone, Copy)]
@@ -18,8 +18,7 @@ pub enum ReadingFault<'t> {
     Unexpected {
         found: FoundToken<'t>,
         expected: Expected,
-        /// The width of a value there, where it is declared right before.
-        width: Option<u64>,
+        before: Before,
     },
     AfterEnd,
     // E27
@@ -48,8 +47,8 @@ impl<'t> ReadingFault<'t> {
             ReadingFault::Unexpected {
                 found,
                 expected,
-                width,
-            } => Help::at_token(*found, *expected, *width),
+                before,
+            } => Help::at_token(*found, *expected, *before),
             ReadingFault::TooDeep => Some(Help::NamePart),
             _ => None,
         }

@@ -1,34 +1,42 @@
--- How messages write the instructions of the assembler (docs/DLX.md). Upper and lower case are taken as the same here, so that a message can say of a
--- mnemonic with capital letters what is wrong.
-use Rattle.std.specs.Prelude.{ℕ, List, Option, codes, find}
-use Rattle.std.specs.Str.{str_eq_ignore_ascii_case}
-use Rattle.kp_asm.specs.{Mnemonics.all_mnemonics, Mnemonics.spelling, declared.mnemonic.Mnemonic.Mnemonic, declared.mnemonic.Piece.Piece}
-use Rattle.kp_asm.specs.declared.mnemonic.Mnemonic.TheVariants as mnemonics
+-- How messages write the instructions of the assembler (docs/DLX.md).
+use Rattle.std.specs.Prelude.{ℕ, Bool, true, false, if◌then◌else◌, List, [], ◌∷◌, codes}
+use Rattle.kp_asm.specs.declared.mnemonic.Piece.{Piece}
 use Rattle.kp_asm.specs.declared.mnemonic.Piece.TheVariants as pieces
 
--- THE MNEMONIC with this text, if there is one.
-abbrev pub mnemonic_of : List ℕ → Option Mnemonic
-mnemonic_of word = find (λ m. str_eq_ignore_ascii_case (spelling m) word) all_mnemonics
+-- the second piece is a register
+abbrev pub is_register : Piece → Bool
+is_register pieces.Register = true
+is_register _ = false
 
--- how a message writes what follows the mnemonic
-abbrev pub form_text : Mnemonic → List ℕ
-form_text mnemonics.Addi = codes " rd, ra, number"
-form_text mnemonics.Slti = codes " rd, ra, number"
-form_text mnemonics.Andi = codes " rd, ra, number"
-form_text mnemonics.Ori = codes " rd, ra, number"
-form_text mnemonics.Xori = codes " rd, ra, number"
-form_text mnemonics.Lhi = codes " rd, number"
-form_text mnemonics.Lw = codes " rd, number(ra)"
-form_text mnemonics.Sw = codes " rd, number(ra)"
-form_text mnemonics.Beqz = codes " ra, label"
-form_text mnemonics.Bnez = codes " ra, label"
-form_text mnemonics.J = codes " label"
-form_text mnemonics.Jal = codes " label"
-form_text mnemonics.Jr = codes " ra"
-form_text mnemonics.Jalr = codes " ra"
-form_text mnemonics.Nop = codes ""
-form_text mnemonics.Word = codes " number"
-form_text _ = codes " rd, ra, rb"
+abbrev pub has_register : List Piece → Bool
+has_register (comma ∷ piece ∷ rest) = is_register piece
+has_register _ = false
+
+abbrev pub is_open : Piece → Bool
+is_open pieces.Open = true
+is_open _ = false
+
+abbrev pub begins_with_open : List Piece → Bool
+begins_with_open (piece ∷ rest) = is_open piece
+begins_with_open [] = false
+
+-- what follows a register, where this is the second operand
+abbrev pub operands_text : Piece → List Piece → List ℕ
+operands_text pieces.Register rest = if has_register rest then codes " rd, ra, rb" else codes " rd, ra, number"
+operands_text pieces.Label rest = codes " ra, label"
+operands_text _ rest = if begins_with_open rest then codes " rd, number(ra)" else codes " rd, number"
+
+-- what follows a register, up to the end of the line
+abbrev pub after_register : List Piece → List ℕ
+after_register (comma ∷ second ∷ rest) = operands_text second rest
+after_register _ = codes " ra"
+
+-- how a message writes what follows a mnemonic of this form
+abbrev pub form_text : List Piece → List ℕ
+form_text (pieces.Register ∷ rest) = after_register rest
+form_text (pieces.Label ∷ rest) = codes " label"
+form_text (pieces.End ∷ rest) = codes ""
+form_text _ = codes " number"
 
 -- how a message names a piece of an instruction: the punctuation by itself, and a number of any range in the same way
 abbrev pub piece_text : Piece → List ℕ

@@ -1,29 +1,8 @@
 // What follows the mnemonic of an instruction, as messages write it.
-ghost use Rattle.std.specs.Prelude.{◌≡◌, find};
-ghost use Rattle.std.specs.Str.{str_eq_ignore_ascii_case};
-ghost use Rattle.kp_asm.specs.Mnemonics.{spelling};
-ghost use Rattle.kp_view_texts.specs.Forms.{form_text, mnemonic_of, piece_text};
+ghost use Rattle.std.specs.Prelude.{◌≡◌};
+ghost use Rattle.kp_view_texts.specs.Forms.{after_register, begins_with_open, form_text, has_register, operands_text, piece_text};
 
-use kp_asm::{Mnemonic, Piece};
-
-/// The mnemonic with this text, upper and lower case taken as the same.
-pub(crate) fn mnemonic_of(word: &[u8]) -> Option<Mnemonic>
-    ensures { result ≡ mnemonic_of word.now }
-{
-    mnemonic_among(&Mnemonic::ALL, word)
-}
-
-// The first of these with this text.
-fn mnemonic_among(mnemonics: &[Mnemonic], word: &[u8]) -> Option<Mnemonic>
-    ensures { result ≡ find (λ m. str_eq_ignore_ascii_case (spelling m) word.now) mnemonics.now }
-{
-    for mnemonic in mnemonics {
-        if mnemonic.spelling().eq_ignore_ascii_case(word) {
-            return Some(*mnemonic);
-        }
-    }
-    None
-}
+use kp_asm::Piece;
 
 /// How a message names a piece of an instruction.
 pub(crate) fn piece_text(piece: Piece) -> &'static str
@@ -40,29 +19,55 @@ pub(crate) fn piece_text(piece: Piece) -> &'static str
     }
 }
 
-/// How a message writes what follows the mnemonic.
-pub(crate) fn form_text(mnemonic: Mnemonic) -> &'static str
-    ensures { result.now ≡ form_text mnemonic }
+/// How a message writes what follows a mnemonic of this form.
+pub(crate) fn form_text(form: &[Piece]) -> &'static str
+    ensures { result.now ≡ form_text form.now }
 {
-    match mnemonic {
-        Mnemonic::Add
-        | Mnemonic::Sub
-        | Mnemonic::And
-        | Mnemonic::Or
-        | Mnemonic::Xor
-        | Mnemonic::Sll
-        | Mnemonic::Srl
-        | Mnemonic::Mul
-        | Mnemonic::Seq
-        | Mnemonic::Slt => " rd, ra, rb",
-        Mnemonic::Addi | Mnemonic::Slti | Mnemonic::Andi | Mnemonic::Ori | Mnemonic::Xori =>
-            " rd, ra, number",
-        Mnemonic::Lhi => " rd, number",
-        Mnemonic::Lw | Mnemonic::Sw => " rd, number(ra)",
-        Mnemonic::Beqz | Mnemonic::Bnez => " ra, label",
-        Mnemonic::J | Mnemonic::Jal => " label",
-        Mnemonic::Jr | Mnemonic::Jalr => " ra",
-        Mnemonic::Nop => "",
-        Mnemonic::Word => " number",
+    match form {
+        [Piece::Register, rest @ ..] => after_register(rest),
+        [Piece::Label, ..] => " label",
+        [Piece::End, ..] => "",
+        _ => " number",
     }
+}
+
+// The same, up to the end of the line, after a register.
+fn after_register(form: &[Piece]) -> &'static str
+    ensures { result.now ≡ after_register form.now }
+{
+    match form {
+        [_comma, second, rest @ ..] => operands_text(*second, rest),
+        _ => " ra",
+    }
+}
+
+// After a register, where this is the second operand.
+fn operands_text(second: Piece, rest: &[Piece]) -> &'static str
+    ensures { result.now ≡ operands_text second rest.now }
+{
+    match second {
+        Piece::Register => if has_register(rest) {
+            " rd, ra, rb"
+        } else {
+            " rd, ra, number"
+        },
+        Piece::Label => " ra, label",
+        _ => if begins_with_open(rest) {
+            " rd, number(ra)"
+        } else {
+            " rd, number"
+        },
+    }
+}
+
+fn has_register(form: &[Piece]) -> bool
+    ensures { result ≡ has_register form.now }
+{
+    matches!(form, [_, Piece::Register, ..])
+}
+
+fn begins_with_open(form: &[Piece]) -> bool
+    ensures { result ≡ begins_with_open form.now }
+{
+    matches!(form, [Piece::Open, ..])
 }

@@ -1,15 +1,15 @@
-// Why the script of the debugger is rejected.
-ghost use Rattle.std.specs.Prelude.{◌≡◌, OnOk, length};
+// What is said of a violated rule of scripts.
+ghost use Rattle.std.specs.Prelude.{◌≡◌, [], ◌∷◌, OnOk, length, option_map};
 ghost use Rattle.kp_view_excerpt.specs.Notes.{AppendsNoteAt};
-ghost use Rattle.kp_view_texts.specs.{Marks.first_word_length, Marks.is_of_word, Marks.script_mark};
+ghost use Rattle.kp_view_help.specs.Phrases.{printed};
+ghost use Rattle.kp_view_texts.specs.{Helps.example, Helps.fits, Helps.script_help, Marks.is_of_word, Marks.script_mark, Marks.word_length};
 
-use crate::script_fault::{ScriptFault, Verb};
-use crate::tokens::{after_blanks, is_blank};
 use kp_ast::{Decl, Named};
-use kp_base::{NoMemory, Refusal, is_digit, run_length};
-use kp_bits::{LiteralFault, read_literal};
-use kp_view_excerpt::{excerpt_at, offset_of, write_fault};
-use kp_view_help::{Kind, Word};
+use kp_base::{Finding, NoMemory, run_length};
+use kp_debug_script::{ScriptFault, Verb};
+use kp_view_excerpt::{excerpt_at, offset_of, token_at, write_fault};
+use kp_view_help::{Kind, Line, Term, Terms, Word};
+use kp_width::declared_name;
 use std::alloc::Global;
 
 /// Appends what follows the head of a rule of scripts, for a job with these declarations: the message, the excerpt at its place, and what helps.
@@ -19,174 +19,93 @@ pub fn write_script(
     out: &mut Vec<u8>,
     text: &[u8],
     decls: &[Decl],
-    refusal: Refusal,
+    finding: Finding<ScriptFault>,
 ) -> Result<(), NoMemory>
-    ensures { OnOk result (AppendsNoteAt text.now refusal.place (script_mark text.now refusal) out.old.items out.new.items) }
+    ensures { OnOk result (AppendsNoteAt text.now finding.place (script_mark text.now finding.place) out.old.items out.new.items) }
 {
-    let (before, rest) = text.split_at(offset_of(text, refusal.place));
-    let (word, after) = next_word(rest);
-    let fault = fault_of(decls, before, word, after, refusal.number);
-    let excerpt = excerpt_at(text, refusal.place, word.len());
-    write_fault(alloc, out, &excerpt, &fault, &fault.help())
+    let Finding { place, fault } = finding;
+    let word = word_from(&text[offset_of(text, place)..]);
+    let message = Line {
+        text: sentence(fault),
+        terms: terms(text, decls, fault, Word(word)),
+    };
+    let excerpt = excerpt_at(text, place, word.len());
+    write_fault(alloc, out, &excerpt, &message, &help(fault))
 }
 
-// How the word after these bytes, with these after it, violates the rule.
-fn fault_of<'t>(
-    decls: &'t [Decl],
-    before: &'t [u8],
-    word: &'t [u8],
-    after: &'t [u8],
-    rule: u8,
-) -> ScriptFault<'t> {
-    match rule {
-        39 => no_command(word, after),
-        40 => ScriptFault::ManyCycles(Word(word)),
-        41 => wrong_register(decls, before, word, after),
-        _ => ScriptFault::Unknown,
-    }
-}
-
-// The first word of a line, and what follows it; no bytes where the line ends.
-fn next_word(line: &[u8]) -> (&[u8], &[u8])
-    ensures { length result.0.now ≡ first_word_length line.now }
+// The word that a text begins with.
+fn word_from(text: &[u8]) -> &[u8]
+    ensures { length result.now ≡ word_length text.now }
 {
-    let rest = after_blanks(line);
-    rest.split_at(run_length(rest, is_of_word))
+    &text[..run_length(text, is_of_word)]
 }
 
 // A byte of a word.
 fn is_of_word(byte: u8) -> bool
     ensures { result ≡ is_of_word byte }
 {
-    byte != b'\n' && !is_blank(byte)
+    !matches!(byte, b'\n' | b' ' | b'\t' | b'\r')
 }
 
-// E39.
-fn no_command<'t>(word: &'t [u8], after: &'t [u8]) -> ScriptFault<'t> {
-    let (first, rest) = next_word(after);
-    match Verb::of(word) {
-        None => ScriptFault::NoCommand(Word(word)),
-        Some(verb) => match verb {
-            Verb::Until => no_until(rest),
-            Verb::Step | Verb::Back => {
-                if first.is_empty() || !next_word(rest).0.is_empty() {
-                    ScriptFault::Words(verb)
-                } else {
-                    ScriptFault::NoCount {
-                        verb,
-                        word: Word(first),
-                    }
-                }
+// The sentence, in which the terms are printed.
+fn sentence(fault: ScriptFault) -> &'static str {
+    match fault {
+        ScriptFault::NoCommand => "a script has no command `{}`",
+        ScriptFault::Words { .. } => "`{}` is followed by {}",
+        ScriptFault::NoCount { .. } => "the number of cycles of `{}` is decimal digits, not `{}`",
+        ScriptFault::NoLiteral { .. } =>
+            "the value of `until` is a literal such as 8'h1f, not `{}`",
+        ScriptFault::ManyCycles => "a number of cycles is at most 100,000, not {}",
+        ScriptFault::Undeclared => "`{}` is declared nowhere; `until` watches a register",
+        ScriptFault::NoRegister { .. } => "`{}` is a {} (line {}); `until` watches a register",
+        ScriptFault::Width { .. } => "this value has {}; the register `{}` (line {}) has {}",
+        ScriptFault::Value { .. } => "{} doesn't fit {}",
+        ScriptFault::LargeValue => "a number of this literal is over 2^64-1",
+    }
+}
+
+// The terms of the sentence: the word at the place, and other facts.
+fn terms<'t>(text: &'t [u8], decls: &'t [Decl], fault: ScriptFault, word: Word<'t>) -> Terms<'t> {
+    let here = Term::Word(word);
+    match fault {
+        ScriptFault::Words { verb } => {
+            Terms::Two(Term::Text(spelling(verb)), Term::Text(rest(verb)))
+        }
+        ScriptFault::NoCount { verb, word } => {
+            Terms::Two(Term::Text(spelling(verb)), word_at(text, word))
+        }
+        ScriptFault::NoLiteral { word } => Terms::One(word_at(text, word)),
+        ScriptFault::NoRegister { number } => match decls.get(number) {
+            Some(decl) => {
+                let Named { at, .. } = declared_name(decl);
+                Terms::Three(here, Term::Kind(kind_of(decl)), line(at.line))
             }
-            Verb::Show | Verb::Row => ScriptFault::Words(verb),
+            None => Terms::One(here),
         },
+        ScriptFault::Width {
+            found,
+            wanted,
+            declared,
+            ..
+        } => Terms::Four(
+            Term::Bits(found),
+            Term::Word(Word(token_at(text, declared))),
+            line(declared.line),
+            Term::Bits(wanted),
+        ),
+        ScriptFault::Value { value, width } => Terms::Two(Term::Number(value), Term::Bits(width)),
+        _ => Terms::One(here),
     }
 }
 
-// The same for `until`, after its first word.
-fn no_until(line: &[u8]) -> ScriptFault<'_> {
-    let (literal, after) = next_word(line);
-    let (count, rest) = next_word(after);
-    if count.is_empty() || !next_word(rest).0.is_empty() {
-        ScriptFault::Words(Verb::Until)
-    } else if !is_literal(literal) {
-        ScriptFault::NoLiteral(Word(literal))
-    } else {
-        ScriptFault::NoCount {
-            verb: Verb::Until,
-            word: Word(count),
-        }
-    }
+// The word at an offset of the text.
+fn word_at(text: &[u8], at: u32) -> Term<'_> {
+    let (_before, rest) = text.split_at(text.len().min(at as usize));
+    Term::Word(Word(word_from(rest)))
 }
 
-// Whether a word has the form of a literal, whatever its value.
-fn is_literal(word: &[u8]) -> bool {
-    !matches!(read_literal(word), Err(LiteralFault::BadDigit))
-}
-
-// E41: the name of no register, with a literal and a count after it, or the literal, with a count after it.
-fn wrong_register<'t>(
-    decls: &'t [Decl],
-    before: &'t [u8],
-    word: &'t [u8],
-    after: &'t [u8],
-) -> ScriptFault<'t> {
-    let (_count, rest) = next_word(after);
-    if next_word(rest).0.is_empty() {
-        return wrong_value(decls, last_word(before), word);
-    }
-    for decl in decls {
-        if named(decl).name.bytes() == word {
-            return ScriptFault::NoRegister {
-                name: Word(word),
-                kind: kind_of(decl),
-                line: named(decl).at.line,
-            };
-        }
-    }
-    ScriptFault::Undeclared(Word(word))
-}
-
-// The last word of the last line of a text.
-fn last_word(text: &[u8]) -> &[u8] {
-    let (mut start, mut end) = (0, 0);
-    for i in 0..text.len() {
-        if text[i] == b'\n' {
-            start = i + 1;
-            end = i + 1;
-        } else if !is_blank(text[i]) {
-            if end != i {
-                start = i;
-            }
-            end = i + 1;
-        }
-    }
-    text.get(start..end).unwrap_or(&[])
-}
-
-// The value of a register that has no such value.
-fn wrong_value<'t>(decls: &'t [Decl], name: &'t [u8], word: &'t [u8]) -> ScriptFault<'t> {
-    let Ok(literal) = read_literal(word) else {
-        return ScriptFault::LargeValue;
-    };
-    for decl in decls {
-        if let Decl::Reg(named, width, _) = decl {
-            if named.name.bytes() == name && width.value != literal.width {
-                return ScriptFault::Width {
-                    found: literal.width,
-                    wanted: width.value,
-                    name: Word(name),
-                    line: named.at.line,
-                    value: fitting(literal.value, width.value),
-                };
-            }
-        }
-    }
-    ScriptFault::Value {
-        value: literal.value,
-        width: literal.width,
-    }
-}
-
-// The value, if it is below 2^width.
-fn fitting(value: u64, width: u64) -> Option<u64> {
-    if width >= 64 || value >> width == 0 {
-        Some(value)
-    } else {
-        None
-    }
-}
-
-fn named(decl: &Decl) -> &Named {
-    match decl {
-        Decl::Reg(named, _, _)
-        | Decl::File(named, _, _)
-        | Decl::Pipe(named, _)
-        | Decl::Hint(named, _, _)
-        | Decl::Sample(named, _, _) => named,
-        Decl::Target(output) => &output.name,
-        Decl::Func(function) => &function.name,
-    }
+fn line<'t>(number: u32) -> Term<'t> {
+    Term::Number(u64::from(number))
 }
 
 fn kind_of(decl: &Decl) -> Kind {
@@ -199,4 +118,76 @@ fn kind_of(decl: &Decl) -> Kind {
         Decl::Target(_) => Kind::Output,
         Decl::Func(_) => Kind::Function,
     }
+}
+
+fn spelling(verb: Verb) -> &'static str {
+    match verb {
+        Verb::Step => "step",
+        Verb::Back => "back",
+        Verb::Until => "until",
+        Verb::Show => "show",
+        Verb::Row => "row",
+    }
+}
+
+// What follows the keyword of a command.
+fn rest(verb: Verb) -> &'static str {
+    match verb {
+        Verb::Step | Verb::Back => "a number of cycles alone",
+        Verb::Until => "a register, a value and a number of cycles",
+        Verb::Show | Verb::Row => "nothing",
+    }
+}
+
+// An example of the command.
+fn example(verb: Verb) -> &'static str
+    ensures { result.now ≡ example verb }
+{
+    match verb {
+        Verb::Step => "step 10",
+        Verb::Back => "back 10",
+        Verb::Until => "until X 8'h02 100",
+        Verb::Show => "show",
+        Verb::Row => "row",
+    }
+}
+
+// What helps, if anything is known to.
+fn help<'t>(fault: ScriptFault) -> Option<Line<'t>>
+    ensures { option_map printed result ≡ script_help fault }
+{
+    match fault {
+        ScriptFault::NoCommand => Some(Line::plain(
+            "a line is `step N`, `back N`, `until R LIT N`, `show` or `row`, or empty",
+        )),
+        ScriptFault::Words { verb } | ScriptFault::NoCount { verb, .. } => {
+            Some(example_of(verb))
+        }
+        ScriptFault::NoLiteral { .. } => Some(example_of(Verb::Until)),
+        ScriptFault::ManyCycles => Some(Line::plain("write the command in several lines")),
+        ScriptFault::Width { wanted, value, .. } if fits(value, wanted) => {
+            let width = Term::Number(wanted);
+            Some(Line {
+                text: "give the literal {} bits: `{}'d{}`",
+                terms: Terms::Three(width, width, Term::Number(value)),
+            })
+        }
+        _ => None,
+    }
+}
+
+fn example_of<'t>(verb: Verb) -> Line<'t>
+    ensures { printed result ≡ example verb ∷ [] }
+{
+    Line {
+        text: "an example is `{}`",
+        terms: Terms::One(Term::Text(example(verb))),
+    }
+}
+
+// Whether the value is below 2^width.
+fn fits(value: u64, width: u64) -> bool
+    ensures { result ≡ fits value width }
+{
+    width >= 64 || value >> width == 0
 }

@@ -6,8 +6,7 @@ use kp_ast::{Decl, Job, Name};
 use kp_base::{NoMemory, Refusal};
 use kp_net::{NetFile, NetReg, Netlist, Parts, Port};
 use kp_view_excerpt::{Excerpt, write_fault};
-use kp_view_help::Word;
-use kp_view_verilog_faults::{OtherFault, OtherHelp};
+use kp_view_help::{Line, Term, Terms, Word};
 use std::alloc::Global;
 
 /// Appends what follows the head of V6: how the netlist of a text differs from those of the job before it, the excerpt at the place, and what helps. The
@@ -24,15 +23,19 @@ pub fn write_other(
 {
     let fault = fault_of(net.parts(), job);
     let excerpt = Excerpt::at(text, refusal.place);
-    write_fault(alloc, out, &excerpt, &fault, &Some(OtherHelp))
+    let help = Line::plain(
+        "the module has a register `r_X` for each register X of the job, a file `f_F` for each file F, and a port `s_Q` for each sample Q",
+    );
+    write_fault(alloc, out, &excerpt, &fault, &Some(help))
 }
 
-fn fault_of<'t>(parts: &'t Parts, job: &'t Job) -> OtherFault<'t> {
+fn fault_of<'t>(parts: &'t Parts, job: &'t Job) -> Line<'t> {
     let decls = job.decls.as_slice();
     if u64::from(parts.ext) != job.stages.value {
-        return OtherFault::Stages {
-            found: parts.ext,
-            wanted: job.stages.value,
+        let ext = Term::Bits(u64::from(parts.ext));
+        return Line {
+            text: "`ext` of the module has {}, and the job has {} stages",
+            terms: Terms::Two(ext, Term::Number(job.stages.value)),
         };
     }
     if let Some(fault) = of_samples(parts.samples.as_slice(), decls) {
@@ -46,12 +49,13 @@ fn fault_of<'t>(parts: &'t Parts, job: &'t Job) -> OtherFault<'t> {
     }
     match of_files(parts.files.as_slice(), decls) {
         Some(fault) => fault,
-        None => OtherFault::Unknown,
+        // Not reached, since the netlist is another one.
+        None => Line::plain("the module isn't one of the job"),
     }
 }
 
 // The ports of samples are those of the declared samples, in their order.
-fn of_samples<'t>(ports: &'t [Port], decls: &'t [Decl]) -> Option<OtherFault<'t>> {
+fn of_samples<'t>(ports: &'t [Port], decls: &'t [Decl]) -> Option<Line<'t>> {
     let mut left = ports;
     for decl in decls {
         if let Decl::Sample(named, width, _) = decl {
@@ -60,121 +64,114 @@ fn of_samples<'t>(ports: &'t [Port], decls: &'t [Decl]) -> Option<OtherFault<'t>
                     if is_of(port.name.bytes(), b's', &named.name)
                         && u64::from(port.width) == width.value => left = after,
                 _ => {
-                    return Some(OtherFault::NoSample {
-                        name: Word::of(&named.name),
-                        width: width.value,
+                    let name = Term::Word(Word::of(&named.name));
+                    return Some(Line {
+                        text: "the module has no port `s_{}` of {} for the sample `{}`",
+                        terms: Terms::Three(name, Term::Bits(width.value), name),
                     });
                 }
             }
         }
     }
     match left {
-        [port, ..] => Some(OtherFault::MoreSamples(Word(port.name.bytes()))),
+        [port, ..] => Some(Line::of(
+            "the port `{}` of the module is of no sample of the job",
+            Word(port.name.bytes()),
+        )),
         [] => None,
     }
 }
 
-// What an instruction may change: a register with its width, or a file with the widths of its words and addresses.
-#[derive(Clone, Copy)]
-enum Target<'t> {
-    Register(&'t Name, u64),
-    File(&'t Name, u64, u64),
-}
-
-impl<'t> Target<'t> {
-    // The one that is declared, if it is one.
-    fn of(decl: &'t Decl) -> Option<Target<'t>> {
-        match decl {
-            Decl::Reg(named, width, _) => Some(Target::Register(&named.name, width.value)),
-            Decl::File(named, width, address) => {
-                Some(Target::File(&named.name, width.value, address.value))
-            }
-            _ => None,
-        }
-    }
-
-    // The fault that the netlist doesn't have it.
-    fn missing(self) -> OtherFault<'t> {
-        match self {
-            Target::Register(name, width) => OtherFault::NoRegister {
-                name: Word::of(name),
-                width,
-            },
-            Target::File(name, width, address) => OtherFault::NoFile {
-                name: Word::of(name),
-                width,
-                address,
-            },
-        }
-    }
-}
-
 // Each declared register and each declared file is in the netlist.
-fn of_targets<'t>(parts: &Parts, decls: &'t [Decl]) -> Option<OtherFault<'t>> {
+fn of_targets<'t>(parts: &Parts, decls: &'t [Decl]) -> Option<Line<'t>> {
     for decl in decls {
-        if let Some(target) = Target::of(decl) {
-            if !has_target(parts, target) {
-                return Some(target.missing());
+        let missing = match decl {
+            Decl::Reg(named, width, _) => {
+                of_register(parts.regs.as_slice(), &named.name, width.value)
             }
+            Decl::File(named, width, address) => of_file(
+                parts.files.as_slice(),
+                &named.name,
+                width.value,
+                address.value,
+            ),
+            _ => None,
+        };
+        if missing.is_some() {
+            return missing;
         }
     }
     None
 }
 
-fn has_target(parts: &Parts, target: Target<'_>) -> bool {
-    match target {
-        Target::Register(name, width) => has_register(parts.regs.as_slice(), name, width),
-        Target::File(name, width, address) => {
-            has_file(parts.files.as_slice(), name, width, address)
-        }
+fn of_register<'t>(regs: &[NetReg], name: &'t Name, width: u64) -> Option<Line<'t>> {
+    let is_there = regs.iter().any(|reg| {
+        is_of(reg.name.bytes(), b'r', name) && u64::from(reg.start.width()) == width
+    });
+    if is_there {
+        return None;
     }
+    let name = Term::Word(Word::of(name));
+    Some(Line {
+        text: "the module has no register `r_{}` of {} for the register `{}`",
+        terms: Terms::Three(name, Term::Bits(width), name),
+    })
 }
 
-fn has_register(regs: &[NetReg], name: &Name, width: u64) -> bool {
-    regs.iter().any(|reg| is_of(reg.name.bytes(), b'r', name)
-        && u64::from(reg.start.width()) == width)
-}
-
-fn has_file(files: &[NetFile], name: &Name, width: u64, address: u64) -> bool {
-    files.iter().any(|file| {
+fn of_file<'t>(files: &[NetFile], name: &'t Name, width: u64, address: u64) -> Option<Line<'t>> {
+    let is_there = files.iter().any(|file| {
         is_of(file.name.bytes(), b'f', name)
             && u64::from(file.width) == width
             && u64::from(file.address_width) == address
+    });
+    if is_there {
+        return None;
+    }
+    let name = Term::Word(Word::of(name));
+    Some(Line {
+        text: "the module has no file `f_{}` with words of {} and addresses of {} for the file `{}`",
+        terms: Terms::Four(name, Term::Bits(width), Term::Bits(address), name),
     })
 }
 
 // Each register whose name begins with `r_` is declared.
-fn of_registers<'t>(regs: &'t [NetReg], decls: &[Decl]) -> Option<OtherFault<'t>> {
+fn of_registers<'t>(regs: &'t [NetReg], decls: &[Decl]) -> Option<Line<'t>> {
     for reg in regs {
         let label = reg.name.bytes();
         if label.starts_with(b"r_") && !declares_register(decls, label) {
-            return Some(OtherFault::MoreRegisters(Word(label)));
+            return Some(Line::of(
+                "the register `{}` of the module is no register of the job",
+                Word(label),
+            ));
         }
     }
     None
 }
 
 // Each file is declared.
-fn of_files<'t>(files: &'t [NetFile], decls: &[Decl]) -> Option<OtherFault<'t>> {
+fn of_files<'t>(files: &'t [NetFile], decls: &[Decl]) -> Option<Line<'t>> {
     for file in files {
         let label = file.name.bytes();
         if !declares_file(decls, label) {
-            return Some(OtherFault::MoreFiles(Word(label)));
+            return Some(Line::of(
+                "the file `{}` of the module is no file of the job",
+                Word(label),
+            ));
         }
     }
     None
 }
 
 fn declares_register(decls: &[Decl], label: &[u8]) -> bool {
-    decls.iter().any(|decl| match Target::of(decl) {
-        Some(Target::Register(name, _)) => is_of(label, b'r', name),
+    decls.iter().any(|decl| match decl {
+        Decl::Reg(named, _, _) => is_of(label, b'r', &named.name),
         _ => false,
     })
 }
 
 fn declares_file(decls: &[Decl], label: &[u8]) -> bool {
-    decls.iter().any(|decl| match Target::of(decl) {
-        Some(Target::File(name, _, _)) => is_of(label, b'f', name),
+    decls.iter().any(|decl| match decl {
+        Decl::File(named, _, _) => is_of(label, b'f', &named.name),
         _ => false,
     })
 }

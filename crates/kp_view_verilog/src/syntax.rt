@@ -1,9 +1,10 @@
 // Why no token begins at a place, or no module continues with one: V1 and V2.
-use kp_base::{NoMemory, is_digit, is_letter};
+ghost use Rattle.std.specs.Prelude.{◌≤◌, length};
+
+use kp_base::{is_digit, is_letter};
 use kp_view_help::{FoundToken, Word};
-use kp_view_verilog_faults::{Expected, ReadingFault, following, name_length};
+use kp_view_verilog_faults::{ReadingFault, name_length};
 use kp_vlog::{VKind, VToken};
-use std::alloc::Global;
 
 /// Why no token begins at the head of a text.
 pub(crate) fn no_token(rest: &[u8]) -> ReadingFault<'_> {
@@ -16,17 +17,25 @@ pub(crate) fn no_token(rest: &[u8]) -> ReadingFault<'_> {
     }
 }
 
-/// The token at an offset, or the end of the text.
-pub(crate) fn found_at<'t>(text: &'t [u8], tokens: &[VToken], at: usize) -> FoundToken<'t> {
-    for token in tokens {
-        if token.start as usize == at {
-            return found_as(*token, Word(bytes_of(text, *token)));
+/// The number of the first token from an offset on, or of all tokens.
+pub(crate) fn index_of(tokens: &[VToken], at: usize) -> usize
+    ensures { result ≤ length tokens.now }
+{
+    for (i, token) in tokens.iter().enumerate() {
+        if token.start as usize >= at {
+            return i;
         }
     }
-    FoundToken::End
+    tokens.len()
 }
 
-fn found_as(token: VToken, word: Word<'_>) -> FoundToken<'_> {
+/// The token of this number, or the end of the text.
+pub(crate) fn found<'t>(text: &'t [u8], tokens: &[VToken], number: usize) -> FoundToken<'t> {
+    let Some(token) = tokens.get(number) else {
+        return FoundToken::End;
+    };
+    let rest = text.get(token.start as usize..).unwrap_or(&[]);
+    let word = Word(rest.get(..token.len as usize).unwrap_or(&[]));
     match token.kind {
         VKind::Ident => FoundToken::Name(word),
         VKind::Keyword(_) => FoundToken::Keyword(word),
@@ -34,24 +43,4 @@ fn found_as(token: VToken, word: Word<'_>) -> FoundToken<'_> {
         VKind::Literal(_) => FoundToken::Literal(word),
         VKind::Mark(_) => FoundToken::Mark(word),
     }
-}
-
-/// The bytes of a token.
-pub(crate) fn bytes_of<'t>(text: &'t [u8], token: VToken) -> &'t [u8] {
-    let rest = text.get(token.start as usize..).unwrap_or(&[]);
-    rest.get(..token.len as usize).unwrap_or(&[])
-}
-
-/// The classes of tokens with which some module continues after the tokens before an offset.
-pub(crate) fn expected_at(
-    alloc: Global,
-    tokens: &[VToken],
-    at: usize,
-) -> Result<Expected, NoMemory> {
-    for (i, token) in tokens.iter().enumerate() {
-        if token.start as usize >= at {
-            return following(alloc, &tokens[..i]);
-        }
-    }
-    following(alloc, tokens)
 }

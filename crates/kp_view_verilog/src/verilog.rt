@@ -4,10 +4,13 @@ ghost use Rattle.kp_view_excerpt.specs.{Excerpts.IsExcerpt, Lines.line_at, Notes
 ghost use Rattle.kp_view_verilog.specs.{Marks.Marks, Marks.from_place, Marks.token_length, Marks.unread_length};
 
 use crate::lines::{from_place, offset_at, token_length, unread_length};
-use crate::syntax::{expected_at, found_at, no_token};
+use crate::syntax::{found, index_of, no_token};
 use kp_base::{Finding, NoMemory, Place, Refusal, Refused};
 use kp_view_excerpt::{Excerpt, excerpt_at, write_fault};
-use kp_view_verilog_faults::{DriverMessage, NameMessage, ReadingFault, Source, WidthMessage};
+use kp_view_verilog_faults::{
+    ReadingFault, Source, driver_help, driver_sentence, following, name_help, name_sentence,
+    width_help, width_sentence,
+};
 use kp_vlog::{VModule, VToken, vlex};
 use kp_vread_parse::vparse;
 use kp_vread_rules::{ModuleFault, module_findings};
@@ -68,10 +71,10 @@ fn write_wrong_token(
 ) -> Result<(), NoMemory>
     ensures { OnOk result (AppendsNoteAt text.now refusal.place (token_length (from_place text.now refusal.place)) out.old.items out.new.items) }
 {
-    let at = offset_at(text, refusal.place);
-    let found = found_at(text, tokens, at);
+    let number = index_of(tokens, offset_at(text, refusal.place));
+    let found = found(text, tokens, number);
     let excerpt = excerpt_of(text, refusal.place);
-    let expected = expected_at(alloc, tokens, at)?;
+    let expected = following(alloc, &tokens[..number])?;
     let fault = ReadingFault::Unexpected { found, expected };
     write_fault(alloc, out, &excerpt, &fault, &fault.help())
 }
@@ -91,7 +94,11 @@ fn write_of_module(
     let findings = module_findings(alloc, text, module, 1)?;
     match findings.as_slice() {
         [finding, ..] => write_finding(alloc, out, text, &excerpt, *finding),
-        [] => write_unknown(alloc, out, &excerpt),
+        // Not reached, since the module violates a rule.
+        [] => {
+            let fault = ReadingFault::Unknown;
+            write_fault(alloc, out, &excerpt, &fault, &fault.help())
+        }
     }
 }
 
@@ -108,38 +115,18 @@ fn write_finding(
     let name = source.name_at(offset_at(text, finding.place));
     match finding.fault {
         ModuleFault::Name(fault) => {
-            let message = NameMessage {
-                source,
-                name,
-                fault,
-            };
-            write_fault(alloc, out, excerpt, &message, &message.help())
+            let sentence = name_sentence(source, name, fault);
+            write_fault(alloc, out, excerpt, &sentence, &name_help(name, fault))
         }
         ModuleFault::Width(fault) => {
-            let message = WidthMessage {
-                source,
-                name,
-                fault,
-            };
-            write_fault(alloc, out, excerpt, &message, &message.help())
+            let sentence = width_sentence(source, name, fault);
+            write_fault(alloc, out, excerpt, &sentence, &width_help(name, fault))
         }
         ModuleFault::Driver(fault) => {
-            let message = DriverMessage {
-                source,
-                name,
-                fault,
-            };
-            write_fault(alloc, out, excerpt, &message, &message.help())
+            let sentence = driver_sentence(source, name, fault);
+            write_fault(alloc, out, excerpt, &sentence, &driver_help(name, fault))
         }
     }
-}
-
-// A violation of which no more is known.
-fn write_unknown(alloc: Global, out: &mut Vec<u8>, excerpt: &Excerpt<'_>) -> Result<(), NoMemory>
-    ensures { OnOk result (AppendsNote excerpt.now out.old.items out.new.items) }
-{
-    let fault = ReadingFault::Unknown;
-    write_fault(alloc, out, excerpt, &fault, &fault.help())
 }
 
 // The excerpt with a mark under the token at the place.

@@ -3,10 +3,9 @@ ghost use Rattle.std.specs.Prelude.{◌≡◌, ◌==◌};
 ghost use Rattle.kp_vlog.specs.Language.{keyword_class, mark_class};
 ghost use Rattle.kp_view_verilog_faults.specs.{Classes.class_of, Marks.IsRead, inner.Plain.number};
 
-use crate::sentence::write_named;
-use kp_view_help::Word;
+use kp_view_help::{Line, Word};
 use kp_vlog::{Keyword, Mark, VKind};
-use std::fmt;
+use std::fmt::{self, Display};
 
 /// A class of tokens: where the grammar allows one of them, it allows each.
 #[derive(Clone, Copy)]
@@ -65,11 +64,11 @@ fn is_mark(class: Class, mark: Mark) -> bool
     }
 }
 
-impl fmt::Display for Class {
+impl Display for Class {
     fn fmt<W: fmt::Write>(&self, f: &mut fmt::Formatter<W>) -> fmt::Result {
         match self {
-            Class::Keyword(word) => write_named(f, "`{}`", Word(word.spelling()), 0),
-            Class::Mark(mark) => write_named(f, "`{}`", Word(mark_text(*mark).as_bytes()), 0),
+            Class::Keyword(word) => Line::of("`{}`", Word(word.spelling())).fmt(f),
+            Class::Mark(mark) => Line::of("`{}`", Word(mark_text(*mark).as_bytes())).fmt(f),
             Class::Name => f.write_str("a name"),
             Class::Number => f.write_str("a number"),
             Class::Literal => f.write_str("a literal such as 8'h1f"),
@@ -77,8 +76,8 @@ impl fmt::Display for Class {
     }
 }
 
-/// How a mark is written.
-pub fn mark_text(mark: Mark) -> &'static str
+// How a mark is written.
+fn mark_text(mark: Mark) -> &'static str
     ensures { IsRead result.now mark }
 {
     match mark {

@@ -1,10 +1,10 @@
 // Why a text is no module of the subset: V1 and V2.
 ghost use Rattle.std.specs.Prelude.{◌≡◌, option_map};
-ghost use Rattle.kp_view_verilog_faults.specs.Helps.{reading_help, printed};
+ghost use Rattle.kp_view_help.specs.Phrases.{printed};
+ghost use Rattle.kp_view_verilog_faults.specs.Helps.{reading_help};
 
-use crate::help::Help;
 use crate::set::Expected;
-use kp_view_help::{FoundToken, Term, Word};
+use kp_view_help::{FoundToken, Line, Term};
 use std::fmt::{self, Display};
 
 /// Why a text is no module of the subset.
@@ -57,22 +57,17 @@ impl<'t> Display for ReadingFault<'t> {
 
 impl<'t> ReadingFault<'t> {
     /// What helps, if anything is known to.
-    pub fn help(&self) -> Option<Help<'t>>
+    pub fn help(&self) -> Option<Line<'t>>
         ensures { option_map printed result ≡ reading_help self.now }
     {
         match self {
-            ReadingFault::NoToken(b'`') => Some(Help {
-                text: "the subset has no compiler directives: remove the line",
-                name: Word(b""),
-            }),
-            ReadingFault::NoToken(b'!') => Some(Help {
-                text: "the subset has `~`, and no `!`",
-                name: Word(b""),
-            }),
-            ReadingFault::NoToken(b'/' | b'%') => Some(Help {
-                text: "the subset has no division and no remainder",
-                name: Word(b""),
-            }),
+            ReadingFault::NoToken(b'`') => Some(Line::plain(
+                "the subset has no compiler directives: remove the line",
+            )),
+            ReadingFault::NoToken(b'!') => Some(Line::plain("the subset has `~`, and no `!`")),
+            ReadingFault::NoToken(b'/' | b'%') => Some(Line::plain(
+                "the subset has no division and no remainder",
+            )),
             _ => None,
         }
     }

@@ -1,215 +1,157 @@
 // A violated rule of widths: V4.
+ghost use Rattle.std.specs.Prelude.{option_map};
+ghost use Rattle.kp_view_help.specs.Phrases.{printed};
 ghost use Rattle.kp_view_verilog_faults.specs.Helps.{HasBits, HelpsWidth};
 
-use crate::sentence::{write_bits, write_named, write_numbers};
 use crate::source::Source;
 use kp_bits::BinOp;
-use kp_view_help::{Term, Terms, Word, write_phrase};
+use kp_view_help::{Line, Term, Terms, Word};
 use kp_vread_rules::{Side, WidthFault};
-use std::fmt::{self, Display};
 
-/// The sentence for a violated rule of widths, and what helps.
-#[derive(Clone, Copy)]
-pub struct WidthMessage<'t> {
-    pub source: Source<'t>,
-    /// The name at the place.
-    pub name: Word<'t>,
-    pub fault: WidthFault,
-}
-
-impl<'t> WidthMessage<'t> {
-    // The first part of the sentence, in which the name and the number are printed.
-    fn text(&self) -> &'static str {
-        match self.fault {
-            WidthFault::Range => "a range is `[h:0]`, where h is 63 at most",
-            WidthFault::StallRange => "the range of `{}` is `[h:0]`, where h is 1 to 11",
-            WidthFault::BackRange => "the range of `back` is `[3:0]`",
-            WidthFault::Words =>
-                "the words of a file are `[0:w]`, where w + 1 is 2, 4, 8 or another power of 2 up to 65,536",
-            WidthFault::Files => "a module has at most 16 files",
-            WidthFault::Operands { .. } =>
-                "the target and the operands of `{}` have different widths: ",
-            WidthFault::Compared { .. } => "the operands of `{}` have different widths: ",
-            WidthFault::Shifted { .. } =>
-                "the target and the left operand of `{}` have different widths: ",
-            WidthFault::Test(_) => "a test has 1 bit; ",
-            WidthFault::Branches { .. } => "the target and the branches have different widths: ",
-            WidthFault::Address { .. } => "an address of `{}` has ",
-            WidthFault::LiteralWidth(_) => "a literal has 1 to 64 bits, not ",
-            WidthFault::Index { .. } => "the words of `{}` are numbered 0 to {}, and ",
-            WidthFault::Loop { .. } => "the `for` of `{}` goes over all its {} words",
-            WidthFault::Value { .. }
-            | WidthFault::Comparison { .. }
-            | WidthFault::Slice { .. }
-            | WidthFault::LiteralValue { .. } => "",
-        }
-    }
-
-    // The name that is printed in it. Branches that call for different texts don't join: they return.
-    fn printed_name(&self) -> Word<'t> {
-        match self.fault {
-            WidthFault::Operands { op, .. }
-            | WidthFault::Compared { op, .. }
-            | WidthFault::Shifted { op, .. } => {
-                return Word(op.symbol().as_bytes());
-            }
-            WidthFault::Address { file, .. } => self.source.name_at(file as usize),
-            _ => self.name,
-        }
-    }
-
-    // The number that is printed in it.
-    fn number(&self) -> u64 {
-        match self.fault {
-            WidthFault::Index { words, .. } => words.saturating_sub(1),
-            WidthFault::Loop { words } => words,
-            _ => 0,
-        }
-    }
-
-    // A name with its width and the line of its declaration.
-    fn sized(&self, side: Side) -> Sized<'t> {
-        Sized {
-            name: self.source.name_at(side.name as usize),
-            line: self.source.line_at(side.declared),
-            width: bits(side.width),
-        }
+/// The sentence for a violated rule of widths, in a text with this name at its place.
+pub fn width_sentence<'t>(source: Source<'t>, name: Word<'t>, fault: WidthFault) -> Line<'t> {
+    Line {
+        text: text(fault),
+        terms: terms(source, name, fault),
     }
 }
 
-impl<'t> Display for WidthMessage<'t> {
-    fn fmt<W: fmt::Write>(&self, f: &mut fmt::Formatter<W>) -> fmt::Result {
-        write_named(f, self.text(), self.printed_name(), self.number())?;
-        match self.fault {
-            WidthFault::Value { target, found } => {
-                self.sized(target).fmt(f)?;
-                write_bits(f, ", and this value has ", bits(found))
-            }
-            WidthFault::Operands { a, b, target, .. } | WidthFault::Branches { a, b, target } => {
-                self.sized(target).fmt(f)?;
-                f.write_str(", ")?;
-                write_two(f, self.sized(a), self.sized(b))
-            }
-            WidthFault::Compared { a, b, .. } => write_two(f, self.sized(a), self.sized(b)),
-            WidthFault::Comparison { op, target } => write_test(f, op, self.sized(target)),
-            WidthFault::Shifted { a, target, .. } => {
-                write_two(f, self.sized(target), self.sized(a))
-            }
-            WidthFault::Test(side) => self.sized(side).fmt(f),
-            WidthFault::Slice { high, low, width } => write_slice(f, high, low, bits(width)),
-            WidthFault::Address {
-                address,
-                wanted,
-                ..
-            } => { write_address(f, self.sized(address), u64::from(wanted)) }
-            WidthFault::LiteralWidth(width) => width.fmt(f),
-            WidthFault::LiteralValue { value, width } => write_literal(f, value, width),
-            WidthFault::Index { found, .. } => {
-                write_numbers(f, "{} isn't one of them", found, 0)
-            }
-            _ => Ok(()),
-        }
+fn text(fault: WidthFault) -> &'static str {
+    match fault {
+        WidthFault::Range => "a range is `[h:0]`, where h is 63 at most",
+        WidthFault::StallRange => "the range of `{}` is `[h:0]`, where h is 1 to 11",
+        WidthFault::BackRange => "the range of `back` is `[3:0]`",
+        WidthFault::Words =>
+            "the words of a file are `[0:w]`, where w + 1 is 2, 4, 8 or another power of 2 up to 65,536",
+        WidthFault::Files => "a module has at most 16 files",
+        WidthFault::Value { .. } => "{}, and this value has {}",
+        WidthFault::Operands { .. } =>
+            "the target and the operands of `{}` have different widths: {}, {} and {}",
+        WidthFault::Compared { .. } => "the operands of `{}` have different widths: {} and {}",
+        WidthFault::Comparison { .. } => "{}, and `{}` gives 1 bit",
+        WidthFault::Shifted { .. } =>
+            "the target and the left operand of `{}` have different widths: {} and {}",
+        WidthFault::Test(_) => "a test has 1 bit; {}",
+        WidthFault::Branches { .. } =>
+            "the target and the branches have different widths: {}, {} and {}",
+        WidthFault::Slice { high, low, .. } if high < low =>
+            "the high number is written first: `[{}:{}]`",
+        WidthFault::Slice { .. } => "bits {} to {} of {}: the bits are numbered {} to 0",
+        WidthFault::Address { .. } => "an address of `{}` has {}; {}",
+        WidthFault::LiteralWidth(_) => "a literal has 1 to 64 bits, not {}",
+        WidthFault::LiteralValue { .. } => "{} doesn't fit {}",
+        WidthFault::Index { .. } =>
+            "the words of `{}` are numbered 0 to {}, and {} isn't one of them",
+        WidthFault::Loop { .. } => "the `for` of `{}` goes over all its {} words",
     }
 }
 
-// A width that is printed: the greatest 64-bit number where it is greater.
-fn bits(width: u128) -> u64 {
+fn terms<'t>(source: Source<'t>, name: Word<'t>, fault: WidthFault) -> Terms<'t> {
+    match fault {
+        WidthFault::Value { target, found } => Terms::Two(sized(source, target), bits(found)),
+        WidthFault::Operands { op, a, b, target } => Terms::Four(
+            symbol(op),
+            sized(source, target),
+            sized(source, a),
+            sized(source, b),
+        ),
+        WidthFault::Compared { op, a, b } => {
+            Terms::Three(symbol(op), sized(source, a), sized(source, b))
+        }
+        WidthFault::Comparison { op, target } => Terms::Two(sized(source, target), symbol(op)),
+        WidthFault::Shifted { op, a, target } => {
+            Terms::Three(symbol(op), sized(source, target), sized(source, a))
+        }
+        WidthFault::Test(side) => Terms::One(sized(source, side)),
+        WidthFault::Branches { a, b, target } => Terms::Three(
+            sized(source, target),
+            sized(source, a),
+            sized(source, b),
+        ),
+        WidthFault::Address {
+            address,
+            file,
+            wanted,
+        } => Terms::Three(
+            Term::Word(source.name_at(file as usize)),
+            Term::Bits(u64::from(wanted)),
+            sized(source, address),
+        ),
+        fault => numbers(name, fault),
+    }
+}
+
+// The terms of a sentence with numbers, of this name.
+fn numbers<'t>(name: Word<'t>, fault: WidthFault) -> Terms<'t> {
+    let here = Term::Word(name);
+    match fault {
+        WidthFault::Slice { high, low, .. } if high < low => {
+            Terms::Two(Term::Number(low), Term::Number(high))
+        }
+        WidthFault::Slice { high, low, width } => {
+            let last = printed_width(width).saturating_sub(1);
+            Terms::Four(
+                Term::Number(high),
+                Term::Number(low),
+                bits(width),
+                Term::Number(last),
+            )
+        }
+        WidthFault::LiteralWidth(width) => Terms::One(Term::Number(width)),
+        WidthFault::LiteralValue { value, width } => {
+            Terms::Two(Term::Number(value), Term::Bits(width))
+        }
+        WidthFault::Index { words, found } => Terms::Three(
+            here,
+            Term::Number(words.saturating_sub(1)),
+            Term::Number(found),
+        ),
+        WidthFault::Loop { words } => Terms::Two(here, Term::Number(words)),
+        _ => Terms::One(here),
+    }
+}
+
+// A name with its width and the line of its declaration.
+fn sized<'t>(source: Source<'t>, side: Side) -> Term<'t> {
+    Term::Sized {
+        name: source.name_at(side.name as usize),
+        line: source.line_at(side.declared),
+        bits: printed_width(side.width),
+    }
+}
+
+fn bits<'t>(width: u128) -> Term<'t> {
+    Term::Bits(printed_width(width))
+}
+
+// A width as it is printed: the greatest 64-bit number where it is greater.
+fn printed_width(width: u128) -> u64 {
     match u64::try_from(width) {
         Ok(width) => width,
         Err(_) => u64::MAX,
     }
 }
 
-// A name with its width and the line of its declaration.
-#[derive(Clone, Copy)]
-struct Sized<'t> {
-    name: Word<'t>,
-    line: u64,
-    width: u64,
+fn symbol<'t>(op: BinOp) -> Term<'t> {
+    Term::Text(op.symbol())
 }
 
-impl<'t> Display for Sized<'t> {
-    fn fmt<W: fmt::Write>(&self, f: &mut fmt::Formatter<W>) -> fmt::Result {
-        write_named(f, "`{}` (line {})", self.name, self.line)?;
-        write_bits(f, " has ", self.width)
-    }
-}
-
-// The target of a comparison, and the operator.
-fn write_test<W: fmt::Write>(
-    f: &mut fmt::Formatter<W>,
-    op: BinOp,
-    target: Sized<'_>,
-) -> fmt::Result {
-    target.fmt(f)?;
-    write_named(f, ", and `{}` gives 1 bit", Word(op.symbol().as_bytes()), 0)
-}
-
-// The width that is wanted of an address, and the address.
-fn write_address<W: fmt::Write>(
-    f: &mut fmt::Formatter<W>,
-    address: Sized<'_>,
-    wanted: u64,
-) -> fmt::Result {
-    write_bits(f, "", wanted)?;
-    f.write_str("; ")?;
-    address.fmt(f)
-}
-
-fn write_literal<W: fmt::Write>(f: &mut fmt::Formatter<W>, value: u64, width: u64) -> fmt::Result {
-    value.fmt(f)?;
-    write_bits(f, " doesn't fit ", width)
-}
-
-// The sentence for the bits of a slice, of a name with this width.
-fn write_slice<W: fmt::Write>(
-    f: &mut fmt::Formatter<W>,
-    high: u64,
-    low: u64,
-    width: u64,
-) -> fmt::Result {
-    if high < low {
-        return write_numbers(f, "the high number is written first: `[{}:{}]`", low, high);
-    }
-    write_numbers(f, "bits {} to {}", high, low)?;
-    write_bits(f, " of ", width)?;
-    write_numbers(
-        f,
-        ": the bits are numbered {} to 0",
-        width.saturating_sub(1),
-        0,
-    )
-}
-
-fn write_two<W: fmt::Write>(f: &mut fmt::Formatter<W>, a: Sized<'_>, b: Sized<'_>) -> fmt::Result {
-    a.fmt(f)?;
-    f.write_str(" and ")?;
-    b.fmt(f)
-}
-
-/// What helps where a rule of widths is violated.
-#[derive(Clone, Copy)]
-pub enum WidthHelp<'t> {
-    Literal { width: u64, value: u64 },
-    Loop { file: Word<'t>, words: u64 },
-}
-
-impl<'t> WidthMessage<'t> {
-    /// What helps, if anything is known to.
-    pub fn help(&self) -> Option<WidthHelp<'t>>
-        ensures { HelpsWidth self.now.name self.now.fault result }
-    {
-        match self.fault {
-            WidthFault::LiteralValue { value, .. } => Some(WidthHelp::Literal {
-                width: bits_of(value),
-                value,
-            }),
-            WidthFault::Loop { words } => Some(WidthHelp::Loop {
-                file: self.name,
-                words,
-            }),
-            _ => None,
+/// What helps where this name violates a rule of widths, if anything is known to.
+pub fn width_help<'t>(name: Word<'t>, fault: WidthFault) -> Option<Line<'t>>
+    ensures { HelpsWidth name.entry.0.now fault (option_map printed result) }
+{
+    match fault {
+        WidthFault::LiteralValue { value, .. } => {
+            let width = bits_of(value);
+            let terms = Terms::Three(Term::Bits(width), Term::Number(width), Term::Number(value));
+            let text = "it needs {}: `{}'d{}`";
+            Some(Line { text, terms })
         }
+        WidthFault::Loop { words } => Some(Line {
+            text: "write `for (i = 0; i < {}; i = i + 1) {}[i] = ..;`",
+            terms: Terms::Two(Term::Number(words), Term::Word(name)),
+        }),
+        _ => None,
     }
 }
 
@@ -218,34 +160,4 @@ fn bits_of(value: u64) -> u64
     ensures { HasBits result value }
 {
     (64 - value.leading_zeros()) as u64
-}
-
-impl<'t> WidthHelp<'t> {
-    // The line, in which the terms are printed.
-    fn text(&self) -> &'static str {
-        match self {
-            WidthHelp::Literal { .. } => "it needs {}: `{}'d{}`",
-            WidthHelp::Loop { .. } => "write `for (i = 0; i < {}; i = i + 1) {}[i] = ..;`",
-        }
-    }
-
-    // The terms of the line.
-    fn terms(&self) -> Terms<'t> {
-        match self {
-            WidthHelp::Literal { width, value } => Terms::Three(
-                Term::Bits(*width),
-                Term::Number(*width),
-                Term::Number(*value),
-            ),
-            WidthHelp::Loop { file, words } => {
-                Terms::Two(Term::Number(*words), Term::Word(*file))
-            }
-        }
-    }
-}
-
-impl<'t> Display for WidthHelp<'t> {
-    fn fmt<W: fmt::Write>(&self, f: &mut fmt::Formatter<W>) -> fmt::Result {
-        write_phrase(f, self.text(), &self.terms())
-    }
 }

@@ -2,13 +2,13 @@
 //! `explain`, that of `same`, which has two files, or that of all other words. The help of `explain` is printed here.
 #![tactic(auto)]
 
-use kp_base::{NoMemory, ReadAll, StdSink, StdSource, read_all, write_all};
+use kp_base::{NoMemory, ReadAll, StdSink, StdSource, read_all, write_all, write_pieces};
 use kp_command_line::Input;
 use kp_program::{PAGE, STDIN, Stop, ended, opened, status_after, unless_stopped, words};
 use kp_view::view;
 use kp_view_explain::{HELP, Order, asks_help, explain_source};
 use kp_view_same::{Side, same_sources};
-use kp_view_words::{Pair, Request};
+use kp_view_words::{Pair, Request, wrong_name};
 use std::io;
 use std::io::{BufWriter, ErrorKind, Read};
 use std::process::ExitCode;
@@ -39,6 +39,9 @@ fn run<'w>(rt: &HostRuntime, words: &'w [String]) -> Result<u8, Stop<'w>> {
 // Does what words other than those of `explain` and `same` ask for.
 fn view_words<'w>(rt: &HostRuntime, words: &'w [String]) -> Result<u8, Stop<'w>> {
     let request = Request::of(rt.alloc(), words)?;
+    if matches!(request, Request::BadWords(_)) {
+        say_wrong_name(rt, words);
+    }
     let file = request.file();
     match request.listing() {
         Some(name) => {
@@ -68,6 +71,18 @@ fn view_file<'n>(
     match file {
         Some(file) => view_reader(rt, request, file.as_str(), opened(rt, file.as_str())?),
         None => view_reader(rt, request, STDIN, rt.reader()),
+    }
+}
+
+// Names the word that can't be the name of a stage, if there is one. The usage follows.
+fn say_wrong_name(rt: &HostRuntime, words: &[String]) {
+    if let Some(name) = wrong_name(words) {
+        let pieces = [
+            b"kpview: ".as_slice(),
+            name.as_bytes(),
+            b": the name of a stage has 1 to 8 letters, digits or `_`\n".as_slice(),
+        ];
+        let _ = write_pieces(&mut StdSink::new(rt.stderr()), &pieces);
     }
 }
 

@@ -4,7 +4,7 @@ use Rattle.kp_base.specs.declared.{place.Place.Place, refusal.Refusal.Refusal}
 use Rattle.kp_lex.specs.{Text.HasOutcome, declared.token.Token.Token, declared.token.Lexed.Lexed}
 use Rattle.kp_parse.specs.Sentence.{Breaks}
 use Rattle.kp_view_expected.specs.declared.set.Expected.{Expected}
-use Rattle.kp_view_help.specs.{Texts.found_text, declared.found.FoundToken.FoundToken}
+use Rattle.kp_view_help.specs.{Texts.found_text, declared.allowed.Before.Before, declared.found.FoundToken.FoundToken}
 use Rattle.kp_view_message.specs.declared.message.Message.{Message}
 use Rattle.kp_view_message.specs.declared.message.Message.TheVariants as messages
 use Rattle.kp_view_message.specs.declared.reading_fault.ReadingFault.TheVariants as faults
@@ -16,8 +16,8 @@ use Rattle.kp_view_explain.specs.Listing.{IsNext, SaysNext, found_at, tokens_bef
 pub record NamesNext (text : List ℕ) (tokens : List Token) (p : Place) (m : Message) : Type 0 where
   pub set : Expected
   pub found : FoundToken
-  pub width : Option ℕ
-  pub is : m ≡ messages.Reading (faults.Unexpected found set width)
+  pub before : Before
+  pub is : m ≡ messages.Reading (faults.Unexpected found set before)
   pub here : found_text found ≡ found_at text tokens p
   pub exact : IsNext text (tokens_before p tokens) set
 

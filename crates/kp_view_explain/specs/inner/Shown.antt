@@ -32,4 +32,4 @@ abbrev pub ExplainsScript : List Decl → List ℕ → List ℕ → (from status
 ExplainsScript decls file input from status text =
     let found = rule_of (script_of decls input from) in
     ((strict : Bool) → Says subjects.Debugged strict file input found status text)
-    × IfSome found (λ r. ShowsPlace file input r (script_mark input r) text)
+    × IfSome found (λ r. ShowsPlace file input r (script_mark input r.place) text)
