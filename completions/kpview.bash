@@ -14,6 +14,10 @@ _kpview() {
             ((count += 1))
         fi
     done
+    if [[ $count -ge 2 && ${COMP_WORDS[1]} == diagram && $cur == -* ]]; then
+        COMPREPLY=($(compgen -W '--label --listing' -- "$cur"))
+        return
+    fi
     if [[ $is_target || $cur == [\<\>]* || $count -ge 2 || ( $count -eq 1 && ${COMP_WORDS[1]} == same ) ]]; then
         compopt -o default 2>/dev/null
         return

@@ -1,6 +1,6 @@
 // The top calls of the programs.
 use crate::streams::Streams;
-use kp_base::{MemSink, MemSource, NoMemory, write_all};
+use kp_base::{MemSink, MemSource, NoMemory, read_all, write_all};
 use kp_core::{Request as CoreRequest, run_core};
 use kp_tool::tool;
 use kp_view::view;
@@ -35,16 +35,20 @@ pub fn run(alloc: Global, words: &[String], streams: &mut Streams) -> u8 {
     }
 }
 
+// What the second source has is the listing, where one is asked for.
 fn view_words(alloc: Global, words: &[String], streams: &mut Streams) -> u8 {
-    match ViewRequest::of(alloc, words) {
-        Ok(request) => view(
+    let Ok(request) = ViewRequest::of(alloc, words) else {
+        return 5;
+    };
+    match read_all(alloc, &mut streams.second) {
+        Ok(listing) => view(
             alloc,
-            &request,
+            &request.listed(listing.as_slice()),
             &mut streams.source,
             &mut streams.out,
             &mut streams.err,
         ),
-        Err(NoMemory) => 5,
+        Err(_) => 3,
     }
 }
 

@@ -1,5 +1,5 @@
 -- How calls end: from what was written to what is expected.
-use Rattle.std.proofs.Common.{◌≡◌, ℕ, ◌≤◌, Bool, false, None, List, length, Ok, Err, refl, sym, ap₂, subst, inl, inr, arith}
+use Rattle.std.proofs.Common.{◌≡◌, ◌∙◌, ℕ, ◌≤◌, Bool, true, false, None, Some, List, length, Ok, Err, refl, sym, ap, ap₂, subst, inl, inr, arith}
 use Rattle.std.specs.{declared.option.Option.Option, declared.result.Result.Result, Prelude.MatchResult, Io.KnownBytes.Appends}
 use Rattle.kp_base.specs.{Bytes.AppendsPart, Causes.Rose, declared.refusal.Refused.Refused}
 use Rattle.kp_base.specs.declared.refusal.Refused.TheVariants as refused
@@ -7,10 +7,12 @@ use Rattle.kp_ast.specs.declared.tree.Job.{Job}
 use Rattle.kp_frontend.specs.{Judging.JudgesText, Judging.Judges.within, Judging.JudgesText.accepted, Accepting.AnswersText}
 use Rattle.kp_base.specs.declared.refusal.Refusal.{Refusal}
 use Rattle.kp_lex.{specs.Text.HasOutcome, specs.declared.token.Lexed.Lexed, proofs.Outcome.one_outcome}
-use Rattle.kp_directive.specs.{Faults.stage_names, declared.directive.DirectiveFault.DirectiveFault}
-use Rattle.kp_view_words.specs.Words.{Order, Task, named, names_for, show}
+use Rattle.kp_base.specs.declared.run.Run.{Run as Bytes}
+use Rattle.kp_directive.specs.{Messages.bytes_in, declared.directive.DirectiveFault.DirectiveFault}
+use Rattle.kp_diagram_labels.specs.{Labels.labels_of, declared.label.Label.Label}
+use Rattle.kp_view_words.specs.Words.{Order, Task, label_for, names_for, show}
 use Rattle.kp_view.specs.Complaints.{complaint_status, complaint_text}
-use Rattle.kp_view.specs.{Due.directive_text, Due.DueFor, Due.DueOfJob, Due.DueOfNames, Due.DueOfOrder, Due.Draws, Due.IsShown, Due.IsText, Due.Says, Due.names_fit, Texts.names_text}
+use Rattle.kp_view.specs.{Due.directive_text, Due.DueFor, Due.DueOfJob, Due.DueOfNames, Due.DueOfOrder, Due.Draws, Due.IsShown, Due.IsText, Due.Says, Due.complaint_by, Due.complaint_for, Due.label_complaint, Due.names_fit, Listed.Listed, Listed.given_by, Listed.listed_in, Texts.label_wrong, Texts.names_text}
 use Rattle.kp_view.specs.{Ends.Ends, Ends.EndsAt, inner.Failures.failure_of, declared.failure.Complaint.Complaint, declared.failure.Failure.Failure}
 use Rattle.kp_view.specs.declared.failure.{Failure.TheVariants.Complained, Failure.TheVariants.Stopped, Stop.Stop}
 use Rattle.kp_view.specs.declared.failure.Complaint.TheVariants as complaints
@@ -60,19 +62,37 @@ module _ {S : Type 0} (held : S → Option (List ℕ)) (faults : S → ℕ) (fil
   accepted_job task input job short judged old new r ends =
       weaker ⊥ ⊥ (DueOfJob task input job) (DueFor (show task) input) (λ u. u) (λ status text due. (Ok job, within short judged, due)) old new r ends
 
-  -- the names are or aren't names for the stages of the job
-  pub by_names : (fit other : Bool) (order : Order) (input : List ℕ) (job : Job) → fit ≡ other → (old new : S) {T : Type 0} (r : Result T Failure)
-      → Ends held faults ⊥ (DueOfNames other order input job) file old new r → Ends held faults ⊥ (DueOfNames fit order input job) file old new r
-  by_names fit other order input job is old new r ends = subst (λ (b : Bool). Ends held faults ⊥ (DueOfNames b order input job) file old new r) (sym is) ends
+  -- there is or isn't something to be said
+  pub by_names : (said other : Option (List ℕ)) (order : Order) (input : List ℕ) (job : Job) → said ≡ other → (old new : S) {T : Type 0} (r : Result T Failure)
+      → Ends held faults ⊥ (DueOfNames other order input job) file old new r → Ends held faults ⊥ (DueOfNames said order input job) file old new r
+  by_names said other order input job is old new r ends = subst (λ (o : Option (List ℕ)). Ends held faults ⊥ (DueOfNames o order input job) file old new r) (sym is) ends
 
   pub names_wrong : (T : Type 0) (order : Order) (input : List ℕ) (job : Job) (given stages : ℕ) (s : S) → names_fit order job ≡ false → given ≡ length (names_for order)
       → stages ≡ job.stages.value → Ends {U = T} held faults ⊥ (DueOfOrder order input job) file s s (Err (Complained (complaints.WrongNames given stages)))
   names_wrong T order input job given stages s unfit g k =
-      by_names (names_fit order job) false order input job unfit s s {T = T} (Err (Complained (complaints.WrongNames given stages))) (refl, (refl, ap₂ names_text g k))
+      by_names (complaint_for order job) (complaint_by false order job) order input job (ap (λ (b : Bool). complaint_by b order job) unfit) s s {T = T}
+      (Err (Complained (complaints.WrongNames given stages))) (refl, (refl, ap₂ names_text g k))
 
-  -- the names of the directives were taken
-  pub with_listed : (task : Task) (order : Order) (input : List ℕ) (job : Job) (end : ℕ) (listed : List (List ℕ)) → Before input end → stage_names input end job.stages.value ≡ Ok listed
-      → order ≡ named listed task.order → (old new : S) {T : Type 0} (r : Result T Failure)
+  -- the labels are or aren't labels
+  labels_say : (order : Order) (job : Job) (found : Result (List Label) Bytes) → names_fit order job ≡ true → labels_of job (label_for order) ≡ found
+      → complaint_for order job ≡ label_complaint (label_for order) found
+  labels_say order job found fit is = ap (λ (b : Bool). complaint_by b order job) fit ∙ ap (label_complaint (label_for order)) is
+
+  pub with_labels : (order : Order) (input : List ℕ) (job : Job) (labels : List Label) → names_fit order job ≡ true → labels_of job (label_for order) ≡ Ok labels
+      → (old new : S) {T : Type 0} (r : Result T Failure)
+      → Ends held faults ⊥ (Draws order input job) file old new r → Ends held faults ⊥ (DueOfOrder order input job) file old new r
+  with_labels order input job labels fit is old new r ends = by_names (complaint_for order job) None order input job (labels_say order job (Ok labels) fit is) old new r ends
+
+  pub label_refused : (T : Type 0) (order : Order) (input : List ℕ) (job : Job) (word : Bytes) (c : Complaint) (s : S) → names_fit order job ≡ true
+      → labels_of job (label_for order) ≡ Err word → complaint_status c ≡ 1 → complaint_text file c ≡ label_wrong (bytes_in (label_for order) word)
+      → Ends {U = T} held faults ⊥ (DueOfOrder order input job) file s s (Err (Complained c))
+  label_refused T order input job word c s fit is status text =
+      by_names (complaint_for order job) (label_complaint (label_for order) (Err word)) order input job (labels_say order job (Err word) fit is) s s {T = T} (Err (Complained c))
+      (refl, (status, text))
+
+  -- what the directives give was taken
+  pub with_listed : (task : Task) (order : Order) (input : List ℕ) (job : Job) (end : ℕ) (listed : Listed) → Before input end → listed_in job input end ≡ Ok listed
+      → order ≡ given_by listed task.order → (old new : S) {T : Type 0} (r : Result T Failure)
       → Ends held faults ⊥ (DueOfOrder order input job) file old new r → Ends held faults ⊥ (DueOfJob task input job) file old new r
   with_listed task order input job end listed (lexed, tokens, is) given same old new r ends =
       weaker ⊥ ⊥ (DueOfOrder order input job) (DueOfJob task input job) (λ u. u)
@@ -80,7 +100,7 @@ module _ {S : Type 0} (held : S → Option (List ℕ)) (faults : S → ℕ) (fil
 
   -- a directive violates a rule
   pub misdirected : (T : Type 0) (task : Task) (input : List ℕ) (job : Job) (end : ℕ) (fault : DirectiveFault) (c : Complaint) (s : S) → Before input end
-      → stage_names input end job.stages.value ≡ Err fault → complaint_status c ≡ 2 → complaint_text file c ≡ directive_text task.file input fault
+      → listed_in job input end ≡ Err fault → complaint_status c ≡ 2 → complaint_text file c ≡ directive_text task.file input fault
       → Ends {U = T} held faults ⊥ (DueOfJob task input job) file s s (Err (Complained c))
   misdirected T task input job end fault c s (lexed, tokens, is) given status text = (refl, (Err fault, (lexed, tokens, rw (← is) given), (status, text)))
 
@@ -113,6 +133,7 @@ module _ {S T : Type 0} (held : S → Option (List ℕ)) (faults : S → ℕ) (h
   complained (complaints.BadWords topic) text old new old_err new_err (Ok status) (same, due) (is, appended) = rw is (text, due, (same, appended))
   complained (complaints.BadWords topic) text old new old_err new_err (Err stop) (same, due) (is, rose, part) = rw is (inr rose, 1, text, due, (same, part))
   complained (complaints.WrongNames given stages) text old new old_err new_err (Err stop) (same, due) (is, rose, part) = rw is (inr rose, 1, text, due, (same, part))
+  complained (complaints.WrongLabel word) text old new old_err new_err (Err stop) (same, due) (is, rose, part) = rw is (inr rose, 1, text, due, (same, part))
   complained (complaints.Refused refusal) text old new old_err new_err (Err stop) (same, due) (is, rose, part) = rw is (inr rose, 2, text, due, (same, part))
   complained (complaints.Misdirected said) text old new old_err new_err (Err stop) (same, due) (is, rose, part) = rw is (inr rose, 2, text, due, (same, part))
   complained _ text old new old_err new_err (Ok status) (same, due) (is, appended) = rw is (text, due, (same, appended))

@@ -1,4 +1,5 @@
 pub mod Ends
+pub mod Listings
 pub mod Netlists
 pub mod Outside
 pub mod Pictures

@@ -5,10 +5,10 @@ use Rattle.kp_base.specs.{declared.refusal.Refusal.Refusal, Causes.Rose}
 use Rattle.kp_ast.specs.declared.tree.Job.{Job}
 use Rattle.kp_frontend.{specs.Judging.Judges, specs.Judging.too_long, specs.Judging.Judges.over, specs.Judging.Judges.within, proofs.Verdicts.one_verdict}
 use Rattle.kp_directive.specs.declared.directive.DirectiveFault.{DirectiveFault}
-use Rattle.kp_view_words.specs.{Words.Asked, Words.named, Words.Order, Words.Task, Words.bad_words, Words.help, Words.version, Words.show, declared.words.Topic.Topic}
+use Rattle.kp_view_words.specs.{Words.Asked, Words.Order, Words.Task, Words.bad_words, Words.help, Words.version, Words.show, declared.words.Topic.Topic}
 use Rattle.kp_view_words.specs.Texts.{help_text, version_text}
-use Rattle.kp_view.specs.Due.{Says, DueFor, IsShown, IsText, wrong_names_text, DueOfListed, DueOfNames, Lists, IsDue, IsFinal, IsWhole, Completes, Begins, Between, Prints, IsDrawn, IsRefusal, IsUnaccepted, IsUnrefused, names_fit, reads_input}
-use Rattle.kp_view.specs.{Texts.refusal_text, Ends.Ends, Ends.EndsAt, inner.Failures.stop_status, inner.Failures.end_status, declared.failure.Failure.Failure}
+use Rattle.kp_view.specs.Due.{Says, DueFor, IsShown, IsText, DueOfListed, DueOfNames, Lists, IsDue, IsFinal, IsWhole, Completes, Begins, Between, Prints, IsDrawn, IsRefusal, IsUnaccepted, IsUnrefused, complaint_for, reads_input}
+use Rattle.kp_view.specs.{Listed.Listed, Listed.given_by, Texts.refusal_text, Ends.Ends, Ends.EndsAt, inner.Failures.stop_status, inner.Failures.end_status, declared.failure.Failure.Failure}
 use Rattle.kp_view.specs.declared.failure.{Failure.TheVariants.Complained, Stop.Stop}
 use Rattle.kp_view.specs.declared.failure.Stop.TheVariants.{ReadFault, WriteFault, NoMemory}
 use Rattle.kp_view.proofs.Ends.{weaker, said}
@@ -28,12 +28,12 @@ abbrev IsLow : ℕ → Type 0
 IsLow status = status ≤ 2
 
 low_names : (fit : _) (order : Order) (input : List ℕ) (job : Job) (status : ℕ) (text : List ℕ) → DueOfNames fit order input job status text → IsLow status
-low_names true order input job status text (zero_is, same, shows) = omega (arith, zero_is)
-low_names false order input job status text (one, rest) = omega (arith, one)
+low_names None order input job status text (zero_is, same, shows) = omega (arith, zero_is)
+low_names (Some said) order input job status text (one, rest) = omega (arith, one)
 
-low_listed : (task : Task) (input : List ℕ) (job : Job) (listed : Result (List (List ℕ)) DirectiveFault) (status : ℕ) (text : List ℕ) → DueOfListed task input job listed status text
+low_listed : (task : Task) (input : List ℕ) (job : Job) (listed : Result Listed DirectiveFault) (status : ℕ) (text : List ℕ) → DueOfListed task input job listed status text
     → IsLow status
-low_listed task input job (Ok names) status text due = low_names (names_fit (named names task.order) job) (named names task.order) input job status text due
+low_listed task input job (Ok names) status text due = low_names (complaint_for (given_by names task.order) job) (given_by names task.order) input job status text due
 low_listed task input job (Err fault) status text (two, rest) = omega (arith, two)
 
 low : (asked : Asked) (input : List ℕ) (status : ℕ) (text : List ℕ) → DueFor asked input status text → IsLow status
@@ -176,31 +176,30 @@ module _ {S T : Type 0} (held : S → Option (List ℕ)) (faults : S → ℕ) (h
       let said_so : DueFor (bad_words topic) due.taken status text = subst (λ (a : Asked). DueFor a due.taken status text) is due.due in
       said_so.0
 
--- by the status, whether the names do or don't fit
+-- by the status, whether there is something to be said
 names_never_two : (fit : _) (order : Order) (input : List ℕ) (job : Job) (status : ℕ) (text : List ℕ) → DueOfNames fit order input job status text → status ≡ 2 → ⊥
 names_never_two fit order input job status text due two = go fit due
   where
     go : (fit : _) → DueOfNames fit order input job status text → ⊥
-    go true due = let e = due.0 in omega (arith, e, two)
-    go false due = let e = due.0 in omega (arith, e, two)
+    go None due = let e = due.0 in omega (arith, e, two)
+    go (Some said) due = let e = due.0 in omega (arith, e, two)
 
 names_at_zero : (fit : _) (order : Order) (input : List ℕ) (job : Job) (status : ℕ) (text : List ℕ) → DueOfNames fit order input job status text → status ≡ 0
-    → (fit ≡ true) × IsText order input job text × IsShown order job
-names_at_zero true order input job status text (is, same, shows) zero_is = (refl, same, shows)
-names_at_zero false order input job status text due zero_is = let e = due.0 in absurd (omega (arith, e, zero_is))
+    → (fit ≡ None) × IsText order input job text × IsShown order job
+names_at_zero None order input job status text (is, same, shows) zero_is = (refl, same, shows)
+names_at_zero (Some said) order input job status text due zero_is = let e = due.0 in absurd (omega (arith, e, zero_is))
 
 names_at_one : (fit : _) (order : Order) (input : List ℕ) (job : Job) (status : ℕ) (text : List ℕ) → DueOfNames fit order input job status text → status ≡ 1
-    → (fit ≡ false) × (text ≡ wrong_names_text order job)
-names_at_one true order input job status text due one = let e = due.0 in absurd (omega (arith, e, one))
-names_at_one false order input job status text (is, same) one = (refl, same)
+    → fit ≡ Some text
+names_at_one None order input job status text due one = let e = due.0 in absurd (omega (arith, e, one))
+names_at_one (Some said) order input job status text (is, same) one = ap (λ (t : List ℕ). Some t) (sym same)
 
 -- what isn't accepted
-unaccepted_names : (task : Task) (input : List ℕ) (job : Job) → Judges input (Ok job) → (listed : Result (List (List ℕ)) DirectiveFault) → Lists input job listed
+unaccepted_names : (task : Task) (input : List ℕ) (job : Job) → Judges input (Ok job) → (listed : Result Listed DirectiveFault) → Lists input job listed
     → (status : ℕ) (text : List ℕ) → DueOfListed task input job listed status text → status ≡ 1 → IsUnaccepted (show task) input text
 unaccepted_names task input job judged (Ok names) lists status text due one =
-    let order = named names task.order in
-    let (unfit, same) = names_at_one (names_fit order job) order input job status text due one in
-    (job, judged, order, (names, lists, refl), unfit, same)
+    let order = given_by names task.order in
+    (job, judged, order, (names, lists, refl), names_at_one (complaint_for order job) order input job status text due one)
 unaccepted_names task input job judged (Err fault) lists status text (two, same) one = absurd (omega (arith, two, one))
 
 unaccepted_at : (asked : Asked) (input text : List ℕ) (status : ℕ) → DueFor asked input status text → status ≡ 1 → IsUnaccepted asked input text
@@ -220,21 +219,21 @@ module _ {S T : Type 0} (held : S → Option (List ℕ)) (held_err : T → Optio
       (due.taken, text, due.consumed, printed.1, unaccepted_at asked due.taken text 1 due.due refl)
 
 module _ {S T : Type 0} (held : S → Option (List ℕ)) (held_err : T → Option (List ℕ)) (task : Task) where
-  refused_names : (input : List ℕ) (job : Job) → Judges input (Ok job) → (listed : Result (List (List ℕ)) DirectiveFault) → Lists input job listed
+  refused_names : (input : List ℕ) (job : Job) → Judges input (Ok job) → (listed : Result Listed DirectiveFault) → Lists input job listed
       → (status : ℕ) (text : List ℕ) → DueOfListed task input job listed status text → status ≡ 2 → IsRefusal task input text
   refused_names input job judged (Ok names) lists status text due two =
-      let order = named names task.order in absurd (names_never_two (names_fit order job) order input job status text due two)
+      let order = given_by names task.order in absurd (names_never_two (complaint_for order job) order input job status text due two)
   refused_names input job judged (Err fault) lists status text due two = inr (job, judged, fault, lists, due.1)
 
   refusal_at : (input text : List ℕ) (status : ℕ) → DueFor (show task) input status text → status ≡ 2 → IsRefusal task input text
   refusal_at input text status (Ok job, judged, (listed, lists, due)) two = refused_names input job judged listed lists status text due two
   refusal_at input text status (Err refusal, judged, due) two = inl (refusal, judged, due.1)
 
-  drawn_names : (input : List ℕ) (job : Job) → Judges input (Ok job) → (listed : Result (List (List ℕ)) DirectiveFault) → Lists input job listed
+  drawn_names : (input : List ℕ) (job : Job) → Judges input (Ok job) → (listed : Result Listed DirectiveFault) → Lists input job listed
       → (status : ℕ) (text : List ℕ) → DueOfListed task input job listed status text → status ≡ 0 → IsDrawn task input text
   drawn_names input job judged (Ok names) lists status text due zero_is =
-      let order = named names task.order in
-      let (fit, reported, shown) = names_at_zero (names_fit order job) order input job status text due zero_is in
+      let order = given_by names task.order in
+      let (fit, reported, shown) = names_at_zero (complaint_for order job) order input job status text due zero_is in
       (job, judged, order, (names, lists, refl), fit, reported, shown)
   drawn_names input job judged (Err fault) lists status text (two, same) zero_is = absurd (omega (arith, two, zero_is))
 

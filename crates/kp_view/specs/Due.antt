@@ -1,15 +1,17 @@
 -- What is specified: a status and a text for what is asked and the bytes of the source. The text of status 0 goes to standard output, and any other to
 -- standard error.
-use Rattle.std.specs.Prelude.{◌≡◌, ◌≢◌, ◌≤◌, ◌⊎◌, Bool, true, false, ℕ, zero, suc, ◌+◌, List, [], ◌++◌, length, Ok, Err, Option, Result}
+use Rattle.std.specs.Prelude.{◌≡◌, ◌≢◌, ◌≤◌, ◌⊎◌, Bool, true, false, ℕ, zero, suc, ◌+◌, List, [], ◌++◌, length, Ok, Err, Option, Some, None, Result}
 use Rattle.std.specs.Io.KnownBytes.{Consumes, Appends, IsAtEnd}
 use Rattle.kp_base.specs.{Bytes.AppendsPart, declared.refusal.Refusal.Refusal}
 use Rattle.kp_ast.specs.declared.tree.Job.{Job}
 use Rattle.kp_frontend.specs.Judging.{Judges}
-use Rattle.kp_view_words.specs.Words.{Asked, Order, Run, Task, bad_words, help, version, show, diagram, window, svg, page, paths, paths_svg, stalls, depth, named, names_for}
+use Rattle.kp_view_words.specs.Words.{Asked, Order, Run, Task, bad_words, help, version, show, diagram, window, labelled, svg, page, paths, paths_svg, stalls, depth, label_for, names_for}
 use Rattle.kp_view_words.specs.declared.task.{Memories.Memories, Memories.TheVariants.Inside, Memories.TheVariants.Outside}
 use Rattle.kp_view_words.specs.Texts.{help_text, usage_text, version_text}
 use Rattle.kp_pipeline.specs.Rows.{Row}
-use Rattle.kp_diagram_text.specs.{Charts.are_names, Figures.Figure, Text.diagram_text, Text.window_text}
+use Rattle.kp_diagram_text.specs.{Charts.are_names, Figures.Figure, Labelled.labelled_text, Text.diagram_text, Text.window_text}
+use Rattle.kp_diagram_labels.specs.{Labels.labels_of, Texts.heading, Texts.label_text, declared.label.Label.Label}
+use Rattle.kp_listing.specs.Listings.{entries_of}
 use Rattle.kp_diagram_svg.specs.Picture.{picture}
 use Rattle.kp_diagram_run.specs.{Figures.job_figure, Figures.job_rows, FigureClaims.ShowsRun, Windows.job_window}
 use Rattle.kp_stalls_run.specs.{Claims.ShowCauses, Runs.job_stalls}
@@ -18,8 +20,9 @@ use Rattle.kp_page.specs.{Claims.listed_last, States.states_text, Page.page as p
 use Rattle.kp_paths.specs.{Claims.ArePaths, Text.paths_text, ArrowClaims.ShowsCells, Picture.paths_svg_text}
 use Rattle.kp_stalls_text.specs.{Labels.labels_from, Text.stalls_text}
 use Rattle.kp_lex.specs.{Text.HasOutcome, declared.token.Lexed.Lexed}
-use Rattle.kp_directive.specs.{Faults.stage_names, Messages.message, declared.directive.DirectiveFault.DirectiveFault}
-use Rattle.kp_view.specs.{Depths.IsDepthText, Texts.file_text, Texts.names_text, Texts.refusal_text}
+use Rattle.kp_base.specs.declared.run.Run.{Run as Bytes}
+use Rattle.kp_directive.specs.{Messages.bytes_in, Messages.message, declared.directive.DirectiveFault.DirectiveFault}
+use Rattle.kp_view.specs.{Depths.IsDepthText, Listed.Listed, Listed.given_by, Listed.listed_in, Texts.file_text, Texts.label_wrong, Texts.names_text, Texts.refusal_text}
 
 -- exactly this status and this text
 abbrev pub Says : ℕ → List ℕ → ℕ → List ℕ → Type 0
@@ -41,6 +44,9 @@ are_inside Outside = false
 abbrev pub IsText : Order → List ℕ → Job → List ℕ → Type 0
 IsText (diagram run) input job text = text ≡ diagram_text (figure_drawn run job)
 IsText (window from run) input job text = text ≡ window_text from (job_window run.names from run.count job)
+IsText (labelled from run beside) input job text =
+    (labels : List Label) × (labels_of job beside.label ≡ Ok labels) × (text ≡ labelled_text (heading job beside.label labels (entries_of beside.listing))
+    (label_text job beside.label labels (entries_of beside.listing) (from + run.count)) from (job_window run.names from run.count job))
 IsText (svg run) input job text = text ≡ picture (figure_drawn run job) (rows_drawn run job)
 IsText (page run) input job text =
     text ≡ page_text (figure_drawn run job) (rows_drawn run job) input (paths_text job) (states_text job run.count)
@@ -55,12 +61,14 @@ abbrev pub ShowsStates : Job → ℕ → Type 0
 ShowsStates job n = (T t a : ℕ) → listed_last (pipe_of job (inputs_from job 0 n)).visible T t a ≡ (pipe_of job (inputs_from job 0 n)).visible T t a
 
 -- What that text shows. Of a diagram: the fetches, cells, marks and the account in it are those of the run, and the laws of the diagram hold of them.
--- The figure of a window is a part of that of the run up to its last cycle (`job_window`), of which this holds.
+-- The figure of a window is a part of that of the run up to its last cycle (`job_window`), of which this holds. A label is the value that the sequential machine
+-- has before the instruction of a line that retires (`label_text`), and the text of the listing is that of the first label.
 -- Of the table of paths: its cells say where the reads take their values from, in each state of each run. The arrows of its picture are these cells. A page
 -- has a diagram and the table, and shows the states. What the text of `depth` shows is said by `IsDepthText`.
 abbrev pub IsShown : Order → Job → Type 0
 IsShown (diagram run) job = ShowsRun job run.count (figure_drawn run job)
 IsShown (window from run) job = ShowsRun job (from + run.count) (job_figure run.names (from + run.count) job)
+IsShown (labelled from run beside) job = ShowsRun job (from + run.count) (job_figure run.names (from + run.count) job)
 IsShown (svg run) job = ShowsRun job run.count (figure_drawn run job)
 IsShown (page run) job = ShowsRun job run.count (figure_drawn run job) × ArePaths job × ShowsStates job run.count
 IsShown paths job = ArePaths job
@@ -78,30 +86,43 @@ names_fit order job = are_names (names_for order) job.stages.value
 abbrev pub wrong_names_text : Order → Job → List ℕ
 wrong_names_text order job = names_text (length (names_for order)) job.stages.value
 
--- the outcome for a job, where the names do or don't fit
-abbrev pub DueOfNames : Bool → Order → List ℕ → Job → ℕ → List ℕ → Type 0
-DueOfNames true order input job = Draws order input job
-DueOfNames false order input job = Says 1 (wrong_names_text order job)
+-- what is said of a word that isn't a label
+abbrev pub label_complaint : List ℕ → Result (List Label) Bytes → Option (List ℕ)
+label_complaint text (Ok labels) = None
+label_complaint text (Err word) = Some (label_wrong (bytes_in text word))
+
+abbrev pub complaint_by : Bool → Order → Job → Option (List ℕ)
+complaint_by true order job = label_complaint (label_for order) (labels_of job (label_for order))
+complaint_by false order job = Some (wrong_names_text order job)
+
+-- what is said of names that aren't names for the stages of the job, and else of labels that it doesn't have
+abbrev pub complaint_for : Order → Job → Option (List ℕ)
+complaint_for order job = complaint_by (names_fit order job) order job
+
+-- the outcome for a job, where there is or isn't something to be said
+abbrev pub DueOfNames : Option (List ℕ) → Order → List ℕ → Job → ℕ → List ℕ → Type 0
+DueOfNames None order input job = Draws order input job
+DueOfNames (Some said) order input job = Says 1 said
 
 abbrev pub DueOfOrder : Order → List ℕ → Job → ℕ → List ℕ → Type 0
-DueOfOrder order input job = DueOfNames (names_fit order job) order input job
+DueOfOrder order input job = DueOfNames (complaint_for order job) order input job
 
 -- the message on a directive that violates a rule, after the name of the file
 abbrev pub directive_text : Option (List ℕ) → List ℕ → DirectiveFault → List ℕ
 directive_text file input fault = file_text file ++ message input fault
 
--- the outcome for the names that the directives of the input give, or for the rule that they violate; names on the command line win
-abbrev pub DueOfListed : Task → List ℕ → Job → Result (List (List ℕ)) DirectiveFault → ℕ → List ℕ → Type 0
-DueOfListed task input job (Ok listed) = DueOfOrder (named listed task.order) input job
+-- the outcome for what the directives of the input give, or for the rule that they violate; the command line wins
+abbrev pub DueOfListed : Task → List ℕ → Job → Result Listed DirectiveFault → ℕ → List ℕ → Type 0
+DueOfListed task input job (Ok listed) = DueOfOrder (given_by listed task.order) input job
 DueOfListed task input job (Err fault) = Says 2 (directive_text task.file input fault)
 
 -- what the directives before the `end` of the input give
-abbrev pub Lists : List ℕ → Job → Result (List (List ℕ)) DirectiveFault → Type 0
-Lists input job listed = (lexed : Lexed) × HasOutcome input (Ok lexed) × (stage_names input lexed.rest job.stages.value ≡ listed)
+abbrev pub Lists : List ℕ → Job → Result Listed DirectiveFault → Type 0
+Lists input job listed = (lexed : Lexed) × HasOutcome input (Ok lexed) × (listed_in job input lexed.rest ≡ listed)
 
 abbrev pub DueOfJob : Task → List ℕ → Job → ℕ → List ℕ → Type 0
 DueOfJob task input job status text =
-    (listed : Result (List (List ℕ)) DirectiveFault) × Lists input job listed × DueOfListed task input job listed status text
+    (listed : Result Listed DirectiveFault) × Lists input job listed × DueOfListed task input job listed status text
 
 -- the outcome for a verdict on the input
 abbrev pub DueOfVerdict : Task → List ℕ → Result Job Refusal → ℕ → List ℕ → Type 0
@@ -164,9 +185,9 @@ abbrev pub Between : (left left_after held held_after : Option (List ℕ)) → (
 Between left left_after held held_after Fact =
     (input : List ℕ) × (text : List ℕ) × Consumes left left_after input × Appends held held_after text × Fact input text
 
--- what is asked for, with the names that the directives give where the command line gives none
+-- what is asked for, with the names and the labels that the directives give where the command line gives none
 abbrev pub IsNamed : Task → List ℕ → Job → Order → Type 0
-IsNamed task input job order = (listed : List (List ℕ)) × Lists input job (Ok listed) × (order ≡ named listed task.order)
+IsNamed task input job order = (listed : Listed) × Lists input job (Ok listed) × (order ≡ given_by listed task.order)
 
 -- THE HEADLINE. The input is a job that violates no rule, for whose stages the names are, and the text shows what was asked: the run of its pipelined
 -- machine, with the instructions in the full stages, the marks with their reasons, the instructions that retire in order, and each cycle counted under
@@ -174,7 +195,7 @@ IsNamed task input job order = (listed : List (List ℕ)) × Lists input job (Ok
 -- or the longest paths of a netlist that shows its pipelined machine.
 abbrev pub IsDrawn : Task → List ℕ → List ℕ → Type 0
 IsDrawn task input text =
-    (job : Job) × Judges input (Ok job) × (order : Order) × IsNamed task input job order × (names_fit order job ≡ true)
+    (job : Job) × Judges input (Ok job) × (order : Order) × IsNamed task input job order × (complaint_for order job ≡ None)
     × IsText order input job text × IsShown order job
 
 -- the text names the first rule that the input violates, or that its directives violate
@@ -189,12 +210,11 @@ abbrev pub IsRefusal : Task → List ℕ → List ℕ → Type 0
 IsRefusal task input text = IsRuled task input text ⊎ IsMisdirected task input text
 
 -- The words aren't accepted, and the text says how the program is called; or the input is a job that violates no rule, the names aren't names for
--- its stages, and the text says how many there are of both.
+-- its stages, and the text says how many there are of both; or a label isn't one, and the text says which.
 abbrev pub IsUnaccepted : Asked → List ℕ → List ℕ → Type 0
 IsUnaccepted (bad_words topic) input text = text ≡ usage_text topic
 IsUnaccepted (show task) input text =
-    (job : Job) × Judges input (Ok job) × (order : Order) × IsNamed task input job order × (names_fit order job ≡ false)
-    × (text ≡ wrong_names_text order job)
+    (job : Job) × Judges input (Ok job) × (order : Order) × IsNamed task input job order × (complaint_for order job ≡ Some text)
 IsUnaccepted _ input text = ⊥
 
 -- the input violates no rule, or what was asked isn't about an input

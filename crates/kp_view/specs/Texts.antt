@@ -36,3 +36,7 @@ unfoldable pub names_text : ℕ → ℕ → List ℕ
 names_text given stages =
     codes "kpview: names of stages: "
     ++ (decimal given ++ (codes ", stages of the job: " ++ (decimal stages ++ codes "; give a name for each stage, or none\n")))
+
+-- a word of the command line that isn't a label
+unfoldable pub label_wrong : List ℕ → List ℕ
+label_wrong word = codes "kpview: a label is a register or a word as `F[0]`; not `" ++ (word ++ codes "`\n")

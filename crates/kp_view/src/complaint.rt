@@ -4,7 +4,7 @@ ghost use Rattle.std.specs.Io.KnownBytes.{Appends};
 ghost use Rattle.kp_base.specs.Bytes.{AppendsPart, Writes};
 ghost use Rattle.kp_base.specs.Causes.{HasCause, Rose};
 ghost use Rattle.kp_view.specs.Complaints.{complaint_status, complaint_text, said_of};
-ghost use Rattle.kp_view.specs.Texts.{family_letter, file_text, names_text, refusal_said, rule_said};
+ghost use Rattle.kp_view.specs.Texts.{family_letter, file_text, label_wrong, names_text, refusal_said, rule_said};
 ghost use Rattle.kp_view.specs.declared.failure.Stop.TheVariants as stop;
 
 use crate::failure::{Complaint, Stop};
@@ -37,7 +37,7 @@ impl Complaint {
         ensures { result ≡ complaint_status self.now }
     {
         match self {
-            Complaint::BadWords(_) | Complaint::WrongNames(_, _) => 1,
+            Complaint::BadWords(_) | Complaint::WrongNames(_, _) | Complaint::WrongLabel(_) => 1,
             Complaint::Refused(_) | Complaint::Misdirected(_) => 2,
         }
     }
@@ -59,6 +59,7 @@ fn write_complaint<K: Sink>(complaint: Complaint, file: &[u8], err: &mut K) -> R
     match complaint {
         Complaint::BadWords(topic) => write_all(err, usage_of(topic).as_bytes()),
         Complaint::WrongNames(given, stages) => write_names(given, stages, err),
+        Complaint::WrongLabel(word) => write_label(word.as_slice(), err),
         Complaint::Refused(refusal) => write_refusal(refusal, file, err),
         Complaint::Misdirected(said) => write_pieces(err, &[file, said.as_slice()]),
     }
@@ -76,6 +77,19 @@ fn write_names<K: Sink>(given: usize, stages: u8, err: &mut K) -> Result<(), Sin
         b", stages of the job: ".as_slice(),
         wanted.format(stages).as_bytes(),
         b"; give a name for each stage, or none\n".as_slice(),
+    ];
+    write_pieces(err, &pieces)
+}
+
+#[tactic(auto, unfolding(crate::specs::Texts::label_wrong))]
+fn write_label<K: Sink>(word: &[u8], err: &mut K) -> Result<(), SinkFault>
+    ensures text { Writes (K.held err.old) (K.held err.new) (label_wrong word.now) result }
+    ensures cause { HasCause (K.faults err.old) (K.faults err.new) result }
+{
+    let pieces = [
+        b"kpview: a label is a register or a word as `F[0]`; not `".as_slice(),
+        word,
+        b"`\n".as_slice(),
     ];
     write_pieces(err, &pieces)
 }

@@ -35,6 +35,8 @@ pub enum Complaint {
     BadWords(Topic),
     /// This many names are given for this many stages.
     WrongNames(usize, u8),
+    /// This word of the command line isn't a label.
+    WrongLabel(Vec<u8>),
     /// The job violates a rule.
     Refused(Refusal),
     /// A directive violates a rule: the message, after the name of the file.

@@ -1,24 +1,29 @@
 // What is shown of a job.
-ghost use Rattle.std.specs.Prelude.{◌≡◌, ◌≤◌, ℕ, IfOk, List, Ok, Option, length, true};
+ghost use Rattle.std.specs.Prelude.{◌≡◌, ◌≤◌, ℕ, All, IfOk, List, Ok, Option, length, true};
 ghost use Rattle.kp_frontend.specs.Judging.{JudgesText};
 ghost use Rattle.kp_lex.specs.{Text.HasOutcome, declared.token.Lexed.Lexed};
-ghost use Rattle.kp_view_words.specs.{Asked.order_seen, Asked.task_seen, Words.show};
+ghost use Rattle.kp_view_words.specs.{Asked.order_seen, Asked.task_seen, Words.label_for, Words.show};
+ghost use Rattle.kp_diagram_labels.specs.Labels.{IsLabel, labels_of};
 ghost use Rattle.kp_view.specs.Due.{DueFor, DueOfJob, DueOfOrder, Draws, names_fit};
 ghost use Rattle.kp_view.specs.Ends.{Ends};
 
 use crate::depth::depth;
 use crate::diagram::diagram;
 use crate::failure::{Complaint, Failure, Stop};
+use crate::labelled::labelled;
+use crate::listed::listed_in;
 use crate::page::page;
 use crate::paths::paths;
 use crate::paths_svg::paths_svg;
 use crate::stalls::stalls;
 use crate::svg::svg;
 use crate::window::window;
-use kp_base::{NoMemory, Refused, Sink};
+use kp_base::{NoMemory, Refused, Run, Sink};
+use kp_design::Layout;
+use kp_diagram_labels::{Label, LabelsRefused, labels_in};
 use kp_diagram_run::laws::a_figure_shows_the_run;
 use kp_diagram_text::are_names;
-use kp_directive::{DirectivesRefused, message_of, stage_names};
+use kp_directive::{DirectivesRefused, bytes_of, message_of};
 use kp_frontend::{Accepted, judge};
 use kp_lex::laws::tokens_stand_in_their_text;
 use kp_lex::lex;
@@ -44,7 +49,7 @@ pub fn on_job<K: Sink>(
     end
 }
 
-// The same for a job that violates no rule, with the names of stages that its directives give.
+// The same for a job that violates no rule, with the names of stages and the labels that its directives give.
 fn of_job<K: Sink>(
     alloc: Global,
     task: &Task<'_>,
@@ -57,10 +62,12 @@ fn of_job<K: Sink>(
     ensures { Ends K.held K.faults ⊥ (DueOfJob (task_seen task.now) input.now job.now.design.job) (task_seen task.now).file out.old out.new result }
 {
     let end = end_of(alloc, input, job)?;
-    let stages = job.design.job().stages.value as u8;
-    match stage_names(alloc, input, end, stages) {
+    match listed_in(alloc, input, end, job) {
         Ok(listed) => {
-            let order = task.order.named(listed.as_slice());
+            let order = task
+                .order
+                .named(listed.names.as_slice())
+                .labelled(bytes_of(input, listed.label));
             let done = of_order(alloc, &order, input, job, out);
             drop(listed);
             done
@@ -101,14 +108,14 @@ fn of_order<K: Sink>(
     let stages = job.design.job().stages.value as u8;
     let names = order.names();
     if are_names(names, stages) {
-        drawn(alloc, order, input, job, out)
+        with_labels(alloc, order, input, job, out)
     } else {
         Err(Failure::Complained(Complaint::WrongNames(names.len(), stages)))
     }
 }
 
-// The same where the names are names for its stages. Each word is an arm here.
-fn drawn<K: Sink>(
+// The same where the names are names for its stages: with the labels, if all are labels.
+fn with_labels<K: Sink>(
     alloc: Global,
     order: &Order<'_>,
     input: &[u8],
@@ -116,6 +123,46 @@ fn drawn<K: Sink>(
     out: &mut K,
 ) -> Result<(), Failure>
     requires { names_fit (order_seen order.now) job.now.design.job ≡ true }
+    ensures { (file : Option (List ℕ)) → Ends K.held K.faults ⊥ (DueOfOrder (order_seen order.now) input.now job.now.design.job) file out.old out.new result }
+{
+    let layout = Layout::of(alloc, &job.design)?;
+    let text = order.label();
+    let run = Run {
+        at: 0,
+        end: text.len() as u32,
+    };
+    match labels_in(alloc, &layout, text, run) {
+        Ok(labels) => {
+            let done = drawn(alloc, order, labels.as_slice(), input, job, out);
+            drop(labels);
+            done
+        }
+        Err(LabelsRefused::Word(word)) => {
+            let said = copied(alloc, bytes_of(text, word))?;
+            Err(Failure::Complained(Complaint::WrongLabel(said)))
+        }
+        Err(LabelsRefused::NoMemory) => Err(Failure::Stopped(Stop::NoMemory)),
+    }
+}
+
+fn copied(alloc: Global, word: &[u8]) -> Result<Vec<u8>, NoMemory>
+    ensures { IfOk result (λ said. said.items ≡ word.now) }
+{
+    Ok(Vec::from_slice(alloc, word)?)
+}
+
+// The same with these labels. Each word is an arm here.
+fn drawn<K: Sink>(
+    alloc: Global,
+    order: &Order<'_>,
+    labels: &[Label],
+    input: &[u8],
+    job: &Accepted,
+    out: &mut K,
+) -> Result<(), Failure>
+    requires names { names_fit (order_seen order.now) job.now.design.job ≡ true }
+    requires labels { labels_of job.now.design.job (label_for (order_seen order.now)) ≡ Ok labels.now }
+    requires fit { All (IsLabel job.now.design.job (label_for (order_seen order.now))) labels.now }
     ensures { (file : Option (List ℕ)) → Ends K.held K.faults ⊥ (Draws (order_seen order.now) input.now job.now.design.job) file out.old out.new result }
 {
     a_figure_shows_the_run(job);
@@ -126,6 +173,7 @@ fn drawn<K: Sink>(
     match order {
         Order::Diagram(run) => diagram(alloc, run, job, out),
         Order::Window(later) => window(alloc, later, job, out),
+        Order::Labelled(shown) => labelled(alloc, shown, labels, job, out),
         Order::Svg(run) => svg(alloc, run, job, out),
         Order::Page(run) => page(alloc, run, input, job, out),
         Order::Paths => paths(alloc, job, out),

@@ -1,7 +1,7 @@
 //! The top call of `kpview`: from what the words of a command line ask for, and a source, to a status, standard output and standard error.
 //!
 //! What is asked for writes to standard output alone, with status 0. A complaint (words that aren't accepted, a job that violates a rule, another
-//! number of names than of stages) goes up as an error, with nothing written, and `ended` writes it to standard error. `specs/Due.antt` defines the
+//! number of names than of stages, a label that the job doesn't have) goes up as an error, with nothing written, and `ended` writes it to standard error. `specs/Due.antt` defines the
 //! status and the text of each outcome. All memory is allocated before the first byte is written.
 //!
 //! A word is a module with one function, as `diagram`, and an arm in `drawn`.
@@ -12,6 +12,8 @@ mod depth;
 mod diagram;
 mod failure;
 mod job;
+mod labelled;
+mod listed;
 mod page;
 mod paths;
 mod paths_svg;
@@ -37,7 +39,7 @@ use kp_view_words::{Request, Task, help_of, version};
 use std::alloc::Global;
 
 /// Does what is asked for: reads the source if something is to be shown of a job, writes to standard output or to standard error, and returns the status. It is 0 if
-/// all was written to standard output, 1 for words that aren't accepted or another number of names than of stages, 2 if the input or a directive in it violates a rule,
+/// all was written to standard output, 1 for words that aren't accepted, another number of names than of stages or a label that isn't one, 2 if the input or a directive in it violates a rule,
 /// 3 for a fault of the source, 4 for a fault of a sink, and 5 for out of memory.
 pub fn view<S: Source, K: Sink, E: Sink>(
     alloc: Global,
@@ -63,8 +65,8 @@ pub fn view<S: Source, K: Sink, E: Sink>(
         → ¬ Rose (E.faults err.old) (E.faults err.new) → result ≢ 5 → IfSome (S.left source.old) (λ input.
         (text : List ℕ) × DueFor (asked request.now) input result text × Prints K.held E.held out.old out.new err.old err.new result text) }
 
-    // Status 1 for words that aren't accepted, and else only for names that aren't names for the stages of an accepted job; status 0 is never returned
-    // for such names (`drawn`).
+    // Status 1 for words that aren't accepted, and else only for names that aren't names for the stages of an accepted job, or words that aren't labels of it;
+    // status 0 is never returned for those (`drawn`).
     ensures bad_words { (topic : Topic) → asked request.now ≡ bad_words topic → IsFinal result → result ≡ 1 }
     ensures unaccepted { result ≡ 1 → Between (S.left source.old) (S.left source.new) (E.held err.old) (E.held err.new) (IsUnaccepted (asked request.now)) }
 

@@ -1,4 +1,5 @@
 pub mod Asking
+pub mod Flags
 pub mod Matching
 pub mod Parts
 pub mod Rests

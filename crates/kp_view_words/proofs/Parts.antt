@@ -1,13 +1,13 @@
 -- A word, a second one, and the words after them.
-use Rattle.std.proofs.Common.{◌≡◌, ◌∙◌, ◌-◌, ◌≤◌, Bool, cond, true, false, List, [], ◌∷◌, map, length, take, drop, get_or, Option, Some, None, refl, ap, ap₂, arith}
+use Rattle.std.proofs.Common.{◌≡◌, ◌∙◌, ◌-◌, ◌≤◌, Bool, cond, true, false, List, [], ◌∷◌, map, length, take, drop, get_or, Option, Some, None, refl, ap, arith}
 use Rattle.std.proofs.lemmas.List.{length-drop, take_all}
 use Rattle.std.specs.{Borrow.Bor, List.find, List.list_any, Option.option_copied, Prelude.not, Prelude.option_map}
 use Rattle.kp_command_line.{specs.Words.Text, specs.Words.has_flag, specs.Words.is_flag, proofs.Parses.any_text}
-use Rattle.kp_view_words.specs.Words.{asks_files, asks_picture, depth_with, flagged_task, is_name, names_in, paths_svg, takes_names, with_file, wrong_name}
+use Rattle.kp_view_words.specs.Words.{asks_files, asks_picture, depth_with, is_name, names_in, paths_svg, takes_names, with_file, with_flag, wrong_name}
 
 -- a flag for files
 by_files : (word flag : Text) (files : List Text) → false ≡ has_flag files → false ≡ asks_picture word flag → true ≡ asks_files word flag
-    → depth_with files ≡ flagged_task (word ∷ flag ∷ files)
+    → depth_with files ≡ with_flag word (flag ∷ files)
 by_files word flag files none picture asks =
     ap (λ (b : Bool). cond b (depth_with files) None) asks
     ∙ ap (λ (b : Bool). cond b (with_file paths_svg files) (cond (asks_files word flag) (depth_with files) None)) picture
@@ -20,16 +20,21 @@ module _ {X : Type 0} (text : X → Text) where
   all_after : (words : List X) → after words ≡ drop 2 words
   all_after words = let l = length-drop 2 words in take_all (length words - 2) (drop 2 words) (omega (arith, l))
 
-  pub flagged_files : (words : List X) (word flag : X) → 2 ≤ length words → word ≡ get_or words 0 word → flag ≡ get_or words 1 flag
-      → false ≡ list_any (λ w. is_flag (text w)) (after words) → false ≡ asks_picture (text word) (text flag) → true ≡ asks_files (text word) (text flag)
-      → depth_with (map text (after words)) ≡ flagged_task (map text words)
-  flagged_files [] word flag b first second none picture asks = absurd (omega (arith, b))
-  flagged_files (x ∷ []) word flag b first second none picture asks = absurd (omega (arith, b))
-  flagged_files (x ∷ y ∷ rest) word flag b first second none picture asks =
-      let left = all_after (x ∷ y ∷ rest) in
-      ap (λ (ws : List X). depth_with (map text ws)) left
-      ∙ by_files (text x) (text y) (map text rest) (none ∙ any_text text is_flag (after (x ∷ y ∷ rest)) ∙ ap (λ (ws : List X). has_flag (map text ws)) left)
-      (picture ∙ ap₂ (λ (w f : X). asks_picture (text w) (text f)) first second) (asks ∙ ap₂ (λ (w f : X). asks_files (text w) (text f)) first second)
+  abbrev left : List X → List X
+  left words = take (length words - 1) (drop 1 words)
+
+  all_left : (words : List X) → left words ≡ drop 1 words
+  all_left words = let l = length-drop 1 words in take_all (length words - 1) (drop 1 words) (omega (arith, l))
+
+  pub flagged_files : (word : Text) (rest : List X) (flag : X) → 1 ≤ length rest → flag ≡ get_or rest 0 flag
+      → false ≡ list_any (λ w. is_flag (text w)) (left rest) → false ≡ asks_picture word (text flag) → true ≡ asks_files word (text flag)
+      → depth_with (map text (left rest)) ≡ with_flag word (map text rest)
+  flagged_files word [] flag b first none picture asks = absurd (omega (arith, b))
+  flagged_files word (x ∷ rest) flag b first none picture asks =
+      let all = all_left (x ∷ rest) in
+      ap (λ (ws : List X). depth_with (map text ws)) all
+      ∙ by_files word (text x) (map text rest) (none ∙ any_text text is_flag (left (x ∷ rest)) ∙ ap (λ (ws : List X). has_flag (map text ws)) all)
+      (picture ∙ ap (λ (f : X). asks_picture word (text f)) first) (asks ∙ ap (λ (f : X). asks_files word (text f)) first)
 
   -- the first word that can't be the name of a stage
   copied : (found : Option (Bor X)) → option_map (λ x. text x.now) found ≡ option_map text (option_copied found)
@@ -51,7 +56,7 @@ module _ {X : Type 0} (text : X → Text) where
   first_wrong [] names word found b first is are takes = absurd (omega (arith, b))
   first_wrong (x ∷ []) names word found b first is are takes = absurd (omega (arith, b))
   first_wrong (x ∷ y ∷ rest) names word found b first is are takes =
-      let left = all_after (x ∷ y ∷ rest) in
+      let all = all_after (x ∷ y ∷ rest) in
       copied found ∙ ap (option_map text) is ∙ found_in (λ name. not (is_name name)) names
-      ∙ ap (find (λ name. not (is_name name))) (are ∙ ap (λ (ws : List X). names_in (map text ws)) left)
+      ∙ ap (find (λ name. not (is_name name))) (are ∙ ap (λ (ws : List X). names_in (map text ws)) all)
       ∙ ap (λ (b : Bool). cond b (find (λ name. not (is_name name)) (names_in (map text rest))) None) (takes ∙ ap (λ (w : X). takes_names (text w)) first)

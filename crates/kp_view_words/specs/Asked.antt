@@ -1,9 +1,10 @@
 -- A request of the program, as what it asks for.
 use Rattle.std.specs.Prelude.{ℕ, List, Option, None, map, string_bytes, option_map}
 use Rattle.kp_command_line.specs.{declared.Input.Input, Words.file_seen}
-use Rattle.kp_view_words.specs.Words.{Asked, Order, Pair, Run, Task, bad_words, help, version, show, diagram, window, svg, page, paths, paths_svg, stalls, depth}
+use Rattle.kp_view_words.specs.Words.{Asked, Beside, Order, Pair, Run, Task, bad_words, help, version, show, diagram, window, labelled, svg, page, paths, paths_svg, stalls, depth}
 use Rattle.kp_view_words.specs.declared.words.Request.{Request}
 use Rattle.kp_view_words.specs.declared.task.Order as code_order
+use Rattle.kp_view_words.specs.declared.task.WithLabels as code_beside
 use Rattle.kp_view_words.specs.declared.task.Order.TheVariants as orders
 use Rattle.kp_view_words.specs.declared.pair.Pair as code_pair
 use Rattle.kp_view_words.specs.declared.task.Run as code_run
@@ -13,9 +14,13 @@ use Rattle.kp_view_words.specs.declared.words.Request.TheVariants as requests
 abbrev pub run_seen : code_run.Run → Run
 run_seen run = record { count = run.count; names = map string_bytes run.names.now }
 
+abbrev pub beside_seen : code_beside.WithLabels → Beside
+beside_seen shown = record { label = shown.label.now; file = option_map (λ word. string_bytes word.now) shown.file; listing = shown.listing.now }
+
 abbrev pub order_seen : code_order.Order → Order
 order_seen (orders.Diagram run) = diagram (run_seen run)
 order_seen (orders.Window later) = window later.from (run_seen later.run)
+order_seen (orders.Labelled shown) = labelled shown.later.from (run_seen shown.later.run) (beside_seen shown)
 order_seen (orders.Svg run) = svg (run_seen run)
 order_seen (orders.Page run) = page (run_seen run)
 order_seen orders.Paths = paths

@@ -3,7 +3,7 @@ use Rattle.std.specs.Prelude.{◌==◌, ◌||◌, ◌&&◌, ◌-◌, ◌+◌, no
 use Rattle.std.specs.{List.find, List.list_all, List.list_any, Option.option_map_or, Str.bytes_eq}
 use Rattle.kp_base.specs.Characters.{is_digit, is_word, run_length}
 use Rattle.kp_bits.specs.Literals.{number_of}
-use Rattle.kp_command_line.specs.Words.{Text, has_flag, input_named, source_in}
+use Rattle.kp_command_line.specs.Words.{Text, has_flag, input_named, is_flag, source_in}
 use Rattle.kp_view_words.specs.declared.{task.Memories.Memories, words.Topic.Topic, words.Word.Word}
 use Rattle.kp_view_words.specs.declared.task.Memories.TheVariants.{Inside, Outside}
 use Rattle.kp_view_words.specs.declared.words.Topic.TheVariants as topics
@@ -14,11 +14,22 @@ pub record Run : Type 0 where
   pub count : ℕ
   pub names : List Text
 
+-- What is beside the lines: the text that names labels, the file of a listing, and what this file has: nothing until it is read.
+pub record Beside : Type 0 where
+  pub label : Text
+  pub file : Option Text
+  pub listing : Text
+
+abbrev pub beside : Text → Beside
+beside label = record { label = label; file = None; listing = [] }
+
 -- What is to be written about a job: a word, with what it takes.
 pub data Order : Type 0 where
   diagram : Run → Order
   -- a diagram from this cycle on
   window : ℕ → Run → Order
+  -- the same with labels beside the lines, and a listing
+  labelled : ℕ → Run → Beside → Order
   svg : Run → Order
   page : Run → Order
   paths : Order
@@ -41,6 +52,7 @@ pub data Asked : Type 0 where
 abbrev pub names_for : Order → List Text
 names_for (diagram run) = run.names
 names_for (window from run) = run.names
+names_for (labelled from run beside) = run.names
 names_for (svg run) = run.names
 names_for (page run) = run.names
 names_for paths = []
@@ -55,12 +67,53 @@ run_named listed run = record { count = run.count; names = if length run.names =
 abbrev pub named : List Text → Order → Order
 named listed (diagram run) = diagram (run_named listed run)
 named listed (window from run) = window from (run_named listed run)
+named listed (labelled from run beside) = labelled from (run_named listed run) beside
 named listed (svg run) = svg (run_named listed run)
 named listed (page run) = page (run_named listed run)
 named listed paths = paths
 named listed paths_svg = paths_svg
 named listed (stalls count) = stalls count
 named listed (depth memories) = depth memories
+
+-- the text that names the labels
+abbrev pub label_for : Order → Text
+label_for (labelled from run beside) = beside.label
+label_for _ = []
+
+-- the same with these labels, where it is a diagram of some cycles without any
+abbrev pub run_labelled : Text → Run → Order
+run_labelled label run = if run.count == 0 then diagram run else labelled 0 run (beside label)
+
+abbrev pub with_label : Text → Order → Order
+with_label label (diagram run) = run_labelled label run
+with_label label (window from run) = labelled from run (beside label)
+with_label label order = order
+
+abbrev pub label_added : Text → Order → Order
+label_added label order = if length label == 0 then order else with_label label order
+
+-- the file of the listing
+abbrev pub listing_for : Order → Option Text
+listing_for (labelled from run beside) = beside.file
+listing_for _ = None
+
+-- the same with this listing, which is still to be read
+abbrev pub listing_added : Option Text → Order → Order
+listing_added file (labelled from run beside) = labelled from run (record { label = beside.label; file = file; listing = beside.listing })
+listing_added file order = order
+
+-- the same with what its listing has
+abbrev pub given_in : Text → Order → Order
+given_in listing (labelled from run beside) = labelled from run (record { label = beside.label; file = beside.file; listing = listing })
+given_in listing order = order
+
+abbrev pub listing_asked : Asked → Option Text
+listing_asked (show task) = listing_for task.order
+listing_asked _ = None
+
+abbrev pub listing_given : Text → Asked → Asked
+listing_given listing (show task) = show (record { order = given_in listing task.order; file = task.file })
+listing_given listing asked = asked
 
 -- the word of this name
 abbrev pub word_named : Text → Option Word
@@ -197,7 +250,7 @@ abbrev pub task_named : List Text → Option Task
 task_named [] = None
 task_named (name ∷ rest) = if nat_lt 14 (length rest) then None else option_and_then (λ word. task_with word rest) (word_named name)
 
--- The flags of words: `paths --svg`, and `depth --files 0`, with at most a file after them.
+-- THE FLAGS of words: `paths --svg`, and `depth --files 0`, with at most a file after them.
 abbrev pub asks_picture : Text → Text → Bool
 asks_picture word flag = bytes_eq word (codes "paths") && bytes_eq flag (codes "--svg")
 
@@ -208,13 +261,59 @@ abbrev pub depth_with : List Text → Option Task
 depth_with [] = None
 depth_with (number ∷ files) = if bytes_eq number (codes "0") then with_file (depth Outside) files else None
 
-abbrev pub flagged_task : List Text → Option Task
-flagged_task [] = None
-flagged_task (word ∷ []) = None
-flagged_task (word ∷ flag ∷ files) =
+abbrev pub with_flag : Text → List Text → Option Task
+with_flag word [] = None
+with_flag word (flag ∷ files) =
     if has_flag files then None
     else (if asks_picture word flag then with_file paths_svg files
     else (if asks_files word flag then depth_with files else None))
+
+-- A DIAGRAM WITH LABELS: `--label` and a word that names the labels, of at most 16,777,216 bytes, and maybe `--listing` and a file, are between the words of a
+-- diagram and a file, or are the last words.
+abbrev pub asks_label : Text → Text → Bool
+asks_label flag label = bytes_eq flag (codes "--label") && (not (is_flag label) && nat_le (length label) 16777216)
+
+-- a file, where there is none yet
+abbrev pub file_added : Order → List Text → Option Text → Option Task
+file_added order [] file = Some (record { order = order; file = file })
+file_added order (word ∷ []) None = Some (record { order = order; file = Some word })
+file_added order _ _ = None
+
+abbrev pub labelled_after : Text → Option Text → List Text → Task → Option Task
+labelled_after label listing files task = file_added (listing_added listing (label_added label task.order)) files task.file
+
+abbrev pub labelled_by : List Text → Text → Text → Option Text → List Text → Option Task
+labelled_by before flag label listing files =
+    if has_flag files then None
+    else (if asks_label flag label then option_and_then (labelled_after label listing files) (diagram_with before) else None)
+
+-- `--listing` and a file, or none
+abbrev pub asks_listing : Text → Text → Bool
+asks_listing flag file = bytes_eq flag (codes "--listing") && not (is_flag file)
+
+abbrev pub listed_by : List Text → Text → Text → List Text → Option Task
+listed_by before flag label (word ∷ file ∷ files) =
+    if asks_listing word file then labelled_by before flag label (Some file) files else labelled_by before flag label None (word ∷ file ∷ files)
+listed_by before flag label files = labelled_by before flag label None files
+
+abbrev pub labelled_with : List Text → List Text → Option Task
+labelled_with before (flag ∷ label ∷ files) = listed_by before flag label files
+labelled_with before _ = None
+
+-- how many words there are before the first that begins with `-`
+abbrev pub undashed : List Text → ℕ
+undashed [] = 0
+undashed (word ∷ rest) = if is_flag word then 0 else 1 + undashed rest
+
+abbrev pub labelled_task : List Text → Option Task
+labelled_task rest = labelled_with (take (undashed rest) rest) (drop (undashed rest) rest)
+
+abbrev pub asks_diagram : Text → Bool
+asks_diagram word = bytes_eq word (codes "diagram")
+
+abbrev pub flagged_task : List Text → Option Task
+flagged_task [] = None
+flagged_task (word ∷ rest) = if asks_diagram word then labelled_task rest else with_flag word rest
 
 abbrev pub task_of : List Text → Option Task
 task_of all = if has_flag all then flagged_task all else task_named all

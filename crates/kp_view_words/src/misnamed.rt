@@ -3,7 +3,8 @@ ghost use Rattle.std.specs.Prelude.{◌≡◌, map, string_bytes, option_map, no
 ghost use Rattle.std.specs.{List.find, Option.option_copied};
 ghost use Rattle.kp_view_words.specs.Words.{is_name, takes_names, wrong_name};
 
-use crate::words::{Word, is_name, names_in};
+use crate::runs::{is_name, names_in};
+use crate::words::Word;
 
 /// The first word in the place of a stage's name that can't be one. `None` where each can, or where the words have no such place.
 pub fn wrong_name(words: &[String]) -> Option<&String>

@@ -1,5 +1,5 @@
 // What is to be shown of a job.
-ghost use Rattle.std.specs.Prelude.{◌≤◌};
+ghost use Rattle.std.specs.Prelude.{◌≤◌, length};
 
 /// What is to be shown of the job of a file.
 #[derive(Clone, Copy)]
@@ -16,6 +16,8 @@ pub enum Order<'w> {
     Diagram(Run<'w>),
     /// The same from a later cycle on.
     Window(Later<'w>),
+    /// The same from a cycle on, with labels beside the lines.
+    Labelled(WithLabels<'w>),
     /// The same as a picture.
     Svg(Run<'w>),
     /// A run with the states of its cycles, as an HTML page.
@@ -65,6 +67,20 @@ pub struct Later<'w> {
     pub run: Run<'w>,
     pub ghost early: { from ≤ 1000000000 },
     pub ghost some: { 1 ≤ run.count },
+}
+
+/// A run that is drawn from a cycle on with labels, and with the lines of a listing.
+#[derive(Clone, Copy)]
+pub struct WithLabels<'w> {
+    pub later: Later<'w>,
+    /// The text that names the labels, of at most 16,777,216 bytes.
+    pub label: &'w [u8],
+    /// The file of the listing.
+    pub file: Option<&'w String>,
+    /// What this file has: nothing until it is read. At most 16,777,216 bytes.
+    pub listing: &'w [u8],
+    pub ghost short: { length label.now ≤ 16777216 },
+    pub ghost few: { length listing.now ≤ 16777216 },
 }
 
 // The cycles of a window: the first of them, and how many there are.

@@ -8,7 +8,7 @@ use crate::words::{Topic, Word};
 pub const VERSION: &str = "kpview 0.10.0\n";
 
 /// How the program is called.
-pub const USAGE: &str = "usage: kpview diagram N [NAMES] [FILE]
+pub const USAGE: &str = "usage: kpview diagram N [NAMES] [--label L,L [--listing FILE]] [FILE]
        kpview svg N [NAMES] [FILE]
        kpview page N [NAMES] [FILE]
        kpview paths [--svg] [FILE]
@@ -21,9 +21,11 @@ pub const USAGE: &str = "usage: kpview diagram N [NAMES] [FILE]
 ";
 
 /// How `diagram` is called.
-pub const USAGE_DIAGRAM: &str = "usage: kpview diagram N [NAMES] [FILE]
+pub const USAGE_DIAGRAM: &str =
+    "usage: kpview diagram N [NAMES] [--label L,L [--listing FILE]] [FILE]
 N is 0 to 1000, or FROM..TO: the cycles FROM to TO, at most 1000 of them, where
-TO is at most 1000000000; a name has 1 to 8 letters, digits or `_`
+TO is at most 1000000000; a name has 1 to 8 letters, digits or `_`; a label is a
+register or a word as F[0]
 ";
 
 /// How `svg` is called.
@@ -60,7 +62,8 @@ pub const HELP: &str = "Draws how instructions move through the pipelined machin
 usage: kpview WORD .. [FILE]
 
 words:
-  diagram N [NAMES] [FILE]   N cycles of the pipeline, as text
+  diagram N [NAMES] [--label L,L [--listing FILE]] [FILE]
+                             N cycles of the pipeline, as text
   svg N [NAMES] [FILE]       the same as a picture
   page N [NAMES] [FILE]      the same as an HTML page, with the states
   paths [--svg] [FILE]       where each read takes its value from
@@ -87,7 +90,7 @@ pub const HELP_DIAGRAM: &str =
 instruction that is fetched, a column for each cycle, and the account of the
 cycles below them.
 
-usage: kpview diagram N [NAMES] [FILE]
+usage: kpview diagram N [NAMES] [--label L,L [--listing FILE]] [FILE]
 
   N       the number of cycles, 0 to 1000, or a window FROM..TO: the cycles FROM
           to TO, at most 1000 of them, where TO is at most 1000000000. Its
@@ -97,6 +100,14 @@ usage: kpview diagram N [NAMES] [FILE]
   FILE    the job; without it, standard input is read. A single word after N
           is a file. Of several, the last one is a file if it has a character
           other than letters, digits and `_`, as in ./job
+  L       a label: a register, or a word of a file as F[0]. Beside each line is
+          its value before the instruction, in hexadecimal; or `-` where the
+          instruction doesn't retire in these cycles. The names may be given in
+          the job too: `//: stages IF ID EX ME WB`, `//: label PC`
+  --listing FILE
+          a listing of the program, as `objdump -d` prints it, or with lines as
+          `8: add r2, r2, r1`: the text of the address that is the value of the
+          first label
 
 A cell names the stage that holds the instruction in the cycle, with a mark:
   *   waits for a value

@@ -1,25 +1,16 @@
 // The words of a command line, and what they ask for.
-ghost use Rattle.std.specs.Prelude.{◌≡◌, ◌&&◌, ltb, leb, ◌≤◌, IfOk, IfSome, map, string_bytes, option_map, length, false};
-ghost use Rattle.std.specs.List.{list_any, list_all};
-ghost use Rattle.kp_view_words.specs.{Asked.asked, Asked.file_asked, Asked.order_seen, Asked.run_seen, Asked.task_seen, inner.Asking.run_asked, inner.Asking.span_seen, inner.Matching.task_matched};
+ghost use Rattle.std.specs.Prelude.{◌≡◌, ◌≤◌, IfOk, length, map, string_bytes, option_map, false};
+ghost use Rattle.std.specs.List.{list_any};
+ghost use Rattle.kp_view_words.specs.{Asked.asked, Asked.file_asked, Asked.task_seen, inner.Matching.task_matched};
 ghost use Rattle.kp_command_line.specs.Words.{has_flag, matched_seen};
-ghost use Rattle.kp_base.specs.Characters.{is_word};
-ghost use Rattle.kp_view_words.specs.Words.{asked_for, diagram_of, diagram_with, from_cycle, named, names_for, run_named, topic_of, topic_named, help_place, is_help_word, is_help_flag, is_version_flag, asks_help, task_of, task_named, task_with, stalls_with, with_file, flagged_task, asks_files, asks_picture, depth_with, run_in, run_with, span_after, span_between, span_of, word_named, count_of, names_in, file_in, is_file_after, is_name, is_path};
+ghost use Rattle.kp_view_words.specs.Words.{asked_for, listing_asked, listing_given, topic_of, topic_named, help_place, is_help_word, is_help_flag, is_version_flag, asks_help, task_of, task_named, task_with, flagged_task, asks_diagram, asks_files, asks_picture, depth_with, with_flag, word_named};
 
-use crate::task::{Cycles, Later, Memories, Order, Run, Span, Task};
-use kp_base::{NoMemory, is_digit, is_word, run_length};
-use kp_bits::read_number;
+use crate::labels::labelled_task;
+use crate::runs::{diagram_with, run_in, stalls_with, with_file};
+use crate::task::{Memories, Order, Task};
+use kp_base::NoMemory;
 use kp_command_line::{Matched, has_flag, match_words, source_in};
 use std::alloc::Global;
-
-/// The greatest number of cycles that are drawn.
-const MOST_DRAWN: u32 = 1_000;
-
-/// The greatest cycle of a window.
-const MOST_CYCLE: u32 = 1_000_000_000;
-
-/// The greatest number of cycles that are listed.
-const MOST_LISTED: u32 = 100_000;
 
 /// The words, each with the greatest number of words after it.
 const WORDS: [(&'static str, usize); 7] = [
@@ -31,9 +22,6 @@ const WORDS: [(&'static str, usize); 7] = [
     ("depth", 14),
     ("same", 14),
 ];
-
-/// The greatest length of a stage's name, in bytes.
-const MOST_NAME: usize = 8;
 
 /// A word, which says what is to be written about a job, or about two.
 #[derive(Clone, Copy)]
@@ -93,6 +81,30 @@ impl<'w> Request<'w> {
         }
     }
 
+    /// The file of the listing.
+    pub fn listing(&self) -> Option<&'w String>
+        ensures { option_map (λ word. string_bytes word.now) result ≡ listing_asked (asked self.now) }
+    {
+        match self {
+            Request::Show(task) => task.order.listing(),
+            Request::BadWords(_) | Request::Help(_) | Request::Version => None,
+        }
+    }
+
+    /// The same with what the listing has.
+    pub fn listed(self, listing: &'w [u8]) -> Request<'w>
+        requires { length listing.now ≤ 16777216 }
+        ensures { asked result ≡ listing_given listing.now (asked self.entry) }
+    {
+        match self {
+            Request::Show(task) => Request::Show(Task {
+                order: task.order.listed(listing),
+                file: task.file,
+            }),
+            Request::BadWords(_) | Request::Help(_) | Request::Version => self,
+        }
+    }
+
     /// The file of the job. `None` if standard input is read, or nothing.
     pub fn file(&self) -> Option<&'w String>
         ensures { option_map (λ word. string_bytes word.now) result ≡ file_asked (asked self.now) }
@@ -100,51 +112,6 @@ impl<'w> Request<'w> {
         match self {
             Request::Show(task) => task.file,
             Request::BadWords(_) | Request::Help(_) | Request::Version => None,
-        }
-    }
-}
-
-impl<'w> Order<'w> {
-    /// The names of the stages that are given; or none.
-    pub fn names(&self) -> &'w [String]
-        ensures { map string_bytes result.now ≡ names_for (order_seen self.now) }
-    {
-        match self {
-            Order::Diagram(run) | Order::Svg(run) | Order::Page(run) => run.names,
-            Order::Window(later) => later.run.names,
-            Order::Paths | Order::PathsSvg | Order::Stalls(_) | Order::Depth(_) => &[],
-        }
-    }
-
-    /// The same with these names of the stages, where none are given.
-    pub fn named(self, listed: &'w [String]) -> Order<'w>
-        ensures { order_seen result ≡ named (map string_bytes listed.now) (order_seen self.entry) }
-    {
-        match self {
-            Order::Diagram(run) => Order::Diagram(run.named(listed)),
-            Order::Window(later) => Order::Window(Later {
-                from: later.from,
-                run: later.run.named(listed),
-            }),
-            Order::Svg(run) => Order::Svg(run.named(listed)),
-            Order::Page(run) => Order::Page(run.named(listed)),
-            Order::Paths | Order::PathsSvg | Order::Stalls(_) | Order::Depth(_) => self,
-        }
-    }
-}
-
-impl<'w> Run<'w> {
-    fn named(self, listed: &'w [String]) -> Run<'w>
-        ensures named { run_seen result ≡ run_named (map string_bytes listed.now) (run_seen self.entry) }
-        ensures count { result.count ≡ self.entry.count }
-    {
-        if self.names.is_empty() {
-            Run {
-                count: self.count,
-                names: listed,
-            }
-        } else {
-            self
         }
     }
 }
@@ -249,7 +216,7 @@ fn task_of<'w>(alloc: Global, words: &'w [String]) -> Result<Option<Task<'w>>, N
     }
 }
 
-// What words ask for none of which is a flag: a word, with at most 14 further words.
+// What words ask for none of which begins with `-`: a word, with at most 14 further words.
 fn task_named<'w>(alloc: Global, words: &'w [String]) -> Result<Option<Task<'w>>, NoMemory>
     requires { has_flag (map string_bytes words.now) ≡ false }
     ensures { IfOk result (λ task. option_map task_seen task ≡ task_named (map string_bytes words.now)) }
@@ -295,124 +262,39 @@ fn task_with<'w>(word: Word, rest: &'w [String]) -> Option<Task<'w>>
     }
 }
 
-// A diagram: a number of cycles or a window, and then names of stages and a file.
-fn diagram_with<'w>(rest: &'w [String]) -> Option<Task<'w>>
-    ensures { option_map task_seen result ≡ diagram_with (map string_bytes rest.now) }
+// What words ask for one of which begins with `-`: a diagram with labels, `paths --svg` or `depth --files 0`.
+fn flagged_task<'w>(words: &'w [String]) -> Option<Task<'w>>
+    ensures { option_map task_seen result ≡ flagged_task (map string_bytes words.now) }
 {
-    match rest {
-        [word, more @ ..] => match count_of(word.as_bytes(), MOST_DRAWN) {
-            Some(count) => {
-                let asked = run_with(count, more)?;
-                Some(Task {
-                    order: Order::Diagram(asked.run),
-                    file: asked.file,
-                })
+    match words {
+        [word, rest @ ..] => {
+            if asks_diagram(word.as_str()) {
+                labelled_task(rest)
+            } else {
+                with_flag(word.as_str(), rest)
             }
-            None => window_with(span_of(word.as_bytes())?, more),
-        },
-        [] => None,
-    }
-}
-
-// The diagram of a window, with these words after it.
-fn window_with<'w>(span: Span, rest: &'w [String]) -> Option<Task<'w>>
-    ensures { option_map task_seen result ≡ option_map (diagram_of span.from) (run_with span.count (map string_bytes rest.now)) }
-{
-    let asked = run_with(span.count, rest)?;
-    Some(Task {
-        order: from_cycle(span.from, asked.run),
-        file: asked.file,
-    })
-}
-
-// The diagram of a run from this cycle on.
-fn from_cycle<'w>(from: u32, run: Run<'w>) -> Order<'w>
-    requires early { from ≤ 1000000000 }
-    requires some { 1 ≤ run.count }
-    ensures { order_seen result ≡ from_cycle from (run_seen run.entry) }
-{
-    if from == 0 {
-        Order::Diagram(run)
-    } else {
-        Order::Window(Later { from, run })
-    }
-}
-
-// The cycles that a word as `5000..5040` denotes.
-fn span_of(word: &[u8]) -> Option<Span>
-    ensures { option_map span_seen result ≡ span_of word.now }
-{
-    let digits = run_length(word, |byte| is_digit(byte));
-    let from = count_of(&word[..digits], MOST_CYCLE)?;
-    span_after(from, &word[digits..])
-}
-
-fn span_after(from: u32, rest: &[u8]) -> Option<Span>
-    requires { from ≤ 1000000000 }
-    ensures { option_map span_seen result ≡ span_after from rest.now }
-{
-    match rest {
-        [a, b, last @ ..] => if *a == b'.' && *b == b'.' {
-            span_between(from, count_of(last, MOST_CYCLE)?)
-        } else {
-            None
-        },
-        _ => None,
-    }
-}
-
-fn span_between(from: u32, to: u32) -> Option<Span>
-    requires from { from ≤ 1000000000 }
-    requires to { to ≤ 1000000000 }
-    ensures { option_map span_seen result ≡ span_between from to }
-{
-    if from <= to && to - from < 1_000 {
-        Some(Span {
-            from,
-            count: to - from + 1,
-        })
-    } else {
-        None
-    }
-}
-
-// The stalls of a job: a number of cycles, with at most a file after it.
-fn stalls_with<'w>(rest: &'w [String]) -> Option<Task<'w>>
-    ensures { option_map task_seen result ≡ stalls_with (map string_bytes rest.now) }
-{
-    match rest {
-        [number, files @ ..] => {
-            let count = count_of(number.as_bytes(), MOST_LISTED)?;
-            with_file(Order::Stalls(Cycles { count }), files)
         }
         [] => None,
     }
 }
 
-// What is to be written, with at most a file after it.
-fn with_file<'w>(order: Order<'w>, rest: &'w [String]) -> Option<Task<'w>>
-    ensures { option_map task_seen result ≡ with_file (order_seen order.entry) (map string_bytes rest.now) }
+fn asks_diagram(word: &str) -> bool
+    ensures { result ≡ asks_diagram word.now }
 {
-    if rest.len() > 1 {
-        return None;
-    }
-    Some(Task {
-        order,
-        file: rest.first(),
-    })
+    word == "diagram"
 }
 
-// What words ask for one of which is a flag: `paths --svg` or `depth --files 0`, with at most a file.
-fn flagged_task<'w>(words: &'w [String]) -> Option<Task<'w>>
-    ensures { option_map task_seen result ≡ flagged_task (map string_bytes words.now) }
+// `paths --svg` or `depth --files 0`, with at most a file.
+fn with_flag<'w>(word: &str, rest: &'w [String]) -> Option<Task<'w>>
+    ensures { option_map task_seen result ≡ with_flag word.now (map string_bytes rest.now) }
 {
-    match words {
-        [word, flag, files @ ..] => {
+    match rest {
+        [flag, files @ ..] => {
             if has_flag(files) {
                 None
-            } else if asks_picture(word.as_str(), flag.as_str()) {
+            } else if asks_picture(word, flag.as_str()) {
                 with_file(Order::PathsSvg, files)
-            } else if asks_files(word.as_str(), flag.as_str()) {
+            } else if asks_files(word, flag.as_str()) {
                 depth_with(files)
             } else {
                 None
@@ -448,123 +330,4 @@ fn asks_picture(word: &str, flag: &str) -> bool
     ensures { result ≡ asks_picture word.now flag.now }
 {
     word == "paths" && flag == "--svg"
-}
-
-// A run and a file.
-#[derive(Clone, Copy)]
-struct RunAsked<'w> {
-    run: Run<'w>,
-    file: Option<&'w String>,
-}
-
-// The run that is drawn: a number of cycles, and then names of stages and a file.
-fn run_in<'w>(rest: &'w [String]) -> Option<RunAsked<'w>>
-    ensures { option_map run_asked result ≡ run_in (map string_bytes rest.now) }
-{
-    match rest {
-        [number, more @ ..] => run_with(count_of(number.as_bytes(), MOST_DRAWN)?, more),
-        [] => None,
-    }
-}
-
-// The run with this number of cycles, and these words after it.
-fn run_with<'w>(count: u32, rest: &'w [String]) -> Option<RunAsked<'w>>
-    requires { count ≤ 1000 }
-    ensures asked { option_map run_asked result ≡ run_with count (map string_bytes rest.now) }
-    ensures count { IfSome result (λ asked. asked.run.count ≡ count) }
-{
-    let names = names_in(rest);
-    if are_names(names) {
-        Some(RunAsked {
-            run: Run { count, names },
-            file: file_in(rest),
-        })
-    } else {
-        None
-    }
-}
-
-// The names among the words after N.
-pub(crate) fn names_in(rest: &[String]) -> &[String]
-    ensures { map string_bytes result.now ≡ names_in (map string_bytes rest.now) }
-{
-    match rest.split_last() {
-        Some((last, names)) => if is_file_after(names, last) {
-            names
-        } else {
-            rest
-        },
-        None => rest,
-    }
-}
-
-// The file among them, if there is one.
-fn file_in(rest: &[String]) -> Option<&String>
-    ensures { option_map (λ word. string_bytes word.now) result ≡ file_in (map string_bytes rest.now) }
-{
-    match rest.split_last() {
-        Some((last, names)) => if is_file_after(names, last) {
-            Some(last)
-        } else {
-            None
-        },
-        None => None,
-    }
-}
-
-// The last word is a file: after no names, or if it isn't a word of letters, digits and `_`.
-fn is_file_after(names: &[String], last: &str) -> bool
-    ensures { result ≡ is_file_after (length names.now) last.now }
-{
-    names.is_empty() || is_path(last)
-}
-
-// A word that can't be a name, as it has a character other than letters, digits and `_`.
-fn is_path(word: &str) -> bool
-    ensures { result ≡ is_path word.now }
-{
-    word.as_bytes().iter().any(|byte| !is_word(*byte))
-}
-
-fn are_names(names: &[String]) -> bool
-    ensures { result ≡ list_all (λ name. is_name (string_bytes name)) names.now }
-{
-    names.iter().all(|name| is_name(name.as_str()))
-}
-
-// The name of a stage.
-pub(crate) fn is_name(word: &str) -> bool
-    ensures { result ≡ is_name word.now }
-{
-    has_name_length(word) && is_all_word(word.as_bytes())
-}
-
-fn has_name_length(word: &str) -> bool
-    ensures { result ≡ (ltb 0 (length word.now) && leb (length word.now) 8) }
-{
-    let bytes = word.as_bytes();
-    0 < bytes.len() && bytes.len() <= MOST_NAME
-}
-
-fn is_all_word(bytes: &[u8]) -> bool
-    ensures { result ≡ list_all is_word bytes.now }
-{
-    bytes.iter().all(|byte| is_word(*byte))
-}
-
-/// The number of cycles that 1 to 20 decimal digits denote, up to the greatest one.
-#[tactic(auto, unfolding(crate::specs::Words::count_of))]
-fn count_of(word: &[u8], most: u32) -> Option<u32>
-    ensures count { result ≡ count_of most word.now }
-    ensures few { IfSome result (λ count. count ≤ most) }
-{
-    if word.len() > 20 {
-        return None;
-    }
-    let number = read_number(word)?;
-    if number <= u64::from(most) {
-        Some(number as u32)
-    } else {
-        None
-    }
 }

@@ -2,7 +2,7 @@
 //! `explain`, that of `same`, which has two files, or that of all other words. The help of `explain` is printed here.
 #![tactic(auto)]
 
-use kp_base::{NoMemory, StdSink, StdSource, write_all, write_pieces};
+use kp_base::{NoMemory, ReadAll, StdSink, StdSource, read_all, write_all, write_pieces};
 use kp_command_line::Input;
 use kp_program::{PAGE, STDIN, Stop, ended, opened, status_after, unless_stopped, words};
 use kp_view::view;
@@ -42,9 +42,35 @@ fn view_words<'w>(rt: &HostRuntime, words: &'w [String]) -> Result<u8, Stop<'w>>
     if matches!(request, Request::BadWords(_)) {
         say_wrong_name(rt, words);
     }
-    match request.file() {
-        Some(file) => view_reader(rt, &request, file.as_str(), opened(rt, file.as_str())?),
-        None => view_reader(rt, &request, STDIN, rt.reader()),
+    let file = request.file();
+    match request.listing() {
+        Some(name) => {
+            let text = read(rt, name.as_str())?;
+            view_file(rt, &request.listed(text.as_slice()), file)
+        }
+        None => view_file(rt, &request, file),
+    }
+}
+
+// The bytes of a file.
+fn read<'n>(rt: &HostRuntime, name: &'n str) -> Result<Vec<u8>, Stop<'n>> {
+    match read_all(rt.alloc(), &mut StdSource::new(opened(rt, name)?)) {
+        Ok(text) => Ok(text),
+        Err(ReadAll::NoMemory) => Err(Stop::NoMemory),
+        Err(ReadAll::TooLong) => Err(Stop::at(name, ErrorKind::InvalidData)),
+        Err(ReadAll::Fault) => Err(Stop::at(name, ErrorKind::Other)),
+    }
+}
+
+// Does what is asked for of a file, or of standard input.
+fn view_file<'n>(
+    rt: &HostRuntime,
+    request: &Request<'_>,
+    file: Option<&'n String>,
+) -> Result<u8, Stop<'n>> {
+    match file {
+        Some(file) => view_reader(rt, request, file.as_str(), opened(rt, file.as_str())?),
+        None => view_reader(rt, request, STDIN, rt.reader()),
     }
 }
 

@@ -2,7 +2,7 @@
 use Rattle.std.specs.Prelude.{string_bytes, option_map}
 use Rattle.kp_view_words.specs.{Asked.run_seen, Words.RunAsked, Words.Span}
 use Rattle.kp_view_words.specs.declared.task.Span as code_span
-use Rattle.kp_view_words.specs.declared.words.RunAsked as code
+use Rattle.kp_view_words.specs.declared.runs.RunAsked as code
 
 abbrev pub run_asked : code.RunAsked → RunAsked
 run_asked asked = record { run = run_seen asked.run; file = option_map (λ word. string_bytes word.now) asked.file }

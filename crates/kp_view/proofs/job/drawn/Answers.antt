@@ -1,7 +1,12 @@
-use Rattle.std.proofs.Common.{◌+◌, ap}
+use Rattle.std.proofs.Common.{◌≡◌, ◌+◌, ℕ, List, None, Ok, All, ap, subst}
+use Rattle.kp_diagram_run.specs.Windows.{job_window}
+use Rattle.kp_diagram_text.specs.Labelled.{labelled_text}
+use Rattle.kp_diagram_labels.specs.{Labels.IsLabel, Labels.labels_of, Texts.heading, Texts.label_text}
+use Rattle.kp_listing.specs.Listings.{entries_of}
+use Rattle.kp_view_words.specs.declared.task.Order as code
 use Rattle.kp_machine.specs.Machine.{inputs_from, pipe_of}
-use Rattle.kp_view_words.specs.{Asked.order_seen, Asked.run_seen, Words.diagram, Words.window, Words.svg, Words.page, Words.paths, Words.paths_svg, Words.stalls, Words.depth}
-use Rattle.kp_view.proofs.Ends.{drawn_by}
+use Rattle.kp_view_words.specs.{Asked.beside_seen, Asked.order_seen, Asked.run_seen, Words.diagram, Words.window, Words.labelled, Words.label_for, Words.svg, Words.page, Words.paths, Words.paths_svg, Words.stalls, Words.depth}
+use Rattle.kp_view.{specs.Due.IsText, specs.Due.Says, proofs.Ends.drawn_by, proofs.Ends.weaker}
 use Rattle.kp_view.proofs.job.drawn.Goals as goal
 
 pub returns-in-Diagram : goal.returns-in-Diagram
@@ -16,6 +21,27 @@ returns-in-Window g c = λ file.
     let from = c.in-Window.later.from in
     drawn_by g.K.Sink.held g.K.Sink.faults file (order_seen c.args.order.now) (window from run) c.args.input.now c.args.job.now.design.job (ap order_seen c.in-Window.is)
     (c.a_figure_shows_the_run.ensures run.names (from + run.count)) _ _ _ c.window.ensures
+
+pub labelled-requires-clause-labels : goal.labelled-requires-clause-labels
+labelled-requires-clause-labels g c =
+    subst (λ (o : code.Order). All (IsLabel c.args.job.now.design.job (label_for (order_seen o))) c.args.labels.now) c.in-Labelled.is c.requires.fit
+
+pub returns-in-Labelled : goal.returns-in-Labelled
+returns-in-Labelled g c = λ file.
+    let shown = c.in-Labelled.shown in
+    let run = run_seen shown.later.run in
+    let from = shown.later.from in
+    let job = c.args.job.now.design.job in
+    let beside = beside_seen shown in
+    let label = beside.label in
+    let entries = entries_of beside.listing in
+    let labels = c.args.labels.now in
+    let are : labels_of job label ≡ Ok labels = subst (λ (o : code.Order). labels_of job (label_for (order_seen o)) ≡ Ok labels) c.in-Labelled.is c.requires.labels in
+    let text : List ℕ = labelled_text (heading job label labels entries) (label_text job label labels entries (from + run.count)) from (job_window run.names from run.count job) in
+    drawn_by g.K.Sink.held g.K.Sink.faults file (order_seen c.args.order.now) (labelled from run beside) c.args.input.now job (ap order_seen c.in-Labelled.is)
+    (c.a_figure_shows_the_run.ensures run.names (from + run.count)) _ _ _
+    (weaker g.K.Sink.held g.K.Sink.faults None ⊥ ⊥ (Says 0 text) (λ s t. (s ≡ 0) × IsText (labelled from run beside) c.args.input.now job t) (λ u. u)
+    (λ s t due. (due.0, (labels, are, due.1))) _ _ _ c.labelled.ensures)
 
 pub returns-in-Svg : goal.returns-in-Svg
 returns-in-Svg g c =

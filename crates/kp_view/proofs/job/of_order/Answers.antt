@@ -4,7 +4,7 @@ use Rattle.kp_ast.specs.declared.tree.Job.{Job}
 use Rattle.kp_run.proofs.Machines.{stages_fit}
 use Rattle.kp_diagram_text.specs.Charts.{are_names}
 use Rattle.kp_view_words.specs.Asked.{order_seen}
-use Rattle.kp_view.{specs.Due.names_fit, proofs.Ends.by_names, proofs.Ends.names_wrong}
+use Rattle.kp_view.proofs.Ends.{names_wrong}
 use Rattle.kp_view.proofs.job.of_order.Goals as goal
 
 pub overflow_cast-stages : goal.overflow_cast-stages
@@ -12,13 +12,13 @@ overflow_cast-stages g c =
     let few : c.job.result.now.stages.value ≤ 12 = rw c.job.ensures.job (stages_fit c.args.job.now.design.job c.job.ensures.sound.stages).1 in
     omega (arith, few)
 
+pub with_labels-requires : goal.with_labels-requires
+with_labels-requires g c =
+    ap (λ (names : List (List ℕ)). are_names names c.args.job.now.design.job.stages.value) (sym c.names-names.ensures)
+    ∙ rw c.job.ensures.job at (sym c.are_names.ensures ∙ c.if-are_names.true)
+
 pub returns-then-are_names : goal.returns-then-are_names
-returns-then-are_names g c = λ file.
-    let order = order_seen c.args.order.now in
-    by_names g.K.Sink.held g.K.Sink.faults file (names_fit order c.args.job.now.design.job) true
-    order c.args.input.now c.args.job.now.design.job
-    (ap (λ (names : List (List ℕ)). are_names names c.args.job.now.design.job.stages.value) (sym c.names-names.ensures)
-    ∙ rw c.job.ensures.job at (sym c.are_names.ensures ∙ c.if-are_names.true)) _ _ _ (c.drawn.ensures file)
+returns-then-are_names g c = λ file. c.with_labels.ensures file
 
 pub returns-else-are_names : goal.returns-else-are_names
 returns-else-are_names g c = λ file.

@@ -1,0 +1,3 @@
+-- For private contracts and proofs only: a reader need not trust it.
+pub mod Columns
+pub mod Runs
