@@ -36,13 +36,11 @@ pub accepted_program : (file text words : List ℕ) (status : ℕ) (said : List 
 unfolding assembled
 accepted_program file text words status said is zero empty strict = (None, sym (ap (λ r. rule_of (program_verdict r)) is), (zero, empty), tt)
 
-pub refused_program : (file text facts said : List ℕ) (f : ProgramFinding) (status : ℕ) → program_of text ≡ Err f → status ≡ 2
-    → AppendsNoteAt text f.place (program_mark text f.place) [] facts → said ≡ rule_head file (program_refusal f) ++ facts
-    → (strict : Bool) → ExplainsShown subjects.Program strict file text status said
+pub refused_program : (file text said : List ℕ) (f : ProgramFinding) (status : ℕ) → program_of text ≡ Err f → status ≡ 2
+    → ShowsPlace file text (program_refusal f) (program_mark text f.place) said → (strict : Bool) → ExplainsShown subjects.Program strict file text status said
 unfolding assembled
-refused_program file text facts said f status is two note whole strict =
-    refused subjects.Program strict file text said (program_refusal f) status _ (sym (ap (λ r. rule_of (program_verdict r)) is)) two refl
-    (noted file text facts said (program_refusal f) _ note whole)
+refused_program file text said f status is two shown strict =
+    refused subjects.Program strict file text said (program_refusal f) status _ (sym (ap (λ r. rule_of (program_verdict r)) is)) two refl shown
 
 -- a job with a script
 pub of_script : (file text : List ℕ) (job : Job) (from status : ℕ) (said : List ℕ) → JudgesHeadText text (Ok (job, from))

@@ -11,7 +11,7 @@ use Rattle.kp_parse.{specs.Sentence.Breaks, specs.Sentence.IsTree, specs.Sentenc
 use Rattle.kp_frontend.specs.Judging.{JudgesText, JudgesHeadText, most_bytes, JudgesText.no_sentence, Judges.within, JudgesHeadText.no_head_sentence}
 use Rattle.kp_frontend.{specs.Judging.JudgesHead.head_within, proofs.Verdicts.one_verdict, proofs.Verdicts.one_head}
 use Rattle.kp_view_expected.specs.{GoesOn.class_of, GoesOn.GoesOn, GoesOn.Lists, declared.set.Expected.Expected}
-use Rattle.kp_view_help.specs.{Texts.found_text, declared.found.FoundToken.FoundToken}
+use Rattle.kp_view_help.specs.{Texts.found_text, declared.allowed.Before.Before, declared.found.FoundToken.FoundToken}
 use Rattle.kp_view_message.specs.{Texts.message_text, declared.message.Message.Message}
 use Rattle.kp_view_message.specs.declared.message.Message.TheVariants as messages
 use Rattle.kp_view_message.specs.declared.reading_fault.ReadingFault.TheVariants as faults
