@@ -9,7 +9,7 @@ is_register pieces.Register = true
 is_register _ = false
 
 abbrev pub has_register : List Piece → Bool
-has_register (comma ∷ piece ∷ rest) = is_register piece
+has_register (_ ∷ piece ∷ rest) = is_register piece
 has_register _ = false
 
 abbrev pub is_open : Piece → Bool
@@ -28,7 +28,7 @@ operands_text _ rest = if begins_with_open rest then codes " rd, number(ra)" els
 
 -- what follows a register, up to the end of the line
 abbrev pub after_register : List Piece → List ℕ
-after_register (comma ∷ second ∷ rest) = operands_text second rest
+after_register (_ ∷ second ∷ rest) = operands_text second rest
 after_register _ = codes " ra"
 
 -- how a message writes what follows a mnemonic of this form
