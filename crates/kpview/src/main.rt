@@ -2,6 +2,8 @@
 //! `explain`, that of `same`, which has two files, or that of all other words. The help of `explain` is printed here.
 #![tactic(auto)]
 
+ghost use Rattle.std.specs.Prelude.{◌≤◌, vec_len, IfOk};
+
 use kp_base::{NoMemory, ReadAll, StdSink, StdSource, read_all, write_all, write_pieces};
 use kp_command_line::Input;
 use kp_program::{PAGE, STDIN, Stop, ended, opened, status_after, unless_stopped, words};
@@ -53,7 +55,9 @@ fn view_words<'w>(rt: &HostRuntime, words: &'w [String]) -> Result<u8, Stop<'w>>
 }
 
 // The bytes of a file.
-fn read<'n>(rt: &HostRuntime, name: &'n str) -> Result<Vec<u8>, Stop<'n>> {
+fn read<'n>(rt: &HostRuntime, name: &'n str) -> Result<Vec<u8>, Stop<'n>>
+    ensures { IfOk result (λ text. vec_len text ≤ 16777216) }
+{
     match read_all(rt.alloc(), &mut StdSource::new(opened(rt, name)?)) {
         Ok(text) => Ok(text),
         Err(ReadAll::NoMemory) => Err(Stop::NoMemory),
