@@ -111,17 +111,17 @@ module _ {K : Type 0} {held : K → Option (List ℕ)} {faults : K → ℕ} wher
   wrote_as u v text same e x = subst (λ (t : List ℕ). Wrote held faults u v t) e x
 
   -- the end of a text that a new writer wrote
-  ended : {T E : Type 0} (u v w : Writer K) (text : List ℕ) (result : Result T E) → u.page ≡ [] → u.failed ≡ false → Wrote held faults u v text → Ended held faults v w result
-      → Writes (held u.sink.now) (held w.sink.now) text result × HasCause (faults u.sink.now) (faults w.sink.now) result
-  ended u v w text result empty fine x y = ended_in (held u.sink.now) (held v.sink.now) (held w.sink.now) (faults u.sink.now) (faults v.sink.now) (faults w.sink.now) u.failed v.failed u.page v.page text result empty fine x.passed y.flushed
+  ended : {T E : Type 0} (u v : Writer K) (sink : K) (text : List ℕ) (result : Result T E) → u.page ≡ [] → u.failed ≡ false → Wrote held faults u v text → Ended held faults v sink result
+      → Writes (held u.sink.now) (held sink) text result × HasCause (faults u.sink.now) (faults sink) result
+  ended u v sink text result empty fine x y = ended_in (held u.sink.now) (held v.sink.now) (held sink) (faults u.sink.now) (faults v.sink.now) (faults sink) u.failed v.failed u.page v.page text result empty fine x.passed y.flushed
 
-  pub ended_text : {T E : Type 0} (u v w : Writer K) (text : List ℕ) (result : Result T E) → u.page ≡ [] → u.failed ≡ false → Wrote held faults u v text → Ended held faults v w result
-      → Writes (held u.sink.now) (held w.sink.now) text result
-  ended_text u v w text result empty fine x y = (ended u v w text result empty fine x y).0
+  pub ended_text : {T E : Type 0} (u v : Writer K) (sink : K) (text : List ℕ) (result : Result T E) → u.page ≡ [] → u.failed ≡ false → Wrote held faults u v text → Ended held faults v sink result
+      → Writes (held u.sink.now) (held sink) text result
+  ended_text u v sink text result empty fine x y = (ended u v sink text result empty fine x y).0
 
-  pub ended_cause : {T E : Type 0} (u v w : Writer K) (text : List ℕ) (result : Result T E) → u.page ≡ [] → u.failed ≡ false → Wrote held faults u v text → Ended held faults v w result
-      → HasCause (faults u.sink.now) (faults w.sink.now) result
-  ended_cause u v w text result empty fine x y = (ended u v w text result empty fine x y).1
+  pub ended_cause : {T E : Type 0} (u v : Writer K) (sink : K) (text : List ℕ) (result : Result T E) → u.page ≡ [] → u.failed ≡ false → Wrote held faults u v text → Ended held faults v sink result
+      → HasCause (faults u.sink.now) (faults sink) result
+  ended_cause u v sink text result empty fine x y = (ended u v sink text result empty fine x y).1
 
   -- A text that is written up to a rest.
   pub up_none : (whole : List ℕ) (w : Writer K) → WroteUpTo held faults whole whole w w

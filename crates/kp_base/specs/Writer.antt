@@ -26,9 +26,8 @@ module _ {K : Type 0} (held : K → Option (List ℕ)) (faults : K → ℕ) wher
     pub sink : new.sink.ghost_name ≡ old.sink.ghost_name
     pub passed : Passed (held old.sink.now) (faults old.sink.now) old.failed old.page (held new.sink.now) (faults new.sink.now) new.failed new.page text
 
-  -- ITS BUFFER WAS WRITTEN to the sink, unless that had failed.
-  pub record Ended {T E : Type 0} (old new : Writer K) (result : Result T E) : Type 0 where
-    pub sink : new.sink.ghost_name ≡ old.sink.ghost_name
-    pub flushed : MatchBool old.failed
-        (IsErr result × ((held new.sink.now ≡ held old.sink.now) × (faults new.sink.now ≡ faults old.sink.now)))
-        (Writes (held old.sink.now) (held new.sink.now) old.page result × HasCause (faults old.sink.now) (faults new.sink.now) result)
+  -- THE END OF A TEXT: what the buffer of a writer contained was written to its sink, unless that had failed before. `sink` is the sink afterwards.
+  pub record Ended {T E : Type 0} (w : Writer K) (sink : K) (result : Result T E) : Type 0 where
+    pub flushed : MatchBool w.failed
+        (IsErr result × ((held sink ≡ held w.sink.now) × (faults sink ≡ faults w.sink.now)))
+        (Writes (held w.sink.now) (held sink) w.page result × HasCause (faults w.sink.now) (faults sink) result)

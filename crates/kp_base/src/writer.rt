@@ -87,12 +87,17 @@ impl<'a, K: Sink> Writer<'a, K> {
     }
 
     /// Writes what the buffer contains. It fails if the sink has failed before, too. A fault comes only from the sink.
-    pub fn finish(&mut self) -> Result<(), SinkFault>
-        ensures { Ended K.held K.faults self.old self.new result }
+    pub fn finish(self) -> Result<(), SinkFault>
+        ensures { Ended K.held K.faults self.entry self.exit.0.now result }
     {
-        if self.failed {
+        let Writer {
+            sink,
+            mut page,
+            failed,
+        } = self;
+        if failed {
             return Err(SinkFault);
         }
-        self.page.flush(self.sink)
+        page.flush(sink)
     }
 }
