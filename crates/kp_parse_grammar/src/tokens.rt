@@ -60,7 +60,9 @@ impl<'t> Tokens<'t> {
         }
     }
 
-    // A token with its bytes, and the number of the next one; `None` from the end of the text on.
+    // A token with its bytes, and the number of the next one; `None` from the end of the text on. Most callers compare the kind alone, so a call costs more
+    // than its body.
+    #[inline(always)]
     fn token(&self, at: usize) -> Option<(Spelled<'t>, usize)>
         ensures token { MatchOption result (drop at self.now ≡ [])
             (λ x. drop at self.now ≡ record { kind = x.0.kind; place = x.0.place; bytes = x.0.bytes.now } ∷ drop x.1 self.now) }
