@@ -125,7 +125,7 @@ one_value : (b : Bool) (row : List ℕ) (p v a : ℕ) → p < length row → sli
 one_value true row p v a h = set_seen row p v 0 a h ∙ ap (λ b. cond b v (slice_index row a)) (eqb_turned a p)
 one_value false row p v a h = refl
 
-or_zero_fits : (o : Option ℕ) (w : ℕ) → ((v : ℕ) → o ≡ Some v → v < 2 ^ w) → unwrap_or o 0 < 2 ^ w
+pub or_zero_fits : (o : Option ℕ) (w : ℕ) → ((v : ℕ) → o ≡ Some v → v < 2 ^ w) → unwrap_or o 0 < 2 ^ w
 or_zero_fits None w h = pow_pos w
 or_zero_fits (Some v) w h = h v refl
 

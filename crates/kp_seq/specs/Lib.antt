@@ -1,3 +1,4 @@
 pub mod Recorded
+pub mod Computed
 pub mod Running
 pub mod inner

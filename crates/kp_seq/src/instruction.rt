@@ -5,8 +5,9 @@ ghost use Rattle.kp_seq_plan.specs.Codes.{value_of, space_of};
 ghost use Rattle.kp_seq.specs.Recorded.{where_true};
 ghost use Rattle.kp_seq.specs.inner.Ready.{HasRoom};
 ghost use Rattle.kp_seq.specs.inner.Steps.{is_enabled, address_by, written_by, written_from};
-ghost use Rattle.kp_seq.specs.inner.Resolved.{outputs, holds_at, value_asked, note_step, note_steps, note_stages, noted, with_place, put_pipe, set_first, with_target, begun_at, after_step, after_steps, with_row_at, with_carried, with_run, entered_at, after_stages, ran, step_space, steps_space};
+ghost use Rattle.kp_seq.specs.inner.Resolved.{outputs, holds_at, value_asked, value_held, note_step, note_steps, note_stages, noted, with_place, put_pipe, set_first, with_target, begun_at, after_step, after_steps, with_row_at, with_carried, with_run, entered_at, after_stages, ran, step_space, steps_space};
 
+use crate::computed::Computed;
 use crate::notes::Notes;
 use crate::places::Places;
 use crate::program::{Program, Reading, Step};
@@ -138,6 +139,16 @@ impl Instruction {
         }
     }
 
+    /// A value that the instruction has: that of a pipe, or of a result, which is 0 if it isn't set.
+    pub fn value(&self, what: Computed) -> u64
+        ensures { result ≡ value_held self.now what }
+    {
+        match what {
+            Computed::Pipe(pipe) => self.pipe(pipe as usize),
+            Computed::Result(target) => self.result(target as usize),
+        }
+    }
+
     // Binds the samples to the words of an input vector.
     fn sample(&mut self, places: &[Option<usize>], row: &[Bits])
         ensures { self.new ≡ with_row_at self.old places.now row.now }
@@ -249,11 +260,28 @@ pub(crate) fn execute(
     ensures room { length room.new ≡ length room.old }
     ensures notes { notes.new ≡ noted program.now words.old row.now under.old notes.old }
 {
+    compute(program, row, under, room, words, notes);
+    write(tables, under, words);
+}
+
+/// Runs all stages of one instruction on these words, which stay as they are.
+pub(crate) fn compute(
+    program: &Program,
+    row: &[Bits],
+    under: &mut Instruction,
+    room: &mut [u64],
+    words: &Words,
+    notes: &mut Notes,
+)
+    requires { All (λ s. steps_space s ≤ length room.old) program.now.stages }
+    ensures under { under.new ≡ after_stages program.now words.now row.now (begun_at under.old) program.now.stages }
+    ensures room { length room.new ≡ length room.old }
+    ensures notes { notes.new ≡ noted program.now words.now row.now under.old notes.old }
+{
     under.begin();
     notes.begin();
     run_stages(program, row, under, room, words, notes);
     notes.end(under);
-    write(tables, under, words);
 }
 
 fn run_stages(

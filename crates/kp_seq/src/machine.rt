@@ -1,5 +1,5 @@
 // The sequential machine and its calls.
-ghost use Rattle.std.specs.Prelude.{◌≡◌, ◌<◌, [], IfOk, None, length, get_or};
+ghost use Rattle.std.specs.Prelude.{◌≡◌, ◌<◌, ◌^◌, [], IfOk, None, length, get_or};
 ghost use Rattle.kp_stage.specs.Design.{IsSound};
 ghost use Rattle.kp_stage.specs.Start.{IsStartOf, AreSamples};
 ghost use Rattle.kp_machine.specs.Slots.{samples_of};
@@ -7,11 +7,13 @@ ghost use Rattle.kp_machine.specs.Machine.{state_of, values_in};
 ghost use Rattle.kp_seq.specs.Running.{state, word_shown};
 ghost use Rattle.kp_machine.specs.Words.{HasWord, after_one};
 ghost use Rattle.kp_seq.specs.Recorded.{record_of};
+ghost use Rattle.kp_seq.specs.Computed.{HasComputed, computed, slot_for};
 ghost use Rattle.kp_seq.specs.inner.Ready.{AreTables, HasRoom, IsNoted, words_of_start};
 ghost use Rattle.kp_seq.specs.inner.Resolved.{Resolves};
 ghost use Rattle.kp_seq.specs.inner.Steps.{zero_bit, fitted};
 
-use crate::instruction::{Instruction, execute};
+use crate::computed::Computed;
+use crate::instruction::{Instruction, compute, execute};
 use crate::notes::Notes;
 use crate::program::Program;
 use crate::tables::Tables;
@@ -247,6 +249,27 @@ impl<'a> SeqMachine<'a> {
             &mut self.words,
             &mut self.unused,
         );
+    }
+
+    /// A value that the next instruction computes with an input vector. The machine stays as it is. Allocates nothing.
+    pub fn next_value(&mut self, row: &[Bits], what: Computed) -> u64
+        requires samples { AreSamples self.old.job.decls row.now }
+        requires there { HasComputed self.old.job what }
+        ensures same { self.new ≡ self.old }
+        ensures value { result ≡ computed self.old.job (state self.old) (values_in row.now) what }
+        ensures fits { result < 2 ^ (slot_for self.old.job what).width }
+    {
+        let resolved = self.resolved.as_ref();
+        let room = self.room.as_mut_slice();
+        compute(
+            &resolved.program,
+            row,
+            &mut self.under,
+            room,
+            &self.words,
+            &mut self.unused,
+        );
+        self.under.value(what)
     }
 
     /// The value of a target at an address. The targets are the registers and files in the order of declaration. A register

@@ -1,5 +1,5 @@
 -- A resolved job, and the effect of its instructions, on plain numbers.
-use Rattle.std.specs.Prelude.{◌≡◌, ◌≤◌, ◌+◌, ℕ, List, [], ◌∷◌, ◌++◌, take, drop, Option, Some, None, Bool, ◌==◌, if◌then◌else◌, length, map, sum_by, replicate, set, get_or, slice_index}
+use Rattle.std.specs.Prelude.{◌≡◌, ◌≤◌, ◌+◌, ℕ, List, [], ◌∷◌, ◌++◌, take, drop, Option, Some, None, Bool, ◌==◌, if◌then◌else◌, length, map, sum_by, replicate, set, get_or, slice_index, unwrap_or}
 use Rattle.std.specs.List.{position}
 use Rattle.kp_bits.specs.Word.{Word}
 use Rattle.kp_ast.specs.{Expressions.is_same_name, Size.size, declared.tree.Expr.Expr, declared.tree.ReadStmt.ReadStmt, declared.tree.Stmt.Stmt}
@@ -15,6 +15,7 @@ use Rattle.kp_seq.specs.inner.Steps.{Under, word_in, value_read, after_stmt, aft
 use Rattle.kp_seq.specs.Recorded.{where_true}
 use Rattle.kp_seq.specs.inner.Notes.{Noted, narrow_address, begun_notes, with_read, with_marks, with_results, asked_in, note_stmt, note_stmts}
 use Rattle.kp_seq.specs.declared.program.Step.TheVariants as moves
+use Rattle.kp_seq.specs.declared.computed.Computed.{Computed, TheVariants.Pipe, TheVariants.Result}
 
 -- the indices of the names of the samples and of the pipes, and the steps of each stage
 pub record Outline : Type 0 where
@@ -31,6 +32,11 @@ pub record Raw : Type 0 where
 -- its pipes and results, which determine what it writes
 abbrev pub outputs : Raw → Under
 outputs r = record { names = []; pipes = r.pipes; results = r.results }
+
+-- what it computes
+abbrev pub value_held : Raw → Computed → ℕ
+value_held r (Pipe p) = slice_index r.pipes p
+value_held r (Result t) = unwrap_or (get_or r.results t None) 0
 
 -- a condition
 abbrev pub holds_at : Raw → Code → Bool
