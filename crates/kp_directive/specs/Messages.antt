@@ -36,7 +36,7 @@ name word =
     joined (codes "the name of a stage has 1 to 8 letters, digits or `_`: `" ∷ word ∷ codes "`" ∷ []) ++ reason (length word)
 
 unfoldable pub label : List ℕ → List ℕ
-label word = joined (codes "a label is a register or a word as `F[0]`; not `" ∷ word ∷ codes "`" ∷ [])
+label word = joined (codes "a label is a register, a pipe, a result or a word as `F[0]`; not `" ∷ word ∷ codes "`" ∷ [])
 
 -- the bytes of a run of the text
 abbrev pub bytes_in : List ℕ → Run → List ℕ

@@ -153,7 +153,7 @@ fn add_label(out: &mut Vec<u8>, word: &[u8]) -> Result<(), NoMemory>
     ensures { OnOk result (out.new.items ≡ out.old.items ++ label word.now) }
 {
     let pieces = [
-        b"a label is a register or a word as `F[0]`; not `".as_slice(),
+        b"a label is a register, a pipe, a result or a word as `F[0]`; not `".as_slice(),
         word,
         b"`".as_slice(),
     ];
