@@ -3,12 +3,15 @@
 
 - each example, with --flat and its functions closed and open, is accepted, `kpview same` shows it, and `kp seq` prints the same after 20 instructions;
 - mini5, dlx5, dlxs and rv32i, flat, get the five stages of the examples by a few lines, and `kp sim` prints the rows of the example;
+- by six lines rv32i, in five stages, sets the loaded word a stage later, and no path is longer than these lines say, but for a tenth;
 - RANDOM random jobs, 200 by default, are written flat and with random lines, with the same results, or are rejected by one of K4 to K6;
 - each row of `--table` has the longest path of the cut by its stages and its depth;
 - each rule K1 to K6 is reported at its place;
 - where `kpview same` shows nothing, nothing is written, and the status is 6.
 
 KP and KPVIEW name other programs than ./kp and ./kpview. The last line is `N checked, M wrong`, and the status is 0 where M is 0; without `kpview same` it is 77."""
+import concurrent.futures
+import functools
 import glob
 import os
 import random
@@ -54,7 +57,9 @@ LINES = [
     ('stages 3\nG from 2 3', (2, 10), 'K3', 'the stages are 0 to 2'),
     ('stages 5\nG from 4 4', (2, 10), 'K3', 'the sets of `G` are in rising stages'),
     ('stages 4\nsum from 3\nalone m', (1, 8), 'K5', 'with these lines 5 stages are needed'),
-    ('stages 5\ndepth 1', (2, 7), 'K5', 'with this depth 7 stages are needed'),
+    ('stages 5\ndepth 9 levels', (2, 1), 'K1', 'no line begins with `depth` and has this form'),
+    ('stages 5\ndepth 1 local', (2, 7), 'K5', 'with this depth 7 stages are needed'),
+    ('stages 5\ndepth 1', (2, 7), 'K5', 'with this depth 8 stages are needed'),     # the word that is read in the last stage is set in the next
 ]
 
 
@@ -74,20 +79,32 @@ def without_sections(text):
     return re.sub(r'\bstalls\s*\{[^}]*\}', '', text)
 
 
+@functools.lru_cache(64)
+def results(job):
+    return run([*KP.split(), 'seq', '20'], without_sections(job))
+
+
+def longest_path(made):
+    return re.search(r'longest path ([\d.]+)|$', run([*KPVIEW.split(), 'depth'], made))[1]
+
+
 def differs(job, made):
     """What is wrong with what was made of a job, or an empty text. That it is the same is checked by kpcut itself, and here by runs."""
     if not made.startswith('status '):
-        runs = [run([*KP.split(), 'seq', '20'], it) for it in (without_sections(job), made)]
-        return '' if runs[0] == runs[1] and not runs[0].startswith('status') else f'other results: {runs[1][:60]}'
+        return '' if results(job) == results(made) and not results(job).startswith('status') else f'other results: {results(made)[:60]}'
     return made
 
 
-def examples():
-    for path in EXAMPLES:
-        with open(path, encoding='latin-1') as it:
-            job = it.read()
-        for lines in ('', 'open all\n'):
-            yield f'{os.path.relpath(path, TOP)} {lines.strip()}', differs(job, kpcut(job + lines, '--flat'))
+def in_parallel(check, jobs):
+    with concurrent.futures.ThreadPoolExecutor(os.cpu_count()) as pool:
+        for found in pool.map(check, jobs):
+            yield from found
+
+
+def example(path):
+    with open(path, encoding='latin-1') as it:
+        job = it.read()
+    return [(f'{os.path.relpath(path, TOP)} {lines.strip()}', differs(job, kpcut(job + lines, '--flat'))) for lines in ('', 'open all\n')]
 
 
 def by_hand():
@@ -99,21 +116,36 @@ def by_hand():
         yield f'{name} by lines', differs(job, made) or ('' if rows[0] == rows[1] else 'other rows')
 
 
+def through_bypasses():
+    with open(f'{TOP}/examples/riscv/rv32i.kp', encoding='latin-1') as it:
+        job = it.read()
+    made = kpcut(job + 'stages 5\nxa at 1\nxb at 1\nm at 3\nopen all\ndepth 150\n')
+    yield 'rv32i by six lines', differs(job, made) or ('' if float(longest_path(made)) <= 16.5 and ' when GW at 4;' in made else f'has the path {longest_path(made)}')
+
+
+def random_lines(rng, job):
+    names = sorted(set(re.findall(r'\b(?:read|let) (\w+)', job)))
+    stages = rng.randrange(3, 13)
+    lines = [f'stages {stages}', *([f'depth {rng.randrange(20, 200)}' + rng.choice(('', ' local'))] if rng.random() < 0.4 else [])]
+    lines += [f'{it} from {rng.randrange(stages)}' for it in names if rng.random() < 0.2]
+    return lines + [f'alone {it}' for it in names if it[0] == 'x' and rng.random() < 0.1]
+
+
+def random_job_checks(seed):
+    job = random_job(seed)
+    lines = random_lines(random.Random(seed), job)
+    made = kpcut(job + '\n'.join(lines) + '\n')
+    rejected = re.match(r'status 2: .*: error (K[2-6]):', made)
+    return [(f'random job {seed}, flat', differs(job, kpcut(job, '--flat'))),
+            (f"random job {seed}, {'; '.join(lines)}{', rejected' * bool(rejected)}", '' if rejected else differs(job, made))]
+
+
 def random_jobs(count):
-    written = 0
-    for seed in range(count):
-        rng, job = random.Random(seed), random_job(seed)
-        yield f'random job {seed}, flat', differs(job, kpcut(job, '--flat'))
-        names = sorted(set(re.findall(r'\b(?:read|let) (\w+)', job)))
-        stages = rng.randrange(3, 13)
-        lines = [f'stages {stages}', *([f'depth {rng.randrange(20, 200)}'] if rng.random() < 0.4 else [])]
-        lines += [f'{it} from {rng.randrange(stages)}' for it in names if rng.random() < 0.2]
-        lines += [f'alone {it}' for it in names if it[0] == 'x' and rng.random() < 0.1]
-        made = kpcut(job + '\n'.join(lines) + '\n')
-        rejected = re.match(r'status 2: .*: error (K[2-6]):', made)
-        written += not rejected
-        yield f"random job {seed}, {'; '.join(lines)}", '' if rejected else differs(job, made)
-    yield 'random lines', '' if 2 * written >= count else f'only {written} of {count} are written'
+    rejected = 0
+    for what, fault in in_parallel(random_job_checks, range(count)):
+        rejected += what.endswith(', rejected')
+        yield what, fault
+    yield 'random lines', '' if 2 * rejected <= count else f'only {count - rejected} of {count} are written'
 
 
 def rules():
@@ -139,12 +171,11 @@ def tables():
     with open(f'{TOP}/examples/cookbook/early.kp', encoding='latin-1') as it:
         job = it.read()
     said = kpcut(job, '--table', '2', '4')
-    rows = [it.split() for it in said.split('\n')[1:] if it]
+    rows = re.findall(r'^ +(\d+)  (\d+(?: local)?) +([\d.]+) ', said, re.M)
     yield 'a table', '' if [it[0] for it in rows] == ['2', '3', '4'] else f'prints {said}'
-    for stages, depth, path, *_ in rows:
-        made = kpcut(f'{job}stages {stages}\nopen all\ndepth {depth}\n')
-        longest = re.search(r'longest path ([\d.]+)', run([*KPVIEW.split(), 'depth'], made))
-        yield f'a table, {stages} stages', '' if longest and longest[1] == path else f'has the path {path}, and the cut {longest and longest[1]}'
+    for stages, depth, path in rows:
+        longest = longest_path(kpcut(f'{job}stages {stages}\nopen all\ndepth {depth}\n'))
+        yield f'a table, {stages} stages', '' if longest == path else f'has the path {path}, and the cut {longest}'
 
 
 def not_shown(work):
@@ -168,7 +199,7 @@ def main():
         if subprocess.run([*KPVIEW.split(), 'same', acc3, late3], stdout=subprocess.PIPE, stderr=subprocess.PIPE).returncode:
             print(f'{KPVIEW} has no word `same`')
             return 77
-        for part in (examples(), by_hand(), random_jobs(count), rules(), tables(), not_shown(work)):
+        for part in (in_parallel(example, EXAMPLES), by_hand(), through_bypasses(), rules(), tables(), not_shown(work), random_jobs(count)):
             for what, fault in part:
                 checked, wrong = checked + 1, wrong + bool(fault)
                 if fault:

@@ -1,10 +1,9 @@
 """The lines after the `end` of a job that say how its instruction is cut, and their rules K1 to K6."""
 import re
-from math import inf
 from typing import NamedTuple
 
 from kptools.instruction import Instruction
-from kptools.stages import MOST_STAGES, Bounds, Stages, depths, guesses_in
+from kptools.stages import MOST_STAGES, NO_DEPTH, Bounds, Depth, Stages, depths, guesses_in
 
 MOST_PIPES = 128
 
@@ -55,6 +54,7 @@ class Lines:
     def __init__(self, machine, text, begin, is_flat):
         self.machine, self.is_flat = machine, is_flat
         self.count_word = self.depth_word = None
+        self.depth = NO_DEPTH
         self.opened, self.again, self.alone, self.places = [], [], [], []
         lines = list(lines_of(text, begin))
         counts = [it[1] for it in lines if it[0].text == 'stages' and len(it) == 2 and it[1].text.isdigit()]
@@ -75,15 +75,14 @@ class Lines:
             self._again_or_alone(*words)
         elif len(words) == 2 and texts[0] == 'open':
             self._open(words[1])
-        elif len(words) == 2 and texts[0] in ('stages', 'depth') and texts[1].isdigit() and not self.is_flat:
-            self._number(*words)
+        elif len(words) == 2 and texts[0] == 'stages' and texts[1].isdigit() and not self.is_flat:
+            self._stages(*words)
+        elif texts[0] == 'depth' and texts[2:] in ([], ['local']) and texts[1:2] and texts[1].isdigit() and not self.is_flat:
+            self.depth_word, self.depth = words[1], Depth(int(texts[1]), len(words) == 3)
         else:
             raise Refused('K1', head, f'no line begins with `{head.text}` and has this form', 'the forms are listed by kpcut --help')
 
-    def _number(self, head, number):
-        if head.text == 'depth':
-            self.depth_word = number
-            return
+    def _stages(self, head, number):
         if self.count_word is not None:
             raise Refused('K1', head, 'a second line `stages`', f'line {self.count_word.line} has the first')
         self.count_word = number
@@ -203,13 +202,10 @@ def cut(lines):
     """The stages that the lines ask for."""
     bounds = lines.bounds()
     make = lambda depth: Stages(lines.instruction, lines.count, bounds, depth)
-    if lines.depth_word:
-        stages = make(int(lines.depth_word.text) / 10)
-    else:
-        tried = [] if lines.places else (make(it / 10) for it in depths(lines.instruction))
-        stages = next((it for it in tried if it.needed <= lines.count), None) or make(inf)
+    tried = [] if lines.places or lines.depth_word else (make(Depth(it, True)) for it in depths(lines.instruction))
+    stages = next((it for it in tried if it.needed <= lines.count), None) or make(lines.depth)
     if stages.needed > lines.count:
-        free = make(inf)
+        free = make(NO_DEPTH)
         lines.keep(free)
         word = lines.depth_word if lines.depth_word and free.needed <= lines.count else lines.count_word
         raise Refused('K5', word, f"with {'this depth' if word is lines.depth_word else 'these lines'} {stages.needed} stages are needed")

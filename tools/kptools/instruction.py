@@ -1,7 +1,9 @@
 """What an instruction of a machine does, as a graph of values. All reads see the state before the instruction, so stages have no part in it."""
+from functools import cached_property
 from math import log2
 from typing import NamedTuple, Optional
 
+BYPASS = 2.2                                                     # levels of the choice of the nearest result in a read
 WIRES = frozenset(('literal', '~', '[]', '{}', 'zext', 'sext'))  # no gates of their own: made again where they are used
 
 
@@ -105,6 +107,12 @@ class Instruction(Graph):
         node = self.nodes[it]
         return dict(zip(node.detail.roles, node.operands)).get(role) if node.kind == 'read' else None
 
+    @cached_property
+    def delays(self):
+        """Levels of each node."""
+        return Delays(self).of
+
+    @cached_property
     def live(self):
         """The nodes on which a result, an address, an enable or a hint depends, in their order."""
         todo = [a for sets in self.sets.values() for it in sets for a in it if a is not None]
@@ -152,7 +160,7 @@ class Delays:
             return self._function(it.detail)
         if it.kind == 'read':
             bits = self.machine.declared[it.detail.target].bits
-            return (0.8 * bits if bits <= 6 else 6.0) + (2.2 if it.detail.target in self.written else 0.0)
+            return (0.8 * bits if bits <= 6 else 6.0) + (BYPASS if it.detail.target in self.written else 0.0)
         operands = [graph.nodes[a] for a in it.operands]
         if not operands or it.kind in WIRES:
             return 0.0
