@@ -1,6 +1,6 @@
 -- THE WARNINGS for a job that violates no rule: what may not be meant so, in the order of the text.
-use Rattle.std.specs.Prelude.{ℕ, ◌+◌, List, [], ◌∷◌, ◌++◌, Option, Some, None, Bool, true, false, ◌&&◌, ◌||◌, not, ◌==◌, nat_lt, is_some, is_none, slice_get, if◌then◌else◌}
-use Rattle.std.specs.{List.list_any, Option.option_map}
+use Rattle.std.specs.Prelude.{ℕ, ◌+◌, List, [], ◌∷◌, ◌++◌, Option, Some, None, Bool, true, false, ◌&&◌, ◌||◌, not, ◌==◌, nat_lt, is_some, is_none, slice_get, if◌then◌else◌, codes}
+use Rattle.std.specs.{List.list_any, Option.option_map, Str.bytes_eq}
 use Rattle.kp_base.specs.declared.{finding.Finding.Finding, place.Place.Place}
 use Rattle.kp_ast.specs.{Expressions.is_same_name, declared.tree.Expr.Expr, declared.tree.ExprKind.ExprKind, declared.tree.ExprKind.TheOpen.ExprKind-F, declared.tree.ExprKind.TheViews.out-ExprKind}
 use Rattle.kp_ast.specs.declared.tree.{Named.Named, ResultDecl.ResultDecl, Decl.Decl, Stmt.Stmt, StmtKind.StmtKind, Block.Block, Job.Job}
@@ -85,6 +85,17 @@ of_decl facts job i (decls.Func f) = warn_if (not (facts.used f.name.name)) lint
 of_decl facts job i (decls.Reg n width start) = warn_if (not (list_any (writes n.name) job.decls)) lints.NoResult n.at
 of_decl facts job i (decls.File n width address) = None
 
+-- W8: the port `s_NAME` of a sample is a keyword of SystemVerilog: s_always, s_eventually, s_nexttime, s_until and s_until_with are all that begin with `s_`
+-- (IEEE 1800-2017, Annex B). No keyword has the form of another name of a module.
+abbrev pub has_keyword_port : List ℕ → Bool
+has_keyword_port name =
+    bytes_eq name (codes "always") || (bytes_eq name (codes "eventually") || (bytes_eq name (codes "nexttime")
+    || (bytes_eq name (codes "until") || bytes_eq name (codes "until_with"))))
+
+abbrev pub of_port : Decl → Answer
+of_port (decls.Sample n width stage) = warn_if (has_keyword_port n.name) lints.KeywordPort n.at
+of_port _ = None
+
 -- Statement j of stage k.
 
 -- W5: no expression of the stage uses a local name; a read with a guess serves without a use of its name
@@ -133,7 +144,7 @@ of_result facts bs k j at _ i _ = None
 
 abbrev pub of_decls : Facts → Job → ℕ → List Decl → List Answer
 of_decls facts job i [] = []
-of_decls facts job i (d ∷ ds) = of_decl facts job i d ∷ of_decls facts job (i + 1) ds
+of_decls facts job i (d ∷ ds) = of_decl facts job i d ∷ of_port d ∷ of_decls facts job (i + 1) ds
 
 abbrev pub of_results : Facts → List Block → ℕ → ℕ → Stmt → ℕ → List Decl → List Answer
 of_results facts bs k j s i [] = []

@@ -6,7 +6,7 @@ ghost use Rattle.kp_lint.specs.inner.Noted.{facts_in, has};
 
 use crate::facts::Facts;
 use crate::lint::{Found, Lint, Spot};
-use crate::names::{of_decl, of_local};
+use crate::names::{of_decl, of_local, of_port};
 use crate::results::of_result;
 use crate::table::Table;
 use crate::used::used_in_block;
@@ -30,6 +30,7 @@ fn in_decls(alloc: Global, notes: &mut Findings<Found>, facts: &Facts<'_>) -> Re
 {
     for (number, decl) in facts.job.decls.as_slice().iter().enumerate() {
         notes.note(of_decl(alloc, facts, number, decl)?)?;
+        notes.note(of_port(decl))?;
     }
     Ok(())
 }

@@ -35,6 +35,8 @@ pub enum Lint {
         result: usize,
         earliest: usize,
     },
+    /// W8: the port of the sample is a keyword of SystemVerilog.
+    KeywordPort,
 }
 
 pub(crate) type Found = Finding<Lint>;

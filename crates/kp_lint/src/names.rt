@@ -1,7 +1,7 @@
-// Warnings of names: those of declarations, and local ones.
+// Warnings of names: those of declarations and of their ports, and local ones.
 ghost use Rattle.std.specs.Prelude.{◌≡◌, IfOk};
 ghost use Rattle.std.specs.List.{list_any};
-ghost use Rattle.kp_lint.specs.Lints.{is_pipe_used, of_decl, of_local, uses_pipe, writes};
+ghost use Rattle.kp_lint.specs.Lints.{has_keyword_port, is_pipe_used, of_decl, of_local, of_port, uses_pipe, writes};
 ghost use Rattle.kp_lint.specs.inner.Noted.{facts_in, has};
 
 use crate::facts::Facts;
@@ -87,6 +87,29 @@ fn has_result(facts: &Facts<'_>, target: &Name) -> bool
         Decl::Target(output) => *target == output.target.name,
         _ => false,
     })
+}
+
+/// W8: the port of a sample is a keyword of SystemVerilog.
+pub(crate) fn of_port(decl: &Decl) -> Option<Found>
+    ensures { result ≡ of_port decl.now }
+{
+    match decl {
+        Decl::Sample(named, _, _) => {
+            warn_if(has_keyword_port(&named.name), Lint::KeywordPort, named.at)
+        }
+        _ => None,
+    }
+}
+
+fn has_keyword_port(name: &Name) -> bool
+    ensures { result ≡ has_keyword_port name.now }
+{
+    let name = name.bytes();
+    name == b"always".as_slice()
+        || name == b"eventually".as_slice()
+        || name == b"nexttime".as_slice()
+        || name == b"until".as_slice()
+        || name == b"until_with".as_slice()
 }
 
 /// W5: a local name that no expression of the stage uses. A read with a guess serves where nothing uses its name.

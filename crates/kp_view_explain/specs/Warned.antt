@@ -43,6 +43,7 @@ SaysOf text job at lints.UnusedHint (warnings.UnusedName name kind) = (name.0.no
 SaysOf text job at lints.UnusedSample (warnings.UnusedName name kind) = (name.0.now ≡ token_at text at) × (kind ≡ kinds.Sample)
 SaysOf text job at lints.UnusedFunction (warnings.UnusedName name kind) = (name.0.now ≡ token_at text at) × (kind ≡ kinds.Function)
 SaysOf text job at lints.NoResult (warnings.NoResult name) = name.0.now ≡ token_at text at
+SaysOf text job at lints.KeywordPort (warnings.KeywordPort name) = name.0.now ≡ token_at text at
 SaysOf text job at (lints.PutLate i k) (warnings.PutLate name target earliest) =
     (name.0.now ≡ token_at text at) × (target.0.now ≡ target_name (slice_get job.decls i)) × (earliest ≡ k)
 SaysOf _ _ _ _ _ = ⊥

@@ -63,6 +63,7 @@ pub(crate) fn warning_of<'t>(text: &'t [u8], job: &'t Job, found: Finding<Lint>)
             Warning::UnusedName { name, kind }
         }
         Lint::NoResult => Warning::NoResult(name),
+        Lint::KeywordPort => Warning::KeywordPort(name),
         Lint::PutLate { result, earliest } => Warning::PutLate {
             name,
             target: output_at(job, result).target,

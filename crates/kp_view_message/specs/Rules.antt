@@ -32,3 +32,4 @@ warning_number (warnings.UnusedLocal _ _) = 5
 warning_number (warnings.UnusedName _ _) = 5
 warning_number (warnings.NoResult _) = 6
 warning_number (warnings.PutLate _ _ _) = 7
+warning_number (warnings.KeywordPort _) = 8

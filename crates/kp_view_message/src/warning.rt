@@ -46,6 +46,8 @@ pub enum Warning<'t> {
         target: Word<'t>,
         earliest: usize,
     },
+    // a sample whose port is a keyword of SystemVerilog
+    KeywordPort(Word<'t>),
 }
 
 impl<'t> Warning<'t> {
@@ -60,6 +62,7 @@ impl<'t> Warning<'t> {
             Warning::UnusedLocal { .. } | Warning::UnusedName { .. } => 5,
             Warning::NoResult(_) => 6,
             Warning::PutLate { .. } => 7,
+            Warning::KeywordPort(_) => 8,
         }
     }
 
@@ -110,6 +113,8 @@ impl<'t> Warning<'t> {
             Warning::PutLate { .. } =>
                 "the pipe `{}` can be put in stage {} already: instructions that read `{}` wait until it is put",
             Warning::NoResult(_) => "the register `{}` has no result, and never changes",
+            Warning::KeywordPort(_) =>
+                "the port of this sample, `s_{}`, is a keyword of SystemVerilog: tools may reject the module",
         }
     }
 
@@ -129,7 +134,8 @@ impl<'t> Warning<'t> {
                 Term::Number(*line as u64),
                 Term::Word(*result),
             ),
-            Warning::UnusedPipe(name) | Warning::NoResult(name) => Terms::One(Term::Word(*name)),
+            Warning::UnusedPipe(name) | Warning::NoResult(name) | Warning::KeywordPort(name) =>
+                Terms::One(Term::Word(*name)),
             Warning::UnusedLocal { name, stage } => {
                 Terms::Two(Term::Word(*name), Term::Number(*stage as u64))
             }

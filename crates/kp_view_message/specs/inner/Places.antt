@@ -90,6 +90,7 @@ HasTerms (messages.Fixed number) terms = count terms ≡ 0
 abbrev pub of_warning : Warning → ℕ
 of_warning (warnings.UnusedPipe _) = 1
 of_warning (warnings.NoResult _) = 1
+of_warning (warnings.KeywordPort _) = 1
 of_warning (warnings.SetInVain _ _ _) = 3
 of_warning (warnings.PutLate _ _ _) = 3
 of_warning _ = 2
