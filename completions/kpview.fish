@@ -20,7 +20,7 @@ complete -c kpview -n '__kpview_argument 2; and __fish_seen_subcommand_from diag
 complete -c kpview -n '__kpview_argument 2; and __fish_seen_subcommand_from paths' -k -a '--svg'
 complete -c kpview -n '__kpview_argument 2; and __fish_seen_subcommand_from depth' -k -a '--files'
 complete -c kpview -n '__kpview_argument 2; and __fish_seen_subcommand_from explain' -k -a '--werror read watch asm debug'
-complete -c kpview -n '__fish_seen_subcommand_from diagram; and not __kpview_argument 1' -l label -x -d 'Labels: registers or words, as PC,R[1]'
+complete -c kpview -n '__fish_seen_subcommand_from diagram; and not __kpview_argument 1' -l label -x -d 'Labels: registers, words, pipes or results, as PC,R[1]'
 complete -c kpview -n '__fish_seen_subcommand_from diagram; and not __kpview_argument 1' -l listing -r -F -d 'A listing of the program, as objdump prints it'
 complete -c kpview -s h -l help -d 'Print help'
 complete -c kpview -s V -l version -d 'Print the version'

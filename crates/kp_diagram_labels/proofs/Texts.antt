@@ -1,21 +1,40 @@
 -- Columns of labels, one after the other.
-use Rattle.std.proofs.Common.{◌≡◌, ◌∙◌, ℕ, zero, suc, ◌+◌, ◌-◌, ◌<◌, ◌≤◌, List, [], ◌∷◌, ◌++◌, length, map, take, drop, get_or, All, refl, sym, ap, append_assoc, append-nil, length-append, arith}
+use Rattle.std.proofs.Common.{◌≡◌, ◌∙◌, ℕ, zero, suc, ◌+◌, ◌-◌, ◌<◌, ◌≤◌, List, [], ◌∷◌, ◌++◌, Option, Some, None, length, map, take, drop, get_or, All, refl, sym, ap, append_assoc, append-nil, length-append, arith}
 use Rattle.std.proofs.lemmas.List.Elements.{All-cons, All-head, All-nil, All-tail}
-use Rattle.std.proofs.lemmas.{Grind.flat_map-append, List.map-append, List.take_all, List.take_more}
+use Rattle.std.proofs.lemmas.{List.drop_all, List.drop_more, List.length-map, List.length-replicate, List.map-append, List.take_more}
 use Rattle.std.proofs.Math.Seq.{drop-append_seam, take-append_seam}
-use Rattle.std.specs.Prelude.{codes, flat_map, slice_range}
+use Rattle.std.specs.Prelude.{codes, slice_range}
 use Rattle.kp_bits.specs.Word.{Word}
 use Rattle.kp_bits.specs.Spelling.{decimal_digits, hex_digits, quarters, spelling}
+use Rattle.kp_ast.specs.declared.tree.Job.{Job}
+use Rattle.kp_pipeline.specs.Machine.{State}
+use Rattle.kp_diagram_labels.specs.{Texts.column_text, Texts.no_words, Texts.value_text, Texts.values_text, Texts.wide, Texts.word_in, Texts.words_in, declared.label.Label.Label}
 
--- one more, and all of them
-pub column_more : {X : Type 0} (f : X → List ℕ) (xs : List X) (i : ℕ) (x d : X) (old new : List ℕ) → i < length xs → x ≡ get_or xs i d → new ≡ old ++ f x
-    → old ≡ flat_map f (take i xs) → new ≡ flat_map f (take (i + 1) xs)
-column_more f xs i x d old new b is added kept =
-    added ∙ ap (λ (t : List ℕ). t ++ f x) kept
-    ∙ sym (ap (flat_map f) (take_more xs i d b ∙ ap (λ y. take i xs ++ y ∷ []) (sym is)) ∙ flat_map-append f (take i xs) (x ∷ []) ∙ ap (λ (t : List ℕ). flat_map f (take i xs) ++ t) (append-nil (f x)))
+-- one value more, and all of them
+module _ (job : Job) (text : List ℕ) where
+  pub values_more : (labels : List Label) (values : List (Option Word)) (i : ℕ) (l : Label) (v : Option Word) (w : ℕ) (old new all : List ℕ) → i < length labels → i < length values
+      → l ≡ get_or labels i l → v ≡ get_or values i v → w ≡ wide job text l → new ≡ old ++ column_text w (value_text v)
+      → old ++ values_text job text (drop i labels) (drop i values) ≡ all → new ++ values_text job text (drop (i + 1) labels) (drop (i + 1) values) ≡ all
+  values_more labels values i l v w old new all inside there at has is added kept =
+      let column = column_text (wide job text (get_or labels i l)) (value_text (get_or values i v)) in
+      let rest = values_text job text (drop (i + 1) labels) (drop (i + 1) values) in
+      let size : w ≡ wide job text (get_or labels i l) = is ∙ ap (wide job text) at in
+      ap (λ (t : List ℕ). t ++ rest) added
+      ∙ (λ k. (old ++ column_text (size k) (value_text (has k))) ++ rest)
+      ∙ append_assoc old column rest
+      ∙ sym (λ k. old ++ values_text job text (drop_more labels i l inside k) (drop_more values i v there k))
+      ∙ kept
 
-pub columns_all : {X : Type 0} (f : X → List ℕ) (xs : List X) (i : ℕ) (out : List ℕ) → length xs ≤ i → out ≡ flat_map f (take i xs) → out ≡ flat_map f xs
-columns_all f xs i out b kept = kept ∙ ap (flat_map f) (take_all i xs b)
+  pub values_all : (labels : List Label) (values : List (Option Word)) (i : ℕ) (out all : List ℕ) → length labels ≤ i → out ++ values_text job text (drop i labels) (drop i values) ≡ all → out ≡ all
+  values_all labels values i out all past kept =
+      sym (append-nil out) ∙ sym (ap (λ (ls : List Label). out ++ values_text job text ls (drop i values)) (drop_all i labels past)) ∙ kept
+
+-- as many as labels
+pub none_many : (labels : List Label) → length (no_words labels) ≡ length labels
+none_many labels = let none : Option Word = None in length-replicate (length labels) none
+
+pub words_many : (job : Job) (s : State) (q : ℕ → ℕ) (labels : List Label) → length (words_in job s q labels) ≡ length labels
+words_many job s q labels = length-map labels (λ (l : Label). Some (word_in job s q l.shown))
 
 digits_many : (n v : ℕ) → length (hex_digits n v) ≡ n
 digits_many zero v = refl

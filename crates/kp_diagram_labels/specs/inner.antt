@@ -1,3 +1,2 @@
 -- For private contracts and proofs only: a reader need not trust it.
-pub mod Columns
 pub mod Runs

@@ -1,23 +1,34 @@
 // Labels, as they are named.
-ghost use Rattle.std.specs.Prelude.{◌≡◌, ◌<◌, ◌^◌, All, IfErr, IfOk, IfSome, length, map};
+ghost use Rattle.std.specs.Prelude.{◌≡◌, ◌<◌, ◌^◌, All, IfErr, IfOk, IfSome, length, map, option_map};
 ghost use Rattle.kp_base.specs.Lines.{IsWithin, piece_of};
-ghost use Rattle.kp_machine.specs.Words.{HasWord, target as target_at};
-ghost use Rattle.kp_until.specs.Parts.{IsPart, single};
-ghost use Rattle.kp_diagram_labels.specs.Labels.{IsIn, IsLabel, Yields, label_named, labels_from, labels_in, unseparated};
+ghost use Rattle.kp_machine.specs.{Slots.number_of, Slots.pipes_of, Slots.result_named, Slots.targets_of, Words.HasWord, Words.target as target_at};
+ghost use Rattle.kp_until.specs.Parts.{IsPart, part_of, single};
+ghost use Rattle.kp_seq.specs.Computed.{HasComputed};
+ghost use Rattle.kp_diagram_labels.specs.Labels.{HasShown, IsIn, IsLabel, Yields, computed_named, label_named, labels_from, labels_in, result_with, shown_by, unseparated};
 ghost use Rattle.kp_diagram_labels.specs.declared.label.LabelsRefused.TheVariants as refused;
 
+use kp_ast::{Decl, ResultDecl};
 use kp_base::{NoMemory, Run, words_in};
-use kp_design::Layout;
+use kp_design::{Layout, target_number};
 use kp_directive::bytes_of;
+use kp_seq::Computed;
 use kp_until::{Index, Part, part_of};
 use std::alloc::{AllocError, AllocFailed, Global};
 
-/// A word of the state whose value is shown: where its name is in a text, the number of its target, and its address, which is 0 for a register.
+/// What a label shows.
+#[derive(Clone, Copy)]
+pub enum Shown {
+    /// A word of the state: the number of its target, and its address, which is 0 for a register.
+    Word(u32, u32),
+    /// What an instruction computes.
+    Computed(Computed),
+}
+
+/// A label: where its name is in a text, and what it shows.
 #[derive(Clone, Copy)]
 pub struct Label {
     pub name: Run,
-    pub target: u32,
-    pub address: u32,
+    pub shown: Shown,
 }
 
 /// Why no labels are returned: a word that isn't one, or out of memory.
@@ -115,16 +126,74 @@ fn label_named(layout: &Layout<'_>, text: &[u8], word: Run) -> Option<Label>
     ensures label { result ≡ label_named layout.now (piece_of text.now word) }
     ensures fits { IfSome result (IsLabel layout.now text.now) }
 {
-    match part_of(layout, bytes_of(text, word)) {
-        Ok(part) => {
-            let address = address_of(layout, part)?;
-            Some(Label {
-                name: word,
-                target: part.target,
-                address,
-            })
+    let shown = shown_by(layout, bytes_of(text, word))?;
+    Some(Label { name: word, shown })
+}
+
+// What a name denotes: a single word of the state, or else what an instruction computes.
+fn shown_by(layout: &Layout<'_>, name: &[u8]) -> Option<Shown>
+    ensures shown { result ≡ shown_by layout.now name.now (part_of layout.now name.now) }
+    ensures there { IfSome result (HasShown layout.now) }
+{
+    match part_of(layout, name) {
+        Ok(part) => Some(Shown::Word(part.target, address_of(layout, part)?)),
+        Err(_) => Some(Shown::Computed(computed_named(layout, name)?)),
+    }
+}
+
+// The pipe or the result that a name denotes.
+fn computed_named(layout: &Layout<'_>, name: &[u8]) -> Option<Computed>
+    ensures computed { result ≡ computed_named layout.now name.now }
+    ensures there { IfSome result (HasComputed layout.now) }
+{
+    let decls = layout.job().decls.as_slice();
+    let pipe = pipe_number(decls, name);
+    if pipe < layout.pipe_count() as usize {
+        return Some(Computed::Pipe(pipe as u32));
+    }
+    let result = result_named(decls, name)?;
+    result_with(layout, target_number(decls, &result.target.name))
+}
+
+// The number of the first pipe with this name, or the number of pipes if none has it.
+fn pipe_number(decls: &[Decl], name: &[u8]) -> usize
+    ensures { result ≡ number_of (pipes_of decls.now) name.now }
+{
+    let mut p = 0;
+    for decl in decls {
+        if let Decl::Pipe(named, _) = decl {
+            if name == named.name.bytes() {
+                return p;
+            }
+            p += 1;
         }
-        Err(_) => None,
+    }
+    p
+}
+
+// The first result with this name.
+fn result_named<'d>(decls: &'d [Decl], name: &[u8]) -> Option<&'d ResultDecl>
+    ensures { option_map (λ r. r.now) result ≡ result_named decls.now name.now }
+{
+    for decl in decls {
+        if let Decl::Target(result) = decl {
+            if name == result.name.name.bytes() {
+                return Some(result);
+            }
+        }
+    }
+    None
+}
+
+// The result of this target, if there is one.
+fn result_with(layout: &Layout<'_>, target: usize) -> Option<Computed>
+    ensures computed { result ≡ result_with layout.now target }
+    ensures there { IfSome result (HasComputed layout.now) }
+{
+    if target < layout.target_count() as usize {
+        Some(Computed::Result(target as u32))
+    } else {
+        None
     }
 }
 

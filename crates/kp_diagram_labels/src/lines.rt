@@ -1,25 +1,24 @@
 // The lines of a window with their labels.
 ghost use Rattle.std.specs.Prelude.{◌≡◌, ℕ, All, IfOk, OnOk, length, map};
 ghost use Rattle.kp_stage.specs.Start.{AreSamples};
-ghost use Rattle.kp_machine.specs.Machine.{sequential};
 ghost use Rattle.kp_run.specs.Columns.{row_taken};
 ghost use Rattle.kp_diagram_text.specs.Charts.{IsDrawable};
 ghost use Rattle.kp_diagram_text.specs.Labelled.{IsEntry, fetch_at};
 ghost use Rattle.kp_diagram_text.specs.Windows.{IsWindow, window_lines};
 ghost use Rattle.kp_diagram_labels.specs.inner.Runs.{HasRun, given};
 ghost use Rattle.kp_listing.specs.Seen.{listing_seen};
-ghost use Rattle.kp_diagram_labels.specs.{Labels.IsLabel, Texts.label_text, inner.Columns.label_shown};
+ghost use Rattle.kp_diagram_labels.specs.{Labels.IsLabel, Texts.label_text, Texts.label_values, Texts.text_beside};
 
-use crate::columns::{add_listed, dashes_of, text_for, values_of};
+use crate::columns::text_beside;
 use crate::label::Label;
-use crate::trace::Trace;
+use crate::trace::{Trace, no_values, values_next};
 use kp_base::NoMemory;
 use kp_bits::Bits;
 use kp_design::Layout;
 use kp_diagram_text::{Chart, Entry, Labelled, Window, entries_of, retires};
 use kp_frontend::Accepted;
 use kp_listing::Listing;
-use kp_run::{Column, columns_in};
+use kp_run::{Column, columns_in, take};
 use kp_synth::synth;
 use std::alloc::Global;
 
@@ -77,8 +76,8 @@ fn with_labels(
     requires entries { All (IsEntry chart.now) entries.now }
     ensures entries { IfOk result (λ lines. map (λ (l : Labelled). l.entry) lines.items ≡ entries.now) }
     ensures labels { IfOk result (λ lines. All (λ (l : Labelled). l.label.items
-        ≡ label_shown asked.now.job.now.design.job asked.now.text.now asked.now.labels.now (listing_seen asked.now.listing.now) (sequential asked.now.job.now.design.job (given columns.now))
-        (fetch_at chart.now l.entry)) lines.items) }
+        ≡ text_beside asked.now.job.now.design.job asked.now.text.now asked.now.labels.now (listing_seen asked.now.listing.now)
+        (label_values asked.now.job.now.design.job (given columns.now) asked.now.labels.now (fetch_at chart.now l.entry))) lines.items) }
 {
     let mut samples = asked.job.sections.inputs.row(alloc, 0)?;
     let room = samples.as_mut_slice();
@@ -112,27 +111,51 @@ fn label_of<'a>(
     requires samples { (i : ℕ) → AreSamples asked.now.job.now.design.job.decls (row_taken columns.now i) }
     requires run { HasRun asked.now.job.now.design.job (given columns.now) trace.old.ran trace.old.machine }
     requires entry { IsEntry chart.now entry }
-    ensures label { IfOk result (λ label. label.items ≡ label_shown asked.now.job.now.design.job asked.now.text.now asked.now.labels.now (listing_seen asked.now.listing.now)
-        (sequential asked.now.job.now.design.job (given columns.now)) (fetch_at chart.now entry)) }
+    ensures label { IfOk result (λ label. label.items ≡ text_beside asked.now.job.now.design.job asked.now.text.now asked.now.labels.now (listing_seen asked.now.listing.now)
+        (label_values asked.now.job.now.design.job (given columns.now) asked.now.labels.now (fetch_at chart.now entry))) }
+    ensures room { OnOk result (length room.new ≡ length room.old) }
+    ensures run { OnOk result (HasRun asked.now.job.now.design.job (given columns.now) trace.new.ran trace.new.machine) }
+{
+    let values = values_in_line(alloc, asked, chart, columns, room, trace, entry)?;
+    text_beside(
+        alloc,
+        asked.layout,
+        asked.text,
+        asked.labels,
+        asked.listing,
+        values.as_slice(),
+    )
+}
+
+// The values of the labels in a line.
+#[tactic(auto, using(crate::proofs::Texts::none_many, crate::proofs::Texts::words_many))]
+fn values_in_line<'a>(
+    alloc: Global,
+    asked: &Labelling<'a>,
+    chart: &Chart<'_>,
+    columns: &[Column],
+    room: &mut [Bits],
+    trace: &mut Trace<'a>,
+    entry: Entry,
+) -> Result<Vec<Option<Bits>>, NoMemory>
+    requires layout { asked.now.layout.now ≡ asked.now.job.now.design.job }
+    requires labels { All (IsLabel asked.now.job.now.design.job asked.now.text.now) asked.now.labels.now }
+    requires stages { chart.now.stages ≡ asked.now.job.now.design.job.stages.value }
+    requires drawable { IsDrawable chart.now }
+    requires room { length room.old ≡ length columns.now }
+    requires samples { (i : ℕ) → AreSamples asked.now.job.now.design.job.decls (row_taken columns.now i) }
+    requires run { HasRun asked.now.job.now.design.job (given columns.now) trace.old.ran trace.old.machine }
+    requires entry { IsEntry chart.now entry }
+    ensures many { IfOk result (λ values. length values.items ≡ length asked.now.labels.now) }
+    ensures values { IfOk result (λ values. values.items ≡ label_values asked.now.job.now.design.job (given columns.now) asked.now.labels.now (fetch_at chart.now entry)) }
     ensures room { OnOk result (length room.new ≡ length room.old) }
     ensures run { OnOk result (HasRun asked.now.job.now.design.job (given columns.now) trace.new.ran trace.new.machine) }
 {
     if retires(chart, entry) {
         trace.go_to(alloc, asked.job, columns, room, entry.number)?;
-        let machine = &trace.machine;
-        let mut label = values_of(alloc, asked.layout, asked.text, asked.labels, machine)?;
-        let text = text_for(
-            asked.layout,
-            asked.text,
-            asked.labels,
-            asked.listing,
-            machine,
-        );
-        add_listed(&mut label, asked.listing, text)?;
-        Ok(label)
+        take(columns, entry.number, room);
+        values_next(alloc, asked.layout, asked.labels, room, &mut trace.machine)
     } else {
-        let mut label = dashes_of(alloc, asked.layout, asked.text, asked.labels)?;
-        add_listed(&mut label, asked.listing, &[])?;
-        Ok(label)
+        no_values(alloc, asked.labels)
     }
 }

@@ -1,11 +1,18 @@
 // The sequential machine, as it goes from one instruction to another.
-ghost use Rattle.std.specs.Prelude.{◌≡◌, ◌≤◌, ℕ, IfOk, OnOk, length};
+ghost use Rattle.std.specs.Prelude.{◌≡◌, ◌≤◌, ℕ, All, IfOk, OnOk, length};
 ghost use Rattle.kp_stage.specs.Start.{AreSamples};
 ghost use Rattle.kp_run.specs.Columns.{row_taken};
+ghost use Rattle.kp_machine.specs.Machine.{values_in};
+ghost use Rattle.kp_seq.specs.Running.{state};
+ghost use Rattle.kp_diagram_labels.specs.Labels.{HasShown};
+ghost use Rattle.kp_diagram_labels.specs.Texts.{no_words, word_in, words_in};
 ghost use Rattle.kp_diagram_labels.specs.inner.Runs.{HasRun, given};
 
+use crate::columns::width_of;
+use crate::label::{Label, Shown};
 use kp_base::NoMemory;
 use kp_bits::Bits;
+use kp_design::Layout;
 use kp_frontend::Accepted;
 use kp_run::{Column, take};
 use kp_seq::SeqMachine;
@@ -88,5 +95,51 @@ impl<'a> Trace<'a> {
             self.machine.step_unrecorded(room);
         }
         self.ran = to;
+    }
+}
+
+/// The values that labels have in the next instruction of a machine, which reads these samples. The machine stays as it is. The only error is out of memory.
+pub(crate) fn values_next(
+    alloc: Global,
+    layout: &Layout<'_>,
+    labels: &[Label],
+    row: &[Bits],
+    machine: &mut SeqMachine<'_>,
+) -> Result<Vec<Option<Bits>>, NoMemory>
+    requires job { machine.old.job ≡ layout.now }
+    requires labels { All (λ (l : Label). HasShown layout.now l.shown) labels.now }
+    requires samples { AreSamples layout.now.decls row.now }
+    ensures values { IfOk result (λ values. values.items ≡ words_in layout.now (state machine.old) (values_in row.now) labels.now) }
+    ensures same { OnOk result (machine.new ≡ machine.old) }
+{
+    let mut values = Vec::new(alloc);
+    for label in labels {
+        values.push(Some(value_next(layout, label.shown, row, machine)))?;
+    }
+    Ok(values)
+}
+
+/// No values. The only error is out of memory.
+pub(crate) fn no_values(alloc: Global, labels: &[Label]) -> Result<Vec<Option<Bits>>, NoMemory>
+    ensures { IfOk result (λ values. values.items ≡ no_words labels.now) }
+{
+    let values = vec![in alloc; None; labels.len()]?;
+    Ok(values)
+}
+
+// The value of what is shown.
+fn value_next(layout: &Layout<'_>, shown: Shown, row: &[Bits], machine: &mut SeqMachine<'_>) -> Bits
+    requires job { machine.old.job ≡ layout.now }
+    requires shown { HasShown layout.now shown }
+    requires samples { AreSamples layout.now.decls row.now }
+    ensures value { result ≡ word_in layout.now (state machine.old) (values_in row.now) shown }
+    ensures same { machine.new ≡ machine.old }
+{
+    match shown {
+        Shown::Word(target, address) => machine.value(target, address),
+        Shown::Computed(what) => {
+            let value = machine.next_value(row, what);
+            Bits::of(width_of(layout, shown), value)
+        }
     }
 }

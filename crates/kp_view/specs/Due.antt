@@ -62,7 +62,7 @@ ShowsStates job n = (T t a : ℕ) → listed_last (pipe_of job (inputs_from job 
 
 -- What that text shows. Of a diagram: the fetches, cells, marks and the account in it are those of the run, and the laws of the diagram hold of them.
 -- The figure of a window is a part of that of the run up to its last cycle (`job_window`), of which this holds. A label is the value that the sequential machine
--- has before the instruction of a line that retires (`label_text`), and the text of the listing is that of the first label.
+-- has before the instruction of a line that retires, or in it (`label_text`), and the text of the listing is that of the first label.
 -- Of the table of paths: its cells say where the reads take their values from, in each state of each run. The arrows of its picture are these cells. A page
 -- has a diagram and the table, and shows the states. What the text of `depth` shows is said by `IsDepthText`.
 abbrev pub IsShown : Order → Job → Type 0

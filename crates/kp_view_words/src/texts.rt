@@ -25,7 +25,7 @@ pub const USAGE_DIAGRAM: &str =
     "usage: kpview diagram N [NAMES] [--label L,L [--listing FILE]] [FILE]
 N is 0 to 1000, or FROM..TO: the cycles FROM to TO, at most 1000 of them, where
 TO is at most 1000000000; a name has 1 to 8 letters, digits or `_`; a label is a
-register or a word as F[0]
+register, a pipe, a result or a word as F[0]
 ";
 
 /// How `svg` is called.

@@ -1,13 +1,13 @@
-use Rattle.std.proofs.Common.{◌≡◌, ◌∙◌, ℕ, List, All, ap, map, subst, sym}
+use Rattle.std.proofs.Common.{◌≡◌, ◌∙◌, List, All, ap, map, subst, sym}
 use Rattle.std.proofs.lemmas.{Result.IfOk-weaker}
 use Rattle.kp_image.proofs.Given.{starts}
 use Rattle.kp_run.{specs.Columns.AreColumns, specs.Columns.Taken, proofs.Gathering.rows_fit_taken, proofs.Given.feeds_many, proofs.Given.rows_given}
-use Rattle.kp_machine.specs.Machine.{sequential}
+use Rattle.kp_pipeline.specs.Machine.{Samples}
 use Rattle.kp_diagram_text.specs.{Labelled.IsEntry, Labelled.fetch_at, declared.entries.Entry.Entry, declared.labelled.Labelled.Labelled}
 use Rattle.kp_until_run.proofs.{Reaching.agrees, Reaching.net_rows}
-use Rattle.kp_diagram_labels.proofs.Runs.{states_are}
+use Rattle.kp_diagram_labels.proofs.Runs.{given_are}
 use Rattle.kp_listing.specs.Seen.{listing_seen}
-use Rattle.kp_diagram_labels.{specs.inner.Columns.label_shown, proofs.Texts.all_entries, proofs.Texts.each_entry}
+use Rattle.kp_diagram_labels.{specs.Texts.label_values, specs.Texts.text_beside, proofs.Texts.all_entries, proofs.Texts.each_entry}
 use Rattle.kp_diagram_labels.proofs.lines.labelled_lines.Goals as goal
 
 pub synth-requires-clause-suits : goal.synth-requires-clause-suits
@@ -50,8 +50,9 @@ returns-clause-labels c =
     let fit = rows_given job accepted.sections.inputs c.job-kept.ensures.sound.names accepted.unbroken accepted.inputs in
     let agree = agrees job net c.job-kept.ensures.sound.names accepted.unbroken c.in_ok-net.ensures.shows in
     let are = subst (λ (l : List Taken). AreColumns job (net_rows job net c.args.end) l) (sym c.as_slice.ensures.value) c.in_ok-columns.ensures in
-    let same = states_are job net agree c.args.end c.as_slice.result.now fit are in
+    let same = given_are job net agree c.args.end c.as_slice.result.now fit are in
     IfOk-weaker c.with_labels.result _ _
-    (λ lines all. subst (λ (s : ℕ → ℕ → ℕ → ℕ). All (λ (l : Labelled). l.label.items ≡ label_shown job asked.text.now asked.labels.now (listing_seen asked.listing.now) s (fetch_at c.args.chart.now l.entry)) lines.items)
+    (λ lines all. subst (λ (given : Samples). All (λ (l : Labelled). l.label.items ≡ text_beside job asked.text.now asked.labels.now (listing_seen asked.listing.now)
+    (label_values job given asked.labels.now (fetch_at c.args.chart.now l.entry))) lines.items)
     same all)
     c.with_labels.ensures.labels

@@ -1,12 +1,11 @@
 use Rattle.std.proofs.Common.{◌≡◌, ◌∙◌, List, ap, length, refl, sym}
 use Rattle.std.proofs.lemmas.{List.get_or_default, List.Elements.All-nil, List.Elements.All-push}
 use Rattle.kp_bits.specs.Word.{Word}
-use Rattle.kp_machine.specs.Machine.{sequential}
 use Rattle.kp_run.proofs.Given.{as_feeds}
 use Rattle.kp_diagram_text.specs.{Labelled.fetch_at, declared.labelled.Labelled.Labelled}
 use Rattle.kp_diagram_labels.specs.inner.Runs.{given}
 use Rattle.kp_listing.specs.Seen.{listing_seen}
-use Rattle.kp_diagram_labels.{specs.inner.Columns.label_shown, proofs.Texts.entries_more}
+use Rattle.kp_diagram_labels.{specs.Texts.label_values, specs.Texts.text_beside, proofs.Texts.entries_more}
 use Rattle.kp_diagram_labels.proofs.lines.with_labels.Goals as goal
 
 pub loop-entry-init : goal.loop-entry-init
@@ -30,8 +29,8 @@ loop-entry-preserved c =
     let now = c.in_ok-label.ensures in
     record {
       entries = entries_more (λ (x : Labelled). x.entry) items _ _ entries i _ c.loop-entry-test.true (get_or_default entries i _ _ c.loop-entry-test.true) refl c.in_ok-push.ensures.items kept.entries;
-      labels = rw c.in_ok-push.ensures.items (All-push (λ (x : Labelled). x.label.items ≡ label_shown job asked.text.now asked.labels.now (listing_seen asked.listing.now)
-          (sequential job (given c.args.columns.now)) (fetch_at c.args.chart.now x.entry)) items _ kept.labels now.label);
+      labels = rw c.in_ok-push.ensures.items (All-push (λ (x : Labelled). x.label.items ≡ text_beside job asked.text.now asked.labels.now (listing_seen asked.listing.now)
+          (label_values job (given c.args.columns.now) asked.labels.now (fetch_at c.args.chart.now x.entry))) items _ kept.labels now.label);
       room = now.room ∙ kept.room;
       run = now.run;
     }
