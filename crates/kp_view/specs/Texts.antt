@@ -39,4 +39,4 @@ names_text given stages =
 
 -- a word of the command line that isn't a label
 unfoldable pub label_wrong : List ℕ → List ℕ
-label_wrong word = codes "kpview: a label is a register or a word as `F[0]`; not `" ++ (word ++ codes "`\n")
+label_wrong word = codes "kpview: a label is a register, a pipe, a result or a word as `F[0]`; not `" ++ (word ++ codes "`\n")

@@ -87,7 +87,7 @@ fn write_label<K: Sink>(word: &[u8], err: &mut K) -> Result<(), SinkFault>
     ensures cause { HasCause (K.faults err.old) (K.faults err.new) result }
 {
     let pieces = [
-        b"kpview: a label is a register or a word as `F[0]`; not `".as_slice(),
+        b"kpview: a label is a register, a pipe, a result or a word as `F[0]`; not `".as_slice(),
         word,
         b"`\n".as_slice(),
     ];
