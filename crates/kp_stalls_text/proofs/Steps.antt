@@ -1,20 +1,15 @@
 -- The steps of the loops.
-use Rattle.std.proofs.Common.{◌≡◌, ◌∙◌, ℕ, suc, ◌+◌, ◌-◌, ◌<◌, List, ◌∷◌, ◌++◌, length, get_or, drop, Option, ap, sym, subst, arith, append_assoc}
+use Rattle.std.proofs.Common.{◌≡◌, ◌∙◌, ℕ, suc, ◌+◌, ◌-◌, ◌<◌, List, ◌∷◌, ◌++◌, length, get_or, drop, ap, sym, arith, append_assoc}
 use Rattle.std.proofs.lemmas.List.{drop_more}
-use Rattle.kp_base.specs.inner.Bytes.{WrittenUpTo}
 use Rattle.kp_ast.specs.declared.tree.{Stmt.Stmt, Block.Block}
 use Rattle.kp_stalls.specs.declared.cause.Line.{Line}
 use Rattle.kp_stalls_text.specs.{Labels.Labelled, Labels.label_at, Labels.label_in, Labels.labels_from, Labels.labels_in, Reports.AreWaits}
 use Rattle.kp_stalls_text.specs.Text.{line_text, lines_text, read_sum, reads_text}
 
--- what is left is the same text
-pub left_is : (whole rest same : List ℕ) (a b : Option (List ℕ)) → rest ≡ same → WrittenUpTo whole rest a b → WrittenUpTo whole same a b
-left_is whole rest same a b e written = subst (λ (text : List ℕ). WrittenUpTo whole text a b) e written
-
-pub lines_next : (labels : List Labelled) (lines : List Line) (i : ℕ) (x : Line) → i < length lines → x ≡ get_or lines i x
-    → lines_text labels (drop i lines) ≡ line_text labels x ++ lines_text labels (drop (i + 1) lines)
-lines_next labels lines i x b is =
-    ap (lines_text labels) (drop_more lines i x b ∙ ap (λ (y : Line). y ∷ drop (i + 1) lines) (sym is))
+pub lines_next : (names : List (List ℕ)) (labels : List Labelled) (lines : List Line) (i : ℕ) (x : Line) → i < length lines → x ≡ get_or lines i x
+    → lines_text names labels (drop i lines) ≡ line_text names labels x ++ lines_text names labels (drop (i + 1) lines)
+lines_next names labels lines i x b is =
+    ap (lines_text names labels) (drop_more lines i x b ∙ ap (λ (y : Line). y ∷ drop (i + 1) lines) (sym is))
 
 -- LABELS.
 pub stmts_step : (done whole : List Labelled) (stmts : List Stmt) (i : ℕ) (x : Stmt) → i < length stmts → x ≡ get_or stmts i x

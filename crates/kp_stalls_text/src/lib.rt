@@ -5,7 +5,6 @@
 
 mod labels;
 mod lines;
-mod pieces;
 mod report;
 mod sums;
 mod text;

@@ -1,264 +1,210 @@
 // The lines as text.
-ghost use Rattle.std.specs.Prelude.{◌++◌, codes, decimal};
-ghost use Rattle.kp_base.specs.Bytes.{Writes};
-ghost use Rattle.kp_base.specs.Causes.{HasCause};
+ghost use Rattle.std.specs.Prelude.{◌++◌, map, string_bytes};
+ghost use Rattle.kp_base.specs.Writer.{Wrote};
 ghost use Rattle.kp_bits.specs.Spelling.{spelling};
 ghost use Rattle.kp_stalls_text.specs.Labels.{label_at};
-ghost use Rattle.kp_stalls_text.specs.Text.{cause_text, guess_text, guessed_text, had_text, line_number, line_text, lines_text, made_by, made_text, producer_text, place_text, source_text, guess_part, value_text, writer_text, wrong_text};
+ghost use Rattle.kp_stalls_text.specs.Text.{cause_text, guess_part, guess_text, guessed_text, had_text, instruction_text, line_text, lines_text, place_text, producer_text, squashed_text, stage_text, staged_text, value_text, writer_text};
 
-use crate::labels::{Label, is_file, line_of, name_of};
-use crate::pieces::{
-    write_head, write_instruction, write_line_number, write_squashed, write_waits,
-};
-use itoa::Buffer;
-use kp_base::{Sink, SinkFault, write_all, write_pieces};
+use crate::labels::{is_file, line_of, name_of};
+use crate::report::Report;
+use kp_base::{Piece, Sink, Writer};
 use kp_bits::Bits;
 use kp_stalls::{Cause, Guess, Had, Line, Producer, Wait, Wrong};
 
-/// Writes the lines.
-pub(crate) fn write_lines<K: Sink>(
-    labels: &[Label],
-    lines: &[Line],
-    sink: &mut K,
-) -> Result<(), SinkFault>
-    ensures text { Writes (K.held sink.old) (K.held sink.new) (lines_text labels.now lines.now) result }
-    ensures cause { HasCause (K.faults sink.old) (K.faults sink.new) result }
+/// Writes lines of a report.
+#[tactic(auto, using(kp_base::proofs::Writing::up_none))]
+pub(crate) fn write_lines<K: Sink>(report: &Report<'_>, lines: &[Line], out: &mut Writer<'_, K>)
+    ensures { Wrote K.held K.faults out.old out.new (lines_text report.now.names report.now.labels lines.now) }
 {
     for line in lines {
-        write_line(labels, *line, sink)?;
+        write_line(report, *line, out);
     }
-    Ok(())
 }
 
-#[tactic(auto, using(kp_base::proofs::Bytes::writes_next, kp_base::proofs::Bytes::part_more))]
-fn write_line<K: Sink>(labels: &[Label], line: Line, sink: &mut K) -> Result<(), SinkFault>
-    ensures text { Writes (K.held sink.old) (K.held sink.new) (line_text labels.now line) result }
-    ensures cause { HasCause (K.faults sink.old) (K.faults sink.new) result }
+fn write_line<K: Sink>(report: &Report<'_>, line: Line, out: &mut Writer<'_, K>)
+    ensures { Wrote K.held K.faults out.old out.new (line_text report.now.names report.now.labels line) }
 {
-    write_head(line.cycle as u64, line.number, sink)?;
-    write_cause(labels, line, sink)
+    out.fill(
+        b"cycle @: instruction @ ",
+        &[Piece::Number(line.cycle as u64), Piece::Number(line.number)],
+    );
+    write_cause(report, line, out)
 }
 
-fn write_cause<K: Sink>(labels: &[Label], line: Line, sink: &mut K) -> Result<(), SinkFault>
-    ensures text { Writes (K.held sink.old) (K.held sink.new) (cause_text labels.now line.number line.stage line.cause) result }
-    ensures cause { HasCause (K.faults sink.old) (K.faults sink.new) result }
+fn write_cause<K: Sink>(report: &Report<'_>, line: Line, out: &mut Writer<'_, K>)
+    ensures { Wrote K.held K.faults out.old out.new (cause_text report.now.names report.now.labels line.number line.stage line.cause) }
 {
     let stage = line.stage as u64;
     let cause = line.cause;
     match cause {
-        Cause::Value(wait) => write_value(labels, stage, wait, sink),
-        Cause::Unsure => write_waits(stage, b" for a value\n", sink),
-        Cause::Ahead => write_waits(stage, b" for the stage ahead\n", sink),
-        Cause::Held => write_held(stage, sink),
-        Cause::Later => write_waits(stage, b" and is squashed later\n", sink),
-        Cause::Squashed(wrong) => write_wrong(labels, line.number, wrong, sink),
+        Cause::Value(wait) => write_value(report, stage, wait, out),
+        Cause::Unsure => write_staged(report, b"waits in ", stage, b" for a value\n", out),
+        Cause::Ahead => write_staged(report, b"waits in ", stage, b" for the stage ahead\n", out),
+        Cause::Held => write_staged(report, b"is held in ", stage, b" from outside\n", out),
+        Cause::Later => write_staged(
+            report,
+            b"waits in ",
+            stage,
+            b" and is squashed later\n",
+            out,
+        ),
+        Cause::Squashed(wrong) => write_wrong(report, line.number, wrong, out),
     }
 }
 
-fn write_held<K: Sink>(k: u64, sink: &mut K) -> Result<(), SinkFault>
-    ensures text { Writes (K.held sink.old) (K.held sink.new) (codes "is held in stage " ++ (decimal k ++ codes " from outside\n")) result }
-    ensures cause { HasCause (K.faults sink.old) (K.faults sink.new) result }
+// A stage, between two texts.
+fn write_staged<K: Sink>(
+    report: &Report<'_>,
+    before: &[u8],
+    k: u64,
+    after: &[u8],
+    out: &mut Writer<'_, K>,
+)
+    ensures { Wrote K.held K.faults out.old out.new (staged_text report.now.names before.now k after.now) }
 {
-    let mut buffer = Buffer::new();
-    let pieces = [
-        b"is held in stage ".as_slice(),
-        buffer.format(k).as_bytes(),
-        b" from outside\n".as_slice(),
-    ];
-    write_pieces(sink, &pieces)
+    out.put(before);
+    write_stage(report.names(), k, out);
+    out.put(after)
+}
+
+fn write_stage<K: Sink>(names: &[String], k: u64, out: &mut Writer<'_, K>)
+    ensures { Wrote K.held K.faults out.old out.new (stage_text (map string_bytes names.now) k) }
+{
+    if k < names.len() as u64 {
+        out.put(names[k as usize].as_bytes())
+    } else {
+        out.pieces(&[Piece::Text(b"stage "), Piece::Number(k)])
+    }
+}
+
+// An instruction and its stage.
+fn write_instruction<K: Sink>(report: &Report<'_>, number: u64, stage: u64, out: &mut Writer<'_, K>)
+    ensures { Wrote K.held K.faults out.old out.new (instruction_text report.now.names number stage) }
+{
+    out.fill(b"instruction @", &[Piece::Number(number)]);
+    write_staged(report, b", in ", stage, b", ", out)
 }
 
 // A wait for a value.
-#[tactic(auto, using(kp_base::proofs::Bytes::writes_next, kp_base::proofs::Bytes::part_more))]
-fn write_value<K: Sink>(labels: &[Label], k: u64, wait: Wait, sink: &mut K) -> Result<(), SinkFault>
-    ensures text { Writes (K.held sink.old) (K.held sink.new) (value_text labels.now k wait) result }
-    ensures cause { HasCause (K.faults sink.old) (K.faults sink.new) result }
+fn write_value<K: Sink>(report: &Report<'_>, k: u64, wait: Wait, out: &mut Writer<'_, K>)
+    ensures { Wrote K.held K.faults out.old out.new (value_text report.now.names report.now.labels k wait) }
 {
-    write_waits(k, b" for ", sink)?;
-    write_source(labels, wait, sink)
+    write_staged(report, b"waits in ", k, b" for ", out);
+    write_place(report, wait, out);
+    write_writer(report, wait, out)
 }
 
-#[tactic(auto, using(kp_base::proofs::Bytes::writes_next, kp_base::proofs::Bytes::part_more))]
-fn write_source<K: Sink>(labels: &[Label], wait: Wait, sink: &mut K) -> Result<(), SinkFault>
-    ensures text { Writes (K.held sink.old) (K.held sink.new) (source_text (label_at labels.now wait.read) wait) result }
-    ensures cause { HasCause (K.faults sink.old) (K.faults sink.new) result }
+// What is read, and where.
+fn write_place<K: Sink>(report: &Report<'_>, wait: Wait, out: &mut Writer<'_, K>)
+    ensures { Wrote K.held K.faults out.old out.new (place_text (label_at report.now.labels wait.read) wait.address) }
 {
-    write_place(labels, wait, sink)?;
-    write_line_and_writer(line_of(labels, wait.read), wait, sink)
-}
-
-#[tactic(auto, unfolding(crate::specs::Text::place_text))]
-fn write_place<K: Sink>(labels: &[Label], wait: Wait, sink: &mut K) -> Result<(), SinkFault>
-    ensures text { Writes (K.held sink.old) (K.held sink.new) (place_text (label_at labels.now wait.read) wait.address) result }
-    ensures cause { HasCause (K.faults sink.old) (K.faults sink.new) result }
-{
-    let name = name_of(labels, wait.read);
+    let labels = report.labels();
+    let name = Piece::Text(name_of(labels, wait.read));
+    let line = Piece::Number(u64::from(line_of(labels, wait.read)));
     if is_file(labels, wait.read) {
-        let mut buffer = Buffer::new();
-        let pieces = [
-            name,
-            b"[".as_slice(),
-            buffer.format(wait.address).as_bytes(),
-            b"]".as_slice(),
-        ];
-        write_pieces(sink, &pieces)
+        let address = Piece::Number(u64::from(wait.address));
+        out.fill(b"@[@] (line @): ", &[name, address, line])
     } else {
-        write_all(sink, name)
+        out.fill(b"@ (line @): ", &[name, line])
     }
 }
 
-#[tactic(auto, using(kp_base::proofs::Bytes::writes_next, kp_base::proofs::Bytes::part_more))]
-fn write_line_and_writer<K: Sink>(line: u32, wait: Wait, sink: &mut K) -> Result<(), SinkFault>
-    ensures text { Writes (K.held sink.old) (K.held sink.new) (line_number line ++ writer_text wait) result }
-    ensures cause { HasCause (K.faults sink.old) (K.faults sink.new) result }
+fn write_writer<K: Sink>(report: &Report<'_>, wait: Wait, out: &mut Writer<'_, K>)
+    ensures { Wrote K.held K.faults out.old out.new (writer_text report.now.names wait) }
 {
-    write_line_number(line, sink)?;
-    write_writer(wait, sink)
+    write_instruction(report, wait.writer, wait.stage as u64, out);
+    write_had(report, wait.had, out)
 }
 
-#[tactic(auto, using(kp_base::proofs::Bytes::writes_next, kp_base::proofs::Bytes::part_more))]
-fn write_writer<K: Sink>(wait: Wait, sink: &mut K) -> Result<(), SinkFault>
-    ensures text { Writes (K.held sink.old) (K.held sink.new) (writer_text wait) result }
-    ensures cause { HasCause (K.faults sink.old) (K.faults sink.new) result }
+fn write_had<K: Sink>(report: &Report<'_>, had: Had, out: &mut Writer<'_, K>)
+    ensures { Wrote K.held K.faults out.old out.new (had_text report.now.names had) }
 {
-    write_instruction(wait.writer, wait.stage as u64, sink)?;
-    write_had(wait.had, sink)
-}
-
-#[tactic(auto, unfolding(crate::specs::Text::had_text))]
-fn write_had<K: Sink>(had: Had, sink: &mut K) -> Result<(), SinkFault>
-    ensures text { Writes (K.held sink.old) (K.held sink.new) (had_text had) result }
-    ensures cause { HasCause (K.faults sink.old) (K.faults sink.new) result }
-{
-    let mut buffer = Buffer::new();
     match had {
         Had::Known(stage) => {
-            let pieces = [
-                b"may write it, which is known in stage ".as_slice(),
-                buffer.format(stage).as_bytes(),
-                b"\n".as_slice(),
-            ];
-            write_pieces(sink, &pieces)
+            let before = b"may write it, which is known in ";
+            write_staged(report, before, u64::from(stage), b"\n", out)
         }
         Had::Set(stage) => {
-            let pieces = [
-                b"writes it and has the value in stage ".as_slice(),
-                buffer.format(stage).as_bytes(),
-                b"\n".as_slice(),
-            ];
-            write_pieces(sink, &pieces)
+            let before = b"writes it and has the value in ";
+            write_staged(report, before, u64::from(stage), b"\n", out)
         }
-        Had::Moved => write_all(
-            sink,
-            b"writes it and has the value as soon as it moves on\n",
-        ),
+        Had::Moved => out.put(b"writes it and has the value as soon as it moves on\n"),
     }
 }
 
 // A rollback.
-#[tactic(auto, using(kp_base::proofs::Bytes::writes_next, kp_base::proofs::Bytes::part_more))]
-fn write_wrong<K: Sink>(
-    labels: &[Label],
-    number: u64,
-    wrong: Wrong,
-    sink: &mut K,
-) -> Result<(), SinkFault>
-    ensures text { Writes (K.held sink.old) (K.held sink.new) (wrong_text labels.now number wrong) result }
-    ensures cause { HasCause (K.faults sink.old) (K.faults sink.new) result }
+fn write_wrong<K: Sink>(report: &Report<'_>, number: u64, wrong: Wrong, out: &mut Writer<'_, K>)
+    ensures { Wrote K.held K.faults out.old out.new (guess_part report.now.names report.now.labels wrong.guess ++ squashed_text number wrong.last) }
 {
-    write_guess_part(labels, wrong.guess, sink)?;
-    write_squashed(number, wrong.last, sink)
+    write_guess_part(report, wrong.guess, out);
+    out.fill(
+        b"; instructions @ to @ are squashed\n",
+        &[Piece::Number(number), Piece::Number(wrong.last)],
+    )
 }
 
-fn write_guess_part<K: Sink>(
-    labels: &[Label],
-    guess: Option<Guess>,
-    sink: &mut K,
-) -> Result<(), SinkFault>
-    ensures text { Writes (K.held sink.old) (K.held sink.new) (guess_part labels.now guess) result }
-    ensures cause { HasCause (K.faults sink.old) (K.faults sink.new) result }
+fn write_guess_part<K: Sink>(report: &Report<'_>, guess: Option<Guess>, out: &mut Writer<'_, K>)
+    ensures { Wrote K.held K.faults out.old out.new (guess_part report.now.names report.now.labels guess) }
 {
     match guess {
-        Some(guess) => write_guess(labels, guess, sink),
-        None => write_all(sink, b"made a wrong guess"),
+        Some(guess) => write_guess(report, guess, out),
+        None => out.put(b"made a wrong guess"),
     }
 }
 
-#[tactic(auto, using(kp_base::proofs::Bytes::writes_next, kp_base::proofs::Bytes::part_more))]
-fn write_guess<K: Sink>(labels: &[Label], guess: Guess, sink: &mut K) -> Result<(), SinkFault>
-    ensures text { Writes (K.held sink.old) (K.held sink.new) (guess_text (label_at labels.now guess.read) guess) result }
-    ensures cause { HasCause (K.faults sink.old) (K.faults sink.new) result }
+fn write_guess<K: Sink>(report: &Report<'_>, guess: Guess, out: &mut Writer<'_, K>)
+    ensures { Wrote K.held K.faults out.old out.new (guess_text report.now.names report.now.labels guess) }
 {
-    write_guessed(name_of(labels, guess.read), guess.guessed, sink)?;
-    write_line_and_made(line_of(labels, guess.read), guess, sink)
+    write_guessed(report, guess.read, guess.guessed, out);
+    write_producer(report, guess.producer, out);
+    write_spelled(guess.value, out)
 }
 
-#[tactic(auto, unfolding(crate::specs::Text::guessed_text))]
-fn write_guessed<K: Sink>(name: &[u8], guessed: Option<Bits>, sink: &mut K) -> Result<(), SinkFault>
-    ensures text { Writes (K.held sink.old) (K.held sink.new) (guessed_text name.now guessed) result }
-    ensures cause { HasCause (K.faults sink.old) (K.faults sink.new) result }
+// The read whose guess is wrong, with the value that was guessed, if it is known.
+fn write_guessed<K: Sink>(
+    report: &Report<'_>,
+    read: usize,
+    guessed: Option<Bits>,
+    out: &mut Writer<'_, K>,
+)
+    ensures { Wrote K.held K.faults out.old out.new (guessed_text (label_at report.now.labels read) guessed) }
 {
+    let labels = report.labels();
+    let name = name_of(labels, read);
+    let line = u64::from(line_of(labels, read));
     match guessed {
-        None => {
-            let pieces = [b"guessed ".as_slice(), name, b" wrong".as_slice()];
-            write_pieces(sink, &pieces)
-        }
         Some(value) => {
-            let mut spelled = [0; 20];
-            let length = value.spell(&mut spelled);
-            let pieces = [
-                b"guessed ".as_slice(),
-                name,
-                b" = ".as_slice(),
-                &spelled[..length],
-            ];
-            write_pieces(sink, &pieces)
+            out.fill(b"guessed @ = ", &[Piece::Text(name)]);
+            write_spelled(value, out);
+            out.pieces(&[
+                Piece::Text(b" (line "),
+                Piece::Number(line),
+                Piece::Text(b"): "),
+            ])
         }
+        None => out.fill(
+            b"guessed @ wrong (line @): ",
+            &[Piece::Text(name), Piece::Number(line)],
+        ),
     }
 }
 
-#[tactic(auto, using(kp_base::proofs::Bytes::writes_next, kp_base::proofs::Bytes::part_more))]
-fn write_line_and_made<K: Sink>(line: u32, guess: Guess, sink: &mut K) -> Result<(), SinkFault>
-    ensures text { Writes (K.held sink.old) (K.held sink.new) (line_number line ++ made_text guess) result }
-    ensures cause { HasCause (K.faults sink.old) (K.faults sink.new) result }
+fn write_producer<K: Sink>(report: &Report<'_>, producer: Option<Producer>, out: &mut Writer<'_, K>)
+    ensures { Wrote K.held K.faults out.old out.new (producer_text report.now.names producer) }
 {
-    write_line_number(line, sink)?;
-    write_made(guess, sink)
+    match producer {
+        Some(producer) => {
+            write_instruction(report, producer.number, producer.stage as u64, out);
+            out.put(b"makes it ")
+        }
+        None => out.put(b"it is "),
+    }
 }
 
-#[tactic(auto, using(kp_base::proofs::Bytes::writes_next, kp_base::proofs::Bytes::part_more))]
-fn write_made<K: Sink>(guess: Guess, sink: &mut K) -> Result<(), SinkFault>
-    ensures text { Writes (K.held sink.old) (K.held sink.new) (made_text guess) result }
-    ensures cause { HasCause (K.faults sink.old) (K.faults sink.new) result }
-{
-    write_producer(guess.producer, sink)?;
-    write_spelled(guess.value, sink)
-}
-
-fn write_spelled<K: Sink>(value: Bits, sink: &mut K) -> Result<(), SinkFault>
-    ensures text { Writes (K.held sink.old) (K.held sink.new) (spelling value) result }
-    ensures cause { HasCause (K.faults sink.old) (K.faults sink.new) result }
+fn write_spelled<K: Sink>(value: Bits, out: &mut Writer<'_, K>)
+    ensures { Wrote K.held K.faults out.old out.new (spelling value) }
 {
     let mut spelled = [0; 20];
     let length = value.spell(&mut spelled);
-    write_all(sink, &spelled[..length])
-}
-
-fn write_producer<K: Sink>(producer: Option<Producer>, sink: &mut K) -> Result<(), SinkFault>
-    ensures text { Writes (K.held sink.old) (K.held sink.new) (producer_text producer) result }
-    ensures cause { HasCause (K.faults sink.old) (K.faults sink.new) result }
-{
-    match producer {
-        Some(producer) => write_made_by(producer, sink),
-        None => write_all(sink, b"it is "),
-    }
-}
-
-#[tactic(auto, using(kp_base::proofs::Bytes::writes_next, kp_base::proofs::Bytes::part_more))]
-fn write_made_by<K: Sink>(producer: Producer, sink: &mut K) -> Result<(), SinkFault>
-    ensures text { Writes (K.held sink.old) (K.held sink.new) (made_by producer) result }
-    ensures cause { HasCause (K.faults sink.old) (K.faults sink.new) result }
-{
-    write_instruction(producer.number, producer.stage as u64, sink)?;
-    write_all(sink, b"makes it ")
+    out.put(&spelled[..length])
 }

@@ -1,5 +1,5 @@
 // The lines of a run with what their text needs.
-ghost use Rattle.std.specs.Prelude.{◌≡◌, ℕ, ◌+◌, ◌-◌, ◌<◌, ◌^◌, ◌==◌, IfOk, cond, get_or, length};
+ghost use Rattle.std.specs.Prelude.{◌≡◌, ℕ, ◌+◌, ◌-◌, ◌<◌, ◌^◌, ◌==◌, IfOk, cond, get_or, length, map, string_bytes};
 ghost use Rattle.kp_stalls_text.specs.Labels.{labels_from};
 ghost use Rattle.kp_stalls_text.specs.Reports.{AreWaits};
 ghost use Rattle.kp_stalls_text.specs.Text.{is_wait_for};
@@ -11,16 +11,19 @@ use kp_stalls::{Cause, Line};
 use std::alloc::Global;
 use std::marker::Model;
 
-/// The lines of a run, with the labels of the reads and the number of waits for each of them.
-pub struct Report {
+/// The lines of a run, with names of the stages, the labels of the reads and the number of waits for each of them. A stage past the end of the names has its
+/// number.
+pub struct Report<'a> {
+    names: &'a [String],
     labels: Vec<Label>,
     lines: Vec<Line>,
     waits: Vec<u64>,
 }
 
-impl Drop for Report {
+impl Drop for Report<'_> {
     fn drop(self) {
         let Report {
+            names: _,
             labels,
             lines,
             waits,
@@ -31,30 +34,44 @@ impl Drop for Report {
     }
 }
 
-impl Model for Report {
-    ghost use Rattle.std.specs.Prelude.{length};
+impl<'a> Model for Report<'a> {
+    ghost use Rattle.std.specs.Prelude.{length, map, string_bytes};
     ghost use Rattle.kp_stalls_text.specs.Reports.{AreWaits, Reported};
 
     ghost Value = { Reported };
 
-    ghost view = { λ r. record { labels = r.labels.items; lines = r.lines.items; waits = r.waits.items } };
+    ghost view = { λ r. record { names = map string_bytes r.names.now; labels = r.labels.items; lines = r.lines.items; waits = r.waits.items } };
 
     ghost invariant = { λ r. AreWaits (length r.labels.items) r.lines.items r.waits.items };
 }
 
-impl Report {
-    /// The report of these lines, whose reads are in these blocks. The only error is out of memory.
-    pub fn of(alloc: Global, blocks: &[Block], lines: Vec<Line>) -> Result<Report, NoMemory>
+impl<'a> Report<'a> {
+    /// The report of these lines, whose reads are in these blocks, with these names of the stages. The only error is out of memory.
+    pub fn of(
+        alloc: Global,
+        blocks: &[Block],
+        names: &'a [String],
+        lines: Vec<Line>,
+    ) -> Result<Report<'a>, NoMemory>
+        ensures names { IfOk result (λ r. r.names ≡ map string_bytes names.now) }
         ensures labels { IfOk result (λ r. r.labels ≡ labels_from blocks.now) }
         ensures lines { IfOk result (λ r. r.lines ≡ lines.items) }
     {
         let labels = labels_of(alloc, blocks)?;
         let waits = waits_of(alloc, labels.len(), lines.as_slice())?;
         Ok(Report {
+            names,
             labels,
             lines,
             waits,
         })
+    }
+
+    /// The names of the stages.
+    pub(crate) fn names(&self) -> &'a [String]
+        ensures { map string_bytes result.now ≡ self.now.names }
+    {
+        self.names
     }
 
     /// The labels of the reads.

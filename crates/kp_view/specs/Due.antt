@@ -52,7 +52,7 @@ IsText (page run) input job text =
     text ≡ page_text (figure_drawn run job) (rows_drawn run job) input (paths_text job) (states_text job run.count)
 IsText paths input job text = text ≡ paths_text job
 IsText paths_svg input job text = text ≡ paths_svg_text job
-IsText (stalls count) input job text = text ≡ stalls_text (labels_from job.blocks) (job_stalls count job)
+IsText (stalls run) input job text = text ≡ stalls_text run.names (labels_from job.blocks) (job_stalls run.count job)
 IsText (depth memories) input job text = IsDepthText job (are_inside memories) text
 
 -- What the states that a page records of n cycles and the end after them show: the value of a word in a cycle is the one that was listed last, or 0 if
@@ -73,7 +73,7 @@ IsShown (svg run) job = ShowsRun job run.count (figure_drawn run job)
 IsShown (page run) job = ShowsRun job run.count (figure_drawn run job) × ArePaths job × ShowsStates job run.count
 IsShown paths job = ArePaths job
 IsShown paths_svg job = ArePaths job × ShowsCells job
-IsShown (stalls count) job = ShowCauses job count
+IsShown (stalls run) job = ShowCauses job run.count
 IsShown (depth memories) job = Unit {0}
 
 abbrev pub Draws : Order → List ℕ → Job → ℕ → List ℕ → Type 0

@@ -178,7 +178,7 @@ fn drawn<K: Sink>(
         Order::Page(run) => page(alloc, run, input, job, out),
         Order::Paths => paths(alloc, job, out),
         Order::PathsSvg => paths_svg(alloc, job, out),
-        Order::Stalls(cycles) => stalls(alloc, cycles.count, job, out),
+        Order::Stalls(cycles) => stalls(alloc, cycles, job, out),
         Order::Depth(memories) => depth(alloc, *memories, job, out),
     }
 }

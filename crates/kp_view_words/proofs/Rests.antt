@@ -4,7 +4,7 @@ use Rattle.std.proofs.lemmas.{Option.slice_get-get_or, List.map-append, List.len
 use Rattle.std.{proofs.Math.Seq.take-append_seam, proofs.Math.Seq.get_or-append_seam, specs.Prelude.slice_get, specs.Prelude.option_and_then}
 use Rattle.std.specs.{List.IsLastAndRest, List.list_all, Option.option_map_or}
 use Rattle.kp_command_line.specs.Words.{Text}
-use Rattle.kp_view_words.specs.Words.{file_in, is_file_after, is_name, names_in, run_with}
+use Rattle.kp_view_words.specs.Words.{file_in, is_file_after, is_name, named_in, names_in}
 
 -- some names, and a last word
 module _ (names : List Text) (last : Text) where
@@ -57,13 +57,12 @@ module _ {X : Type 0} (f : X → Text) (rest names : List X) (last : X) (is : Is
   pub file_none : is_file_after (length names) (f last) ≡ false → None ≡ file_in (map f rest)
   file_none h = sym (ap file_in mapped ∙ file_is (map f names) (f last) ∙ ap (λ b. cond b (Some (f last)) None) (test_is false h))
 
--- the run, where the names are or aren't names of stages
-pub run_none : (count : ℕ) (rest : List Text) → list_all is_name (names_in rest) ≡ false → None ≡ run_with count rest
-run_none count rest h =
-    sym (ap (λ b. cond b (Some (record { run = record { count = count; names = names_in rest }; file = file_in rest })) None) h)
+-- the names and the file, where the names are or aren't names of stages
+pub named_none : (rest : List Text) → list_all is_name (names_in rest) ≡ false → None ≡ named_in rest
+named_none rest h = sym (ap (λ b. cond b (Some (record { names = names_in rest; file = file_in rest })) None) h)
 
-pub run_some : (count : ℕ) (rest names : List Text) (file : Option Text) → names ≡ names_in rest → file ≡ file_in rest → list_all is_name (names_in rest) ≡ true
-    → Some (record { run = record { count = count; names = names }; file = file }) ≡ run_with count rest
-run_some count rest names file n f h =
-    ap₂ (λ (ns : List Text) (o : Option Text). Some (record { run = record { count = count; names = ns }; file = o })) n f
-    ∙ sym (ap (λ b. cond b (Some (record { run = record { count = count; names = names_in rest }; file = file_in rest })) None) h)
+pub named_some : (rest names : List Text) (file : Option Text) → names ≡ names_in rest → file ≡ file_in rest → list_all is_name (names_in rest) ≡ true
+    → Some (record { names = names; file = file }) ≡ named_in rest
+named_some rest names file n f h =
+    ap₂ (λ (ns : List Text) (o : Option Text). Some (record { names = ns; file = o })) n f
+    ∙ sym (ap (λ b. cond b (Some (record { names = names_in rest; file = file_in rest })) None) h)

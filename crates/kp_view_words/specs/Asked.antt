@@ -7,12 +7,16 @@ use Rattle.kp_view_words.specs.declared.task.Order as code_order
 use Rattle.kp_view_words.specs.declared.task.WithLabels as code_beside
 use Rattle.kp_view_words.specs.declared.task.Order.TheVariants as orders
 use Rattle.kp_view_words.specs.declared.pair.Pair as code_pair
+use Rattle.kp_view_words.specs.declared.task.Cycles as code_cycles
 use Rattle.kp_view_words.specs.declared.task.Run as code_run
 use Rattle.kp_view_words.specs.declared.task.Task as code_task
 use Rattle.kp_view_words.specs.declared.words.Request.TheVariants as requests
 
 abbrev pub run_seen : code_run.Run → Run
 run_seen run = record { count = run.count; names = map string_bytes run.names.now }
+
+abbrev pub cycles_seen : code_cycles.Cycles → Run
+cycles_seen cycles = record { count = cycles.count; names = map string_bytes cycles.names.now }
 
 abbrev pub beside_seen : code_beside.WithLabels → Beside
 beside_seen shown = record { label = shown.label.now; file = option_map (λ word. string_bytes word.now) shown.file; listing = shown.listing.now }
@@ -25,7 +29,7 @@ order_seen (orders.Svg run) = svg (run_seen run)
 order_seen (orders.Page run) = page (run_seen run)
 order_seen orders.Paths = paths
 order_seen orders.PathsSvg = paths_svg
-order_seen (orders.Stalls cycles) = stalls cycles.count
+order_seen (orders.Stalls cycles) = stalls (cycles_seen cycles)
 order_seen (orders.Depth memories) = depth memories
 
 abbrev pub task_seen : code_task.Task → Task

@@ -9,7 +9,7 @@ use Rattle.kp_view_words.specs.declared.task.Memories.TheVariants.{Inside, Outsi
 use Rattle.kp_view_words.specs.declared.words.Topic.TheVariants as topics
 use Rattle.kp_view_words.specs.declared.words.Word.TheVariants as words
 
--- A run that is drawn: its number of cycles, and the names of the stages.
+-- A run that is drawn or listed: its number of cycles, and the names of the stages.
 pub record Run : Type 0 where
   pub count : ℕ
   pub names : List Text
@@ -34,7 +34,7 @@ pub data Order : Type 0 where
   page : Run → Order
   paths : Order
   paths_svg : Order
-  stalls : ℕ → Order
+  stalls : Run → Order
   depth : Memories → Order
 
 -- What is to be shown of a job, and its file, or none for standard input.
@@ -57,12 +57,15 @@ names_for (svg run) = run.names
 names_for (page run) = run.names
 names_for paths = []
 names_for paths_svg = []
-names_for (stalls count) = []
+names_for (stalls run) = run.names
 names_for (depth memories) = []
 
 -- the same with these names of the stages, where none are given
+abbrev pub names_or : List Text → List Text → List Text
+names_or listed names = if length names == 0 then listed else names
+
 abbrev pub run_named : List Text → Run → Run
-run_named listed run = record { count = run.count; names = if length run.names == 0 then listed else run.names }
+run_named listed run = record { count = run.count; names = names_or listed run.names }
 
 abbrev pub named : List Text → Order → Order
 named listed (diagram run) = diagram (run_named listed run)
@@ -72,7 +75,7 @@ named listed (svg run) = svg (run_named listed run)
 named listed (page run) = page (run_named listed run)
 named listed paths = paths
 named listed paths_svg = paths_svg
-named listed (stalls count) = stalls count
+named listed (stalls run) = stalls (run_named listed run)
 named listed (depth memories) = depth memories
 
 -- the text that names the labels
@@ -176,16 +179,24 @@ file_in rest =
 abbrev pub names_in : List Text → List Text
 names_in rest = option_map_or (λ file. take (length rest - 1) rest) (file_in rest) rest
 
+-- NAMES of the stages, and a file
+pub record Named : Type 0 where
+  pub names : List Text
+  pub file : Option Text
+
+abbrev pub named_in : List Text → Option Named
+named_in rest = if list_all is_name (names_in rest) then Some (record { names = names_in rest; file = file_in rest }) else None
+
 -- A RUN, and a file: a number of at most 1,000 cycles, and then names of the stages and a file.
 pub record RunAsked : Type 0 where
   pub run : Run
   pub file : Option Text
 
+abbrev pub run_by : ℕ → Named → RunAsked
+run_by count named = record { run = record { count = count; names = named.names }; file = named.file }
+
 abbrev pub run_with : ℕ → List Text → Option RunAsked
-run_with count rest =
-    if list_all is_name (names_in rest)
-    then Some (record { run = record { count = count; names = names_in rest }; file = file_in rest })
-    else None
+run_with count rest = option_map (run_by count) (named_in rest)
 
 abbrev pub run_in : List Text → Option RunAsked
 run_in [] = None
@@ -230,10 +241,13 @@ diagram_with (word ∷ rest) = diagram_by (count_of 1000 word) word rest
 abbrev pub with_file : Order → List Text → Option Task
 with_file order rest = if nat_lt 1 (length rest) then None else Some (record { order = order; file = slice_get rest 0 })
 
--- the stalls of a job: a number of at most 100,000 cycles, with at most a file after it
+-- the stalls of a job: a number of at most 100,000 cycles, and then names of the stages and a file
+abbrev pub stalls_of : RunAsked → Task
+stalls_of asked = record { order = stalls asked.run; file = asked.file }
+
 abbrev pub stalls_with : List Text → Option Task
 stalls_with [] = None
-stalls_with (number ∷ files) = option_and_then (λ count. with_file (stalls count) files) (count_of 100000 number)
+stalls_with (number ∷ rest) = option_and_then (λ count. option_map stalls_of (run_with count rest)) (count_of 100000 number)
 
 -- what a word asks for, with these words after it: `same` nothing about a job alone
 abbrev pub task_with : Word → List Text → Option Task
@@ -331,7 +345,7 @@ asked_for all =
 
 -- whether names of stages follow the word and its N
 abbrev pub takes_names : Text → Bool
-takes_names word = bytes_eq word (codes "diagram") || (bytes_eq word (codes "svg") || bytes_eq word (codes "page"))
+takes_names word = bytes_eq word (codes "diagram") || (bytes_eq word (codes "svg") || (bytes_eq word (codes "page") || bytes_eq word (codes "stalls")))
 
 -- the first word in the place of such a name that can't be one
 abbrev pub wrong_name : List Text → Option Text

@@ -1,10 +1,10 @@
 // The names and the labels of what is asked for, and what is asked for with others.
 ghost use Rattle.std.specs.Prelude.{◌≡◌, ◌≤◌, length, map, option_map, string_bytes};
-ghost use Rattle.kp_view_words.specs.{Asked.beside_seen, Asked.order_seen, Asked.run_seen};
+ghost use Rattle.kp_view_words.specs.{Asked.beside_seen, Asked.cycles_seen, Asked.order_seen, Asked.run_seen};
 ghost use Rattle.kp_view_words.specs.declared.task.Order.TheVariants as orders;
-ghost use Rattle.kp_view_words.specs.Words.{beside, given_in, label_added, label_for, labelled, listing_added, listing_for, named, names_for, run_labelled, run_named};
+ghost use Rattle.kp_view_words.specs.Words.{beside, given_in, label_added, label_for, labelled, listing_added, listing_for, named, names_for, names_or, run_labelled, run_named};
 
-use crate::task::{Later, Order, Run, WithLabels};
+use crate::task::{Cycles, Later, Order, Run, WithLabels};
 
 impl<'w> Order<'w> {
     /// The names of the stages that are given; or none.
@@ -15,7 +15,8 @@ impl<'w> Order<'w> {
             Order::Diagram(run) | Order::Svg(run) | Order::Page(run) => run.names,
             Order::Window(later) => later.run.names,
             Order::Labelled(shown) => shown.later.run.names,
-            Order::Paths | Order::PathsSvg | Order::Stalls(_) | Order::Depth(_) => &[],
+            Order::Stalls(cycles) => cycles.names,
+            Order::Paths | Order::PathsSvg | Order::Depth(_) => &[],
         }
     }
 
@@ -29,7 +30,8 @@ impl<'w> Order<'w> {
             Order::Labelled(shown) => Order::Labelled(shown.named(listed)),
             Order::Svg(run) => Order::Svg(run.named(listed)),
             Order::Page(run) => Order::Page(run.named(listed)),
-            Order::Paths | Order::PathsSvg | Order::Stalls(_) | Order::Depth(_) => self,
+            Order::Stalls(cycles) => Order::Stalls(cycles.named(listed)),
+            Order::Paths | Order::PathsSvg | Order::Depth(_) => self,
         }
     }
 
@@ -190,18 +192,32 @@ impl<'w> Later<'w> {
     }
 }
 
+impl<'w> Cycles<'w> {
+    fn named(self, listed: &'w [String]) -> Cycles<'w>
+        ensures { cycles_seen result ≡ run_named (map string_bytes listed.now) (cycles_seen self.entry) }
+    {
+        Cycles {
+            count: self.count,
+            names: names_or(listed, self.names),
+        }
+    }
+}
+
+// The names that are given, or else those that are listed.
+fn names_or<'w>(listed: &'w [String], names: &'w [String]) -> &'w [String]
+    ensures { map string_bytes result.now ≡ names_or (map string_bytes listed.now) (map string_bytes names.now) }
+{
+    if names.is_empty() { listed } else { names }
+}
+
 impl<'w> Run<'w> {
     fn named(self, listed: &'w [String]) -> Run<'w>
         ensures named { run_seen result ≡ run_named (map string_bytes listed.now) (run_seen self.entry) }
         ensures count { result.count ≡ self.entry.count }
     {
-        if self.names.is_empty() {
-            Run {
-                count: self.count,
-                names: listed,
-            }
-        } else {
-            self
+        Run {
+            count: self.count,
+            names: names_or(listed, self.names),
         }
     }
 

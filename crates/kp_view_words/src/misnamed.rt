@@ -34,6 +34,6 @@ fn takes_names(word: &str) -> bool
 {
     matches!(
         Word::named(word),
-        Some(Word::Diagram | Word::Svg | Word::Page)
+        Some(Word::Diagram | Word::Svg | Word::Page | Word::Stalls)
     )
 }

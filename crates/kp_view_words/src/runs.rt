@@ -2,8 +2,8 @@
 ghost use Rattle.std.specs.Prelude.{◌≡◌, ◌&&◌, ltb, leb, ◌≤◌, IfSome, map, string_bytes, option_map, length};
 ghost use Rattle.std.specs.List.{list_any, list_all};
 ghost use Rattle.kp_base.specs.Characters.{is_word};
-ghost use Rattle.kp_view_words.specs.{Asked.order_seen, Asked.run_seen, Asked.task_seen, inner.Asking.run_asked, inner.Asking.span_seen};
-ghost use Rattle.kp_view_words.specs.Words.{diagram_of, diagram_with, from_cycle, stalls_with, with_file, run_in, run_with, span_after, span_between, span_of, count_of, names_in, file_in, is_file_after, is_name, is_path};
+ghost use Rattle.kp_view_words.specs.{Asked.order_seen, Asked.run_seen, Asked.task_seen, inner.Asking.named_seen, inner.Asking.run_asked, inner.Asking.span_seen};
+ghost use Rattle.kp_view_words.specs.Words.{diagram_of, diagram_with, from_cycle, named_in, stalls_of, stalls_with, with_file, run_in, run_with, span_after, span_between, span_of, count_of, names_in, file_in, is_file_after, is_name, is_path};
 
 use crate::task::{Cycles, Later, Order, Run, Span, Task};
 use kp_base::{is_digit, is_word, run_length};
@@ -102,17 +102,26 @@ fn span_between(from: u32, to: u32) -> Option<Span>
     }
 }
 
-// The stalls of a job: a number of cycles, with at most a file after it.
+// The stalls of a job: a number of cycles, and then names of stages and a file.
 pub(crate) fn stalls_with<'w>(rest: &'w [String]) -> Option<Task<'w>>
     ensures { option_map task_seen result ≡ stalls_with (map string_bytes rest.now) }
 {
     match rest {
-        [number, files @ ..] => {
-            let count = count_of(number.as_bytes(), MOST_LISTED)?;
-            with_file(Order::Stalls(Cycles { count }), files)
-        }
+        [number, more @ ..] => listed_with(count_of(number.as_bytes(), MOST_LISTED)?, more),
         [] => None,
     }
+}
+
+// The same for this number of cycles, with these words after it.
+fn listed_with<'w>(count: u32, rest: &'w [String]) -> Option<Task<'w>>
+    requires { count ≤ 100000 }
+    ensures { option_map task_seen result ≡ option_map stalls_of (run_with count (map string_bytes rest.now)) }
+{
+    let Named { names, file } = named_in(rest)?;
+    Some(Task {
+        order: Order::Stalls(Cycles { count, names }),
+        file,
+    })
 }
 
 // What is to be written, with at most a file after it.
@@ -151,10 +160,27 @@ fn run_with<'w>(count: u32, rest: &'w [String]) -> Option<RunAsked<'w>>
     ensures asked { option_map run_asked result ≡ run_with count (map string_bytes rest.now) }
     ensures count { IfSome result (λ asked. asked.run.count ≡ count) }
 {
+    let Named { names, file } = named_in(rest)?;
+    Some(RunAsked {
+        run: Run { count, names },
+        file,
+    })
+}
+
+// Names of stages, and a file.
+#[derive(Clone, Copy)]
+pub(crate) struct Named<'w> {
+    pub names: &'w [String],
+    pub file: Option<&'w String>,
+}
+
+fn named_in<'w>(rest: &'w [String]) -> Option<Named<'w>>
+    ensures { option_map named_seen result ≡ named_in (map string_bytes rest.now) }
+{
     let names = names_in(rest);
     if are_names(names) {
-        Some(RunAsked {
-            run: Run { count, names },
+        Some(Named {
+            names,
             file: file_in(rest),
         })
     } else {

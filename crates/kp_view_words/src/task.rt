@@ -27,7 +27,7 @@ pub enum Order<'w> {
     /// The same as a picture.
     PathsSvg,
     /// Why instructions wait or are squashed.
-    Stalls(Cycles),
+    Stalls(Cycles<'w>),
     /// The longest path of each stage.
     Depth(Memories),
 }
@@ -41,11 +41,13 @@ pub enum Memories {
     Outside,
 }
 
-/// A number of cycles that are listed.
+/// A run that is listed.
 #[derive(Clone, Copy)]
-pub struct Cycles {
-    /// At most 100,000.
+pub struct Cycles<'w> {
+    /// The number of cycles, at most 100,000.
     pub count: u32,
+    /// The names of the stages, as those of a `Run`.
+    pub names: &'w [String],
     pub ghost few: { count ≤ 100000 },
 }
 

@@ -12,7 +12,7 @@ pub const USAGE: &str = "usage: kpview diagram N [NAMES] [--label L,L [--listing
        kpview svg N [NAMES] [FILE]
        kpview page N [NAMES] [FILE]
        kpview paths [--svg] [FILE]
-       kpview stalls N [FILE]
+       kpview stalls N [NAMES] [FILE]
        kpview depth [--files 0] [FILE]
        kpview same FILE FILE
        kpview explain [--werror] [FILE]
@@ -43,8 +43,8 @@ pub const USAGE_PATHS: &str = "usage: kpview paths [--svg] [FILE]
 ";
 
 /// How `stalls` is called.
-pub const USAGE_STALLS: &str = "usage: kpview stalls N [FILE]
-N is 0 to 100000
+pub const USAGE_STALLS: &str = "usage: kpview stalls N [NAMES] [FILE]
+N is 0 to 100000; a name has 1 to 8 letters, digits or `_`
 ";
 
 /// How `depth` is called.
@@ -67,7 +67,7 @@ words:
   svg N [NAMES] [FILE]       the same as a picture
   page N [NAMES] [FILE]      the same as an HTML page, with the states
   paths [--svg] [FILE]       where each read takes its value from
-  stalls N [FILE]            why instructions wait or are squashed
+  stalls N [NAMES] [FILE]    why instructions wait or are squashed
   depth [--files 0] [FILE]   the longest path of each stage
   same FILE FILE             whether two jobs describe the same instruction
   explain [--werror] [FILE]  why the job is rejected, and warnings
@@ -183,10 +183,14 @@ pub const HELP_STALLS: &str =
 line for each instruction that waits in a cycle, the oldest first, and one for
 each guess that is found wrong. Below them are the sums.
 
-usage: kpview stalls N [FILE]
+usage: kpview stalls N [NAMES] [FILE]
 
   N       the number of cycles, 0 to 100000
-  FILE    the job; without it, standard input is read
+  NAMES   a name for each stage, of 1 to 8 letters, digits or `_`, as in
+          IF ID EX ME WB; without names the stages are numbered
+  FILE    the job; without it, standard input is read. A single word after N
+          is a file. Of several, the last one is a file if it has a character
+          other than letters, digits and `_`, as in ./job
 
 An instruction waits for a value or for the stage ahead, is held from outside, or
 waits and is squashed in a later cycle. A wait for a value is printed with what

@@ -1,11 +1,9 @@
-use Rattle.std.proofs.Common.{◌-◌, ◌≤◌, length}
-use Rattle.kp_base.specs.inner.Bytes.{WrittenUpTo}
+use Rattle.std.proofs.Common.{◌-◌, length}
+use Rattle.kp_base.specs.inner.Writing.{WroteUpTo}
 use Rattle.kp_stalls_text.specs.Text.{reads_text}
 use Rattle.kp_stalls_text.proofs.sums.write_reads.Given as goal
 
 abbrev pub invariant-loop-i : goal.invariant-loop-i
-invariant-loop-i g l = record {
-  text : WrittenUpTo (reads_text l.report.labels l.report.lines 0 (length l.report.labels)) (reads_text l.report.labels l.report.lines l.i (length l.report.labels - l.i))
-      (g.K.Sink.held l.initial.sink) (g.K.Sink.held l.sink);
-  later : g.K.Sink.faults l.initial.sink ≤ g.K.Sink.faults l.sink;
-}
+invariant-loop-i g l =
+    let report = l.report in
+    WroteUpTo g.K.Sink.held g.K.Sink.faults (reads_text report.labels report.lines 0 (length report.labels)) (reads_text report.labels report.lines l.i (length report.labels - l.i)) l.initial.out l.out

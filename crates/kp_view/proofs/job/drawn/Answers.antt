@@ -5,7 +5,7 @@ use Rattle.kp_diagram_labels.specs.{Labels.IsLabel, Labels.labels_of, Texts.head
 use Rattle.kp_listing.specs.Listings.{entries_of}
 use Rattle.kp_view_words.specs.declared.task.Order as code
 use Rattle.kp_machine.specs.Machine.{inputs_from, pipe_of}
-use Rattle.kp_view_words.specs.{Asked.beside_seen, Asked.order_seen, Asked.run_seen, Words.diagram, Words.window, Words.labelled, Words.label_for, Words.svg, Words.page, Words.paths, Words.paths_svg, Words.stalls, Words.depth}
+use Rattle.kp_view_words.specs.{Asked.beside_seen, Asked.cycles_seen, Asked.order_seen, Asked.run_seen, Words.diagram, Words.window, Words.labelled, Words.label_for, Words.svg, Words.page, Words.paths, Words.paths_svg, Words.stalls, Words.depth}
 use Rattle.kp_view.{specs.Due.IsText, specs.Due.Says, proofs.Ends.drawn_by, proofs.Ends.weaker}
 use Rattle.kp_view.proofs.job.drawn.Goals as goal
 
@@ -70,9 +70,9 @@ returns-in-PathsSvg g c =
 
 pub returns-in-Stalls : goal.returns-in-Stalls
 returns-in-Stalls g c =
-    let count = c.in-Stalls.cycles.count in
-    λ file. drawn_by g.K.Sink.held g.K.Sink.faults file (order_seen c.args.order.now) (stalls count) c.args.input.now c.args.job.now.design.job (ap order_seen c.in-Stalls.is)
-    (c.the_lines_show_causes.ensures count) _ _ _ c.stalls.ensures
+    let run = cycles_seen c.in-Stalls.cycles in
+    λ file. drawn_by g.K.Sink.held g.K.Sink.faults file (order_seen c.args.order.now) (stalls run) c.args.input.now c.args.job.now.design.job (ap order_seen c.in-Stalls.is)
+    (c.the_lines_show_causes.ensures run.count) _ _ _ c.stalls.ensures
 
 pub returns-in-Depth : goal.returns-in-Depth
 returns-in-Depth g c =
