@@ -55,10 +55,13 @@ class File:
                     self.names[(after or before).strip("◌")] = (path, before.strip("◌"))
             elif alias:
                 self.modules[alias] = path
-        current = None
+        current, inside = None, False
         for line in USE.sub("", text).split("\n"):
             line = re.sub(r"\s*--.*", "", line)
-            if not line or line.startswith("infix"):
+            # what a module with parameters has is indented
+            inside = line.startswith("module _") or inside and line[:1] in ("", " ")
+            line = line.removeprefix("  ") if inside else line
+            if not line or line.startswith(("infix", "module _")):
                 continue
             if not line.startswith(" "):
                 head = HEAD.match(line)
