@@ -38,7 +38,7 @@ grows (broken r e) out h = absurd (cc h)
 -- what is known of the outcome by the front of the text
 abbrev Given : List Token → List ℕ → List ℕ → Lexed → Front → Type 0
 Given tokens before text out fronts.End = Grows tokens out
-Given tokens before text out (fronts.Broken number) = Unit {0}
+Given tokens before text out (fronts.Broken fault) = Unit {0}
 Given tokens before text out (fronts.Gap n) = Lexes tokens (before ++ take n text) (drop n text) (Ok out)
 Given tokens before text out (fronts.Token kind n) =
     ((more : List Token) × (out.tokens ≡ tokens ++ token_at before kind n ∷ more))
@@ -129,7 +129,7 @@ by_front k go tokens before text out ts (fronts.Token kind len) e g h = by_kind 
         let o = image_of (λ ts. there ∷ ts) rest ts h in
         subst (λ (ts : List Found). Finds (before ++ text) tokens ts out) o.2
         (with_one tokens before text kind len out o.0 (after k go (tokens ++ token_at before kind len ∷ []) before text len (token_fits text kind len e).1 out o.0 l o.1))
-by_front k go tokens before text out ts (fronts.Broken number) e g h = absurd (cc)
+by_front k go tokens before text out ts (fronts.Broken fault) e g h = absurd (cc)
 
 pub finds : (k : ℕ) → Goes k
 finds zero tokens before text out ts l h = absurd (cc)

@@ -4,8 +4,9 @@ use Rattle.std.proofs.{Math.Seq.take-add, lemmas.List.drop-drop, lemmas.List.len
 use Rattle.std.{proofs.lemmas.List.Sums.count_by-le-length, proofs.lemmas.List.Sums.take_while-cons, specs.Prelude.reverse, specs.List.take_while}
 use Rattle.kp_base.specs.{Place.line_after, Place.column_after, Place.place_after, Refusal.e_rule, declared.place.Place.Place, declared.refusal.Refusal.Refusal}
 use Rattle.kp_lex.specs.declared.front.Front.TheVariants as fronts
+use Rattle.kp_lex.specs.declared.front.TokenFault.{TokenFault}
 use Rattle.kp_lex.specs.declared.token.{TokenKind.TokenKind, Token.Token, Lexed.Lexed}
-use Rattle.kp_lex.specs.Text.{front_of, is_end, token_at, Lexes, finish, skip, token, last, broken, HasOutcome}
+use Rattle.kp_lex.specs.Text.{front_of, is_end, token_at, Lexes, finish, skip, token, last, broken, rule_of, HasOutcome}
 
 -- The outcome from here is the outcome from the start of the text.
 pub record Along (text : List ℕ) (tokens : List Token) (start : ℕ) (place : Place) (rest : List ℕ) : Type 0 where
@@ -64,5 +65,5 @@ module _ (text : List ℕ) (tokens : List Token) (start : ℕ) (place : Place) (
       (subst (λ (z : Token). Lexes tokens (take start text) rest (Ok (record { tokens = tokens ++ z ∷ []; rest = length (take start text) + len }))) (sym (token_is kind len))
       (last kind len e ends)))
 
-  pub refused : (number : ℕ) → front_of rest ≡ fronts.Broken number → HasOutcome text (Err (e_rule number place))
-  refused number e = along.leads _ (subst (λ (p : Place). Lexes tokens (take start text) rest (Err (e_rule number p))) (sym along.placed) (broken number e))
+  pub refused : (fault : TokenFault) → front_of rest ≡ fronts.Broken fault → HasOutcome text (Err (e_rule (rule_of fault) place))
+  refused fault e = along.leads _ (subst (λ (p : Place). Lexes tokens (take start text) rest (Err (e_rule (rule_of fault) p))) (sym along.placed) (broken fault e))

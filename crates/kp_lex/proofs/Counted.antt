@@ -28,7 +28,7 @@ counted most {tokens} {before} {rest} (last kind len e z) room =
     let low = token_fits rest kind len e in
     let more = one_more tokens (token_at before kind len) in
     omega arith
-counted most (broken number e) room = tt
+counted most (broken fault e) room = tt
 
 pub tokens_within : (text : List ℕ) (lexed : Lexed) → HasOutcome text (Ok lexed) → length lexed.tokens ≤ length text
 tokens_within text lexed d = counted (length text) d (omega arith)

@@ -7,13 +7,14 @@ use Rattle.kp_lex.specs.Text.{is_layout, begins_comment, gap_length, is_in_run, 
 use Rattle.kp_lex.specs.declared.{front.Front.Front, token.Mark.Mark, token.TokenKind.TokenKind}
 use Rattle.kp_lex.specs.Words.{keyword_of, single_mark, double_mark}
 use Rattle.kp_lex.specs.declared.front.Front.TheVariants as fronts
+use Rattle.kp_lex.specs.declared.front.TokenFault.TheVariants as faults
 
--- the length of a token or gap at the front of a text of this length; a violated rule is E1 or E2
+-- the length of a token or gap at the front of a text of this length
 abbrev pub Fits : ℕ → Front → Type 0
 Fits len fronts.End = len ≡ 0
 Fits len (fronts.Gap n) = (0 < n) × (n ≤ len)
 Fits len (fronts.Token kind n) = (0 < n) × (n ≤ len)
-Fits len (fronts.Broken number) = number ≤ 2
+Fits len (fronts.Broken fault) = Unit {0}
 
 one_more : (test : Bool) (n m : ℕ) → n ≤ m → cond test (n + 1) 0 ≤ suc m
 one_more true n m h = omega arith
@@ -38,8 +39,8 @@ gap_within false (byte ∷ rest) =
 fits_identifier : (run : List ℕ) (n : ℕ) → 0 < length run → length run ≤ n → Fits n (identifier run)
 fits_identifier run n low high = go (nat_lt 64 (length run))
   where
-    go : (a : Bool) → Fits n (cond a (fronts.Broken 1) (fronts.Token (keyword_or_name (keyword_of run)) (length run)))
-    go true = omega arith
+    go : (a : Bool) → Fits n (cond a (fronts.Broken (faults.LongName (length run))) (fronts.Token (keyword_or_name (keyword_of run)) (length run)))
+    go true = tt
     go false = (low, high)
 
 fits_number : (run : List ℕ) (n : ℕ) → 0 < length run → length run ≤ n → Fits n (number_run run)
@@ -47,22 +48,22 @@ fits_number run n low high = go (number_of run) (literal_of run)
   where
     literal : (r : Result Literal LiteralFault) → Fits n (literal_or_broken (length run) r)
     literal (Ok l) = (low, high)
-    literal (Err e) = omega arith
+    literal (Err e) = tt
 
     go : (o : Option ℕ) (r : Result Literal LiteralFault) → Fits n (number_or_literal run o)
     go (Some k) r = (low, high)
     go None r = literal (literal_of run)
 
-fits_single : (n : ℕ) (o : Option Mark) → Fits (suc n) (mark_or_broken o)
-fits_single n (Some m) = (omega arith, omega arith)
-fits_single n None = omega arith
+fits_single : (n first : ℕ) (o : Option Mark) → Fits (suc n) (mark_or_broken first o)
+fits_single n first (Some m) = (omega arith, omega arith)
+fits_single n first None = tt
 
 fits_double : (n first : ℕ) (o : Option Mark) → Fits (suc (suc n)) (mark_or_shorter first o)
 fits_double n first (Some m) = (omega arith, omega arith)
-fits_double n first None = fits_single (suc n) (single_mark first)
+fits_double n first None = fits_single (suc n) first (single_mark first)
 
 fits_mark : (first : ℕ) (rest : List ℕ) → Fits (suc (length rest)) (mark first rest)
-fits_mark first [] = fits_single 0 (single_mark first)
+fits_mark first [] = fits_single 0 first (single_mark first)
 fits_mark first (second ∷ rest) = fits_double (length rest) first (double_mark first second)
 
 fits_one : (a d : Bool) (n : ℕ) (x y z : Front) → (a ≡ true → Fits n x) → (d ≡ true → Fits n y) → Fits n z → Fits n (cond a x (cond d y z))

@@ -9,6 +9,7 @@ use Rattle.kp_lex.specs.declared.{front.Front.Front, token.Keyword.Keyword, toke
 use Rattle.kp_lex.specs.Words.{keyword_of, single_mark, double_mark}
 use Rattle.kp_lex.proofs.Fits.{run_within, run_fits}
 use Rattle.kp_lex.specs.declared.front.Front.TheVariants as fronts
+use Rattle.kp_lex.specs.declared.front.TokenFault.TheVariants as faults
 use Rattle.kp_lex.specs.declared.token.TokenKind.TheVariants as kinds
 
 pass_step : (test : ℕ → Bool) (byte : ℕ) (rest : List ℕ) (b : Bool) (n : ℕ) → test byte ≡ b
@@ -27,7 +28,7 @@ OfName P f = (len : ℕ) → f ≡ fronts.Token kinds.Ident len → P len
 name_word : (P : ℕ → Type 0) (run : List ℕ) → (length run ≤ 64 → keyword_of run ≡ None → P (length run)) → OfName P (identifier run)
 name_word P run h = go (nat_lt 64 (length run)) refl (keyword_of run) refl
   where
-    go : (a : Bool) → nat_lt 64 (length run) ≡ a → (o : Option Keyword) → keyword_of run ≡ o → OfName P (cond a (fronts.Broken 1) (fronts.Token (keyword_or_name o) (length run)))
+    go : (a : Bool) → nat_lt 64 (length run) ≡ a → (o : Option Keyword) → keyword_of run ≡ o → OfName P (cond a (fronts.Broken (faults.LongName (length run))) (fronts.Token (keyword_or_name o) (length run)))
     go true e o k len f = cc
     go false e (Some word) k len f = cc
     go false e None k len f = let same : length run ≡ len = cc in subst P same (h (ltb-false 64 (length run) e) k)
@@ -40,16 +41,16 @@ name_number : (P : ℕ → Type 0) (run : List ℕ) (o : Option ℕ) → OfName 
 name_number P run (Some n) len f = cc
 name_number P run None len f = name_literal P (length run) (literal_of run) len f
 
-name_single : (P : ℕ → Type 0) (o : Option Mark) → OfName P (mark_or_broken o)
-name_single P (Some m) len f = cc
-name_single P None len f = cc
+name_single : (P : ℕ → Type 0) (first : ℕ) (o : Option Mark) → OfName P (mark_or_broken first o)
+name_single P first (Some m) len f = cc
+name_single P first None len f = cc
 
 name_double : (P : ℕ → Type 0) (first : ℕ) (o : Option Mark) → OfName P (mark_or_shorter first o)
 name_double P first (Some m) len f = cc
-name_double P first None len f = name_single P (single_mark first) len f
+name_double P first None len f = name_single P first (single_mark first) len f
 
 name_mark : (P : ℕ → Type 0) (first : ℕ) (rest : List ℕ) → OfName P (mark first rest)
-name_mark P first [] = name_single P (single_mark first)
+name_mark P first [] = name_single P first (single_mark first)
 name_mark P first (second ∷ rest) = name_double P first (double_mark first second)
 
 name_one : (P : ℕ → Type 0) (a d : Bool) (x y z : Front) → (a ≡ true → OfName P x) → OfName P y → OfName P z → OfName P (cond a x (cond d y z))

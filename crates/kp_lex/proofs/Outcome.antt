@@ -3,14 +3,14 @@ use Rattle.std.proofs.Common.{ℕ, zero, suc, ◌+◌, ◌-◌, ◌≤◌, ◌<�
 use Rattle.std.proofs.lemmas.List.{length-drop}
 use Rattle.kp_base.specs.{Refusal.e_rule, Place.place_after, declared.refusal.Refusal.Refusal}
 use Rattle.kp_lex.specs.declared.{front.Front.Front, token.TokenKind.TokenKind, token.Token.Token, token.Lexed.Lexed}
-use Rattle.kp_lex.specs.Text.{front_of, is_end, token_at, Lexes, finish, skip, token, last, broken, HasOutcome}
+use Rattle.kp_lex.specs.Text.{front_of, is_end, token_at, Lexes, finish, skip, token, last, broken, rule_of, HasOutcome}
 use Rattle.kp_lex.proofs.Fits.{Fits, fits_front}
 use Rattle.kp_lex.specs.declared.front.Front.TheVariants as fronts
 
 -- the outcome, by the front of the text
 abbrev Given : List Token → List ℕ → List ℕ → Front → Result Lexed Refusal → Type 0
 Given tokens before text fronts.End o = o ≡ Ok (record { tokens = tokens; rest = length before })
-Given tokens before text (fronts.Broken number) o = o ≡ Err (e_rule number (place_after before))
+Given tokens before text (fronts.Broken fault) o = o ≡ Err (e_rule (rule_of fault) (place_after before))
 Given tokens before text (fronts.Gap n) o = Lexes tokens (before ++ take n text) (drop n text) o
 Given tokens before text (fronts.Token kind n) o =
     ((is_end kind ≡ false) × Lexes (tokens ++ token_at before kind n ∷ []) (before ++ take n text) (drop n text) o)
@@ -22,7 +22,7 @@ lexed {tokens = ts} {before = b} {text = t} {o = o} (skip n e d) f g = subst (λ
 lexed {tokens = ts} {before = b} {text = t} {o = o} (token k n e z d) f g = subst (λ (f : Front). Given ts b t f o) (sym e ∙ g) (inl (z, d))
 lexed {tokens = ts} {before = b} {text = t} (last k n e z) f g =
     subst (λ (f : Front). Given ts b t f (Ok (record { tokens = ts ++ token_at b k n ∷ []; rest = length b + n }))) (sym e ∙ g) (inr (z, refl))
-lexed {tokens = ts} {before = b} {text = t} (broken r e) f g = subst (λ (f : Front). Given ts b t f (Err (e_rule r (place_after b)))) (sym e ∙ g) refl
+lexed {tokens = ts} {before = b} {text = t} (broken r e) f g = subst (λ (f : Front). Given ts b t f (Err (e_rule (rule_of r) (place_after b)))) (sym e ∙ g) refl
 
 pub one_outcome : {tokens : List Token} {before text : List ℕ} {a b : Result Lexed Refusal} → Lexes tokens before text a → Lexes tokens before text b → a ≡ b
 one_outcome (finish e) l = sym (lexed l fronts.End e)
@@ -49,7 +49,7 @@ step tokens before text next = go (front_of text) refl (fits_front text)
 
     go : (f : Front) → front_of text ≡ f → Fits (length text) f → Some_outcome tokens before text
     go fronts.End e f = (_, finish e)
-    go (fronts.Broken number) e f = (_, broken number e)
+    go (fronts.Broken fault) e f = (_, broken fault e)
     go (fronts.Gap n) e f = let h = next tokens (before ++ take n text) (drop n text) (shorter n f.0 f.1) in (h.0, skip n e h.1)
     go (fronts.Token kind n) e f = kind_ends kind n (is_end kind) refl e f.0 f.1
 

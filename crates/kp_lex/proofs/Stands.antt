@@ -37,7 +37,7 @@ stand text {tokens} {before} {rest} (token kind len e z d) whole all =
 stand text {tokens} {before} {rest} (last kind len e z) whole all =
     let here = stands_at text before rest kind len whole e in
     (All-push (StandsIn text) tokens (token_at before kind len) all here, here.within)
-stand text (broken number e) whole all = tt
+stand text (broken fault e) whole all = tt
 
 pub tokens_stand : (text : List ℕ) (lexed : Lexed) → HasOutcome text (Ok lexed) → All (StandsIn text) lexed.tokens × (lexed.rest ≤ length text)
 tokens_stand text lexed d = stand text d refl (All-nil (StandsIn text))

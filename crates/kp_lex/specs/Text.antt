@@ -7,6 +7,8 @@ use Rattle.kp_bits.specs.{Literals.number_of, Literals.literal_of, declared.lite
 use Rattle.kp_lex.specs.{Words.keyword_of, Words.single_mark, Words.double_mark, declared.front.Front.Front, declared.token.Keyword.Keyword}
 use Rattle.kp_lex.specs.declared.token.{Mark.Mark, TokenKind.TokenKind, Token.Token, Lexed.Lexed}
 use Rattle.kp_lex.specs.declared.front.Front.TheVariants as fronts
+use Rattle.kp_lex.specs.declared.front.TokenFault.{TokenFault}
+use Rattle.kp_lex.specs.declared.front.TokenFault.TheVariants as faults
 use Rattle.kp_lex.specs.declared.token.Keyword.TheVariants as keywords
 use Rattle.kp_lex.specs.declared.token.TokenKind.TheVariants as kinds
 
@@ -36,18 +38,24 @@ is_in_run byte = is_word byte || byte == 39
 abbrev pub run_of : (ℕ → Bool) → List ℕ → List ℕ
 run_of test text = take (run_length test text) text
 
+-- the number of the rule
+abbrev pub rule_of : TokenFault → ℕ
+rule_of (faults.NoToken byte) = 1
+rule_of (faults.LongName length) = 1
+rule_of faults.NoNumber = 2
+
 abbrev pub keyword_or_name : Option Keyword → TokenKind
 keyword_or_name (Some k) = kinds.Keyword k
 keyword_or_name None = kinds.Ident
 
 -- an identifier has at most 64 bytes, else E1 is violated
 abbrev pub identifier : List ℕ → Front
-identifier run = if nat_lt 64 (length run) then fronts.Broken 1 else fronts.Token (keyword_or_name (keyword_of run)) (length run)
+identifier run = if nat_lt 64 (length run) then fronts.Broken (faults.LongName (length run)) else fronts.Token (keyword_or_name (keyword_of run)) (length run)
 
 -- a run that starts with a digit is a number or a literal, else E2 is violated
 abbrev pub literal_or_broken : ℕ → Result Literal LiteralFault → Front
 literal_or_broken len (Ok literal) = fronts.Token (kinds.Literal literal) len
-literal_or_broken len (Err fault) = fronts.Broken 2
+literal_or_broken len (Err fault) = fronts.Broken faults.NoNumber
 
 abbrev pub number_or_literal : List ℕ → Option ℕ → Front
 number_or_literal run (Some n) = fronts.Token (kinds.Number n) (length run)
@@ -57,16 +65,16 @@ abbrev pub number_run : List ℕ → Front
 number_run run = number_or_literal run (number_of run)
 
 -- the longest punctuator; if there is none, no token starts, which violates E1
-abbrev pub mark_or_broken : Option Mark → Front
-mark_or_broken (Some m) = fronts.Token (kinds.Mark m) 1
-mark_or_broken None = fronts.Broken 1
+abbrev pub mark_or_broken : ℕ → Option Mark → Front
+mark_or_broken first (Some m) = fronts.Token (kinds.Mark m) 1
+mark_or_broken first None = fronts.Broken (faults.NoToken first)
 
 abbrev pub mark_or_shorter : ℕ → Option Mark → Front
 mark_or_shorter first (Some m) = fronts.Token (kinds.Mark m) 2
-mark_or_shorter first None = mark_or_broken (single_mark first)
+mark_or_shorter first None = mark_or_broken first (single_mark first)
 
 abbrev pub mark : ℕ → List ℕ → Front
-mark first [] = mark_or_broken (single_mark first)
+mark first [] = mark_or_broken first (single_mark first)
 mark first (second ∷ rest) = mark_or_shorter first (double_mark first second)
 
 abbrev pub token_of : List ℕ → Front
@@ -97,7 +105,8 @@ pub data Lexes : List Token → List ℕ → List ℕ → Result Lexed Refusal �
       → is_end kind ≡ false → Lexes (tokens ++ token_at before kind len ∷ []) (before ++ take len text) (drop len text) outcome → Lexes tokens before text outcome
   last : {tokens : List Token} {before text : List ℕ} (kind : TokenKind) (len : ℕ) → front_of text ≡ fronts.Token kind len
       → is_end kind ≡ true → Lexes tokens before text (Ok (record { tokens = tokens ++ token_at before kind len ∷ []; rest = length before + len }))
-  broken : {tokens : List Token} {before text : List ℕ} (number : ℕ) → front_of text ≡ fronts.Broken number → Lexes tokens before text (Err (e_rule number (place_after before)))
+  broken : {tokens : List Token} {before text : List ℕ} (fault : TokenFault) → front_of text ≡ fronts.Broken fault
+      → Lexes tokens before text (Err (e_rule (rule_of fault) (place_after before)))
 
 -- the outcome of a text
 abbrev pub HasOutcome : List ℕ → Result Lexed Refusal → Type 0

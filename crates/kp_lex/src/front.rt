@@ -3,11 +3,34 @@ ghost use Rattle.std.specs.Prelude.{◌≡◌, ◌≤◌, ◌<◌, ◌^◌, leng
 ghost use Rattle.std.specs.Str.{bytes_eq};
 ghost use Rattle.kp_base.specs.Characters.{run_length};
 ghost use Rattle.kp_lex.specs.Words.{spelling, keyword_of, single_mark, double_mark};
-ghost use Rattle.kp_lex.specs.Text.{is_layout, begins_comment, gap_length, is_in_run, identifier, number_run, mark, front_of};
+ghost use Rattle.kp_lex.specs.Text.{is_layout, begins_comment, gap_length, is_in_run, identifier, number_run, mark, front_of, rule_of};
 
 use crate::{Keyword, Mark, TokenKind};
 use kp_base::{is_letter, is_word, run_length, word_length};
 use kp_bits::{read_literal, read_number};
+
+/// Why no token begins a text that isn't layout.
+#[derive(Clone, Copy)]
+pub enum TokenFault {
+    /// E1: a byte with which no token begins.
+    NoToken { byte: u8 },
+    /// E1: an identifier of this many bytes, which are more than 64.
+    LongName { length: usize },
+    /// E2: a run that starts with a digit, and is neither a number of 64 bits nor a literal.
+    NoNumber,
+}
+
+impl TokenFault {
+    /// The number of the rule.
+    pub fn rule(self) -> u8
+        ensures { result ≡ rule_of self }
+    {
+        match self {
+            TokenFault::NoToken { .. } | TokenFault::LongName { .. } => 1,
+            TokenFault::NoNumber => 2,
+        }
+    }
+}
 
 /// What a text starts with.
 #[derive(Clone, Copy)]
@@ -18,8 +41,8 @@ pub enum Front {
     Gap(usize),
     /// A token, of this length.
     Token(TokenKind, usize),
-    /// A violation of the E rule with this number.
-    Broken(u8),
+    /// A violation of E1 or E2.
+    Broken(TokenFault),
 }
 
 /// What the text starts with.
@@ -96,7 +119,7 @@ fn identifier(run: &[u8]) -> Front
     ensures { result ≡ identifier run.now }
 {
     if run.len() > 64 {
-        return Front::Broken(1);
+        return Front::Broken(TokenFault::LongName { length: run.len() });
     }
     match keyword(run) {
         Some(keyword) => Front::Token(TokenKind::Keyword(keyword), run.len()),
@@ -131,7 +154,7 @@ fn number_run(run: &[u8]) -> Front
     }
     match read_literal(run) {
         Ok(literal) => Front::Token(TokenKind::Literal(literal), run.len()),
-        Err(_) => Front::Broken(2),
+        Err(_) => Front::Broken(TokenFault::NoNumber),
     }
 }
 
@@ -146,7 +169,7 @@ fn mark(first: u8, after: &[u8]) -> Front
     }
     match single_mark(first) {
         Some(mark) => Front::Token(TokenKind::Mark(mark), 1),
-        None => Front::Broken(1),
+        None => Front::Broken(TokenFault::NoToken { byte: first }),
     }
 }
 

@@ -27,7 +27,7 @@ pub fn lex(alloc: Global, text: &[u8]) -> Result<Lexed, Refused>
                     rest: start,
                 });
             }
-            Front::Broken(number) => return Err(Refused::Rule(Refusal::e(number, place))),
+            Front::Broken(fault) => return Err(Refused::Rule(Refusal::e(fault.rule(), place))),
             Front::Gap(len) => {
                 let (gap, after) = rest.split_at(len);
                 place = place.after(gap);

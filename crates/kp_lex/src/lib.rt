@@ -9,5 +9,6 @@ pub mod laws;
 mod lexer;
 mod token;
 
+pub use front::{Front, TokenFault, read_front};
 pub use lexer::{lex, tail};
 pub use token::{Keyword, Lexed, Mark, Token, TokenKind};

@@ -9,6 +9,7 @@ pub mod laws;
 mod rules;
 mod sizes;
 mod start;
+mod uses;
 
 pub use counts::Summary;
 pub use design::{Design, stage_findings};

@@ -2,14 +2,15 @@
 ghost use Rattle.std.specs.Prelude.{◌≡◌, ◌∷◌, [], map, nat_lt, nat_le, ◌+◌, ◌==◌, not, OnOk};
 ghost use Rattle.kp_base.specs.{First.first, Findings.with_answers};
 ghost use Rattle.kp_stage.specs.Findings.{broken_unless, broken_if};
-ghost use Rattle.kp_stage.specs.Rules.{ask_head, head_fault, ask_decl, ask_block, block_fault, ask_stmt, ask_decls, ask_stmts, ask_in_block, ask_blocks, ask_name, ask_expr, ask_option, ask_values, ask_guesses, ask_pipe, may_guess, guess_fault, holds_of, is_at, or_here, asked_at, asked_by_rules, asked_by};
+ghost use Rattle.kp_stage.specs.Rules.{ask_head, head_fault, ask_decl, ask_block, block_fault, ask_stmt, ask_decls, ask_stmts, ask_in_block, ask_blocks, ask_values, ask_guesses, ask_pipe, may_guess, guess_fault, holds_of, is_at, or_here, asked_at, asked_by_rules, asked_by};
 ghost use Rattle.kp_stage.specs.declared.fault.StageFault.TheVariants as faults;
 ghost use Rattle.kp_stage.specs.inner.Tables.{facts_in};
-ghost use Rattle.kp_stage.specs.inner.Asked.{asks_blocks};
+ghost use Rattle.kp_stage.specs.inner.Asked.{asks_stmts};
 
 use crate::facts::{Facts, Spot};
 use crate::fault::{Found, StageFault};
-use kp_ast::{Block, Decl, Expr, ExprKind, Job, Name, Named, Num, ReadStmt, Stmt, StmtKind};
+use crate::uses::{in_guesses, in_values};
+use kp_ast::{Block, Decl, Job, Name, Named, Num, ReadStmt, Stmt, StmtKind};
 use kp_base::{Findings, NoMemory, Place};
 
 /// A rule of stages, by its number. The variants are in the order in which the rules are checked.
@@ -124,37 +125,8 @@ fn in_decls(
     Ok(())
 }
 
-#[tactic(auto, using(crate::proofs::Unasked::nothing_noted))]
-fn in_blocks(
-    notes: &mut Findings<Found>,
-    facts: &Facts,
-    rule: Rule,
-    blocks: &[Block],
-) -> Result<(), NoMemory>
-    ensures { OnOk result (notes.new ≡ with_answers notes.old (ask_blocks (facts_in facts.now) rule 0 blocks.now)) }
-{
-    if asks_blocks(facts, rule) {
-        in_each_block(notes, facts, rule, blocks)
-    } else {
-        Ok(())
-    }
-}
-
-// Whether a block can violate the rule: some rules concern only declarations, and some only names of a kind that the job may not have.
-fn asks_blocks(facts: &Facts, rule: Rule) -> bool
-    ensures { result ≡ asks_blocks facts.now rule }
-{
-    match rule {
-        Rule::E17 => !facts.given.puts.is_empty(),
-        Rule::E22 | Rule::E24 | Rule::E35 => false,
-        Rule::E25 => !facts.named.hints.is_empty(),
-        Rule::E34 => !facts.named.samples.is_empty(),
-        _ => true,
-    }
-}
-
 #[tactic(auto, using(kp_base::proofs::Collecting::append))]
-fn in_each_block(
+fn in_blocks(
     notes: &mut Findings<Found>,
     facts: &Facts,
     rule: Rule,
@@ -168,6 +140,7 @@ fn in_each_block(
     Ok(())
 }
 
+#[tactic(auto, using(crate::proofs::Unasked::nothing_noted))]
 fn in_block(
     notes: &mut Findings<Found>,
     facts: &Facts,
@@ -178,7 +151,24 @@ fn in_block(
     ensures { OnOk result (notes.new ≡ with_answers notes.old (ask_in_block (facts_in facts.now) rule k block.now)) }
 {
     notes.note(of_block(facts, rule, k, block))?;
-    in_stmts(notes, facts, rule, k, block.stmts.as_slice())
+    if asks_stmts(facts, rule) {
+        in_stmts(notes, facts, rule, k, block.stmts.as_slice())
+    } else {
+        Ok(())
+    }
+}
+
+// Whether a statement can violate the rule: some rules concern only declarations and blocks, and some only names of a kind that the job may not have.
+fn asks_stmts(facts: &Facts, rule: Rule) -> bool
+    ensures { result ≡ asks_stmts facts.now rule }
+{
+    match rule {
+        Rule::E15 | Rule::E19 | Rule::E22 | Rule::E24 | Rule::E35 => false,
+        Rule::E17 => !facts.given.puts.is_empty(),
+        Rule::E25 => !facts.named.hints.is_empty(),
+        Rule::E34 => !facts.named.samples.is_empty(),
+        _ => true,
+    }
 }
 
 fn of_block(facts: &Facts, rule: Rule, k: usize, block: &Block) -> Option<Found>
@@ -362,116 +352,12 @@ fn of_stmt(facts: &Facts, rule: Rule, k: usize, j: usize, stmt: &StmtKind) -> Op
     }
 }
 
-// The first name outside a guess and an aim at which the rule is violated.
-fn in_values(facts: &Facts, rule: Rule, k: usize, stmt: &StmtKind) -> Option<Found>
-    ensures { result ≡ ask_values (facts_in facts.now) rule k stmt.now }
-{
-    match stmt {
-        StmtKind::Read(read) => first_of(
-            in_option(facts, rule, k, &read.address),
-            in_option(facts, rule, k, &read.when),
-        ),
-        StmtKind::Let(_, e) | StmtKind::Put(_, e) => in_expr(facts, rule, k, e),
-        StmtKind::Set(_, e, when) => first_of(
-            in_expr(facts, rule, k, e),
-            in_option(facts, rule, k, when),
-        ),
-        StmtKind::Aim(_, _) => None,
-    }
-}
-
-// The first name in a guess or an aim at which the rule is violated.
-fn in_guesses(facts: &Facts, rule: Rule, k: usize, stmt: &StmtKind) -> Option<Found>
-    ensures { result ≡ ask_guesses (facts_in facts.now) rule k stmt.now }
-{
-    match stmt {
-        StmtKind::Read(read) => in_option(facts, rule, k, &read.guess),
-        StmtKind::Aim(_, e) => in_expr(facts, rule, k, e),
-        _ => None,
-    }
-}
-
-fn first_of(a: Option<Found>, b: Option<Found>) -> Option<Found>
+pub(crate) fn first_of(a: Option<Found>, b: Option<Found>) -> Option<Found>
     ensures { result ≡ first (a ∷ b ∷ []) }
 {
     match a {
         Some(finding) => Some(finding),
         None => b,
-    }
-}
-
-fn in_option(facts: &Facts, rule: Rule, k: usize, e: &Option<Expr>) -> Option<Found>
-    ensures { result ≡ ask_option (facts_in facts.now) rule k e.now }
-{
-    match e {
-        Some(e) => in_expr(facts, rule, k, e),
-        None => None,
-    }
-}
-
-// The first name in an expression at which the rule is violated.
-#[cycle(names)]
-fn in_expr(facts: &Facts, rule: Rule, k: usize, e: &Expr) -> Option<Found>
-    ensures { result ≡ ask_expr (facts_in facts.now) rule k e.now }
-{
-    match &e.kind {
-        ExprKind::Lit(_) => None,
-        ExprKind::Name(name) => of_name(facts, rule, k, name, e.place),
-        ExprKind::Not(a) | ExprKind::Slice(a, _, _) | ExprKind::Zext(a, _) | ExprKind::Sext(a, _) =>
-            { in_expr(facts, rule, k, a.get()) }
-        ExprKind::Binary(_, a, b) => {
-            let in_a = in_expr(facts, rule, k, a.get());
-            let in_b = in_expr(facts, rule, k, b.get());
-            first_of(in_a, in_b)
-        }
-        ExprKind::Mux(test, a, b) => {
-            let in_test = in_expr(facts, rule, k, test.get());
-            let in_a = in_expr(facts, rule, k, a.get());
-            let in_b = in_expr(facts, rule, k, b.get());
-            first_of(in_test, first_of(in_a, in_b))
-        }
-        ExprKind::Concat(parts) => in_exprs(facts, rule, k, parts.as_slice()),
-        ExprKind::Call(_, args) => in_exprs(facts, rule, k, args.as_slice()),
-    }
-}
-
-#[cycle(names)]
-fn in_exprs(facts: &Facts, rule: Rule, k: usize, es: &[Expr]) -> Option<Found>
-    ensures { result ≡ first (map (ask_expr (facts_in facts.now) rule k) es.now) }
-{
-    for e in es {
-        let answer = in_expr(facts, rule, k, e);
-        if answer.is_some() {
-            return answer;
-        }
-    }
-    None
-}
-
-fn of_name(facts: &Facts, rule: Rule, k: usize, name: &Name, at: Place) -> Option<Found>
-    ensures { result ≡ ask_name (facts_in facts.now) rule k name.now at }
-{
-    match rule {
-        Rule::E17 => {
-            let put = facts.given.puts.get(name)?;
-            let fault = StageFault::UsedEarly {
-                put: put.stage,
-                index: put.index,
-                here: k,
-            };
-            broken_unless(put.stage < k, fault, at)
-        }
-        Rule::E25 => broken_unless(
-            facts.named.hints.get(name).is_none(),
-            StageFault::HintAsValue,
-            at,
-        ),
-        Rule::E34 => {
-            let stage = facts.named.samples.get(name)?;
-            let fault = StageFault::SampleElsewhere { stage, here: k };
-            broken_unless(stage == k as u64, fault, at)
-        }
-        _ => None,
     }
 }
 
@@ -542,7 +428,7 @@ fn guess_fault(facts: &Facts, k: usize, read: &ReadStmt) -> StageFault
 }
 
 // The rule is violated if the test fails.
-fn broken_unless(holds: bool, fault: StageFault, place: Place) -> Option<Found>
+pub(crate) fn broken_unless(holds: bool, fault: StageFault, place: Place) -> Option<Found>
     ensures { result ≡ broken_unless holds fault place }
 {
     if holds {

@@ -13,6 +13,7 @@ use Rattle.kp_lex.proofs.{Fits.Fits, Fits.fits_front, Fits.gap_within, Fits.toke
 use Rattle.kp_parse_grammar.specs.Language.{dropped as drops, State, Sym, NAME, NUM, no_decls, no_blocks, one_block, make_job, word, mark as mark_symbol, JOB, DECLS, STAGE, STAGES, IMAGE, STALLS, INPUTS, rules, language, at, job as job_value}
 use Rattle.kp_parse_grammar.specs.Tokens.{Lexeme, lexemes, spelled, kind_class, keyword_class, mark_class}
 use Rattle.kp_lex.specs.declared.front.Front.TheVariants as fronts
+use Rattle.kp_lex.specs.declared.front.TokenFault.TheVariants as faults
 use Rattle.kp_lex.specs.declared.token.Keyword.TheVariants as keywords
 use Rattle.kp_lex.specs.declared.token.TokenKind.TheVariants as kinds
 use Rattle.kp_bits.specs.{Literals.number_of, Literals.literal_of, declared.literal.Literal.Literal, declared.literal.LiteralFault.LiteralFault}
@@ -53,7 +54,7 @@ NoGap _ = ⊤
 no_gap_identifier : (run : List ℕ) → NoGap (identifier run)
 no_gap_identifier run = go (nat_lt 64 (length run))
   where
-    go : (a : Bool) → NoGap (cond a (fronts.Broken 1) (fronts.Token (keyword_or_name (keyword_of run)) (length run)))
+    go : (a : Bool) → NoGap (cond a (fronts.Broken (faults.LongName (length run))) (fronts.Token (keyword_or_name (keyword_of run)) (length run)))
     go true = tt
     go false = tt
 
@@ -68,17 +69,17 @@ no_gap_number run = go (number_of run)
     go (Some k) = tt
     go None = literal (literal_of run)
 
-no_gap_single : (o : Option Mark) → NoGap (mark_or_broken o)
-no_gap_single (Some m) = tt
-no_gap_single None = tt
+no_gap_single : (first : ℕ) (o : Option Mark) → NoGap (mark_or_broken first o)
+no_gap_single first (Some m) = tt
+no_gap_single first None = tt
 
 no_gap_mark : (first : ℕ) (rest : List ℕ) → NoGap (mark first rest)
-no_gap_mark first [] = no_gap_single (single_mark first)
+no_gap_mark first [] = no_gap_single first (single_mark first)
 no_gap_mark first (second ∷ rest) = go (double_mark first second)
   where
     go : (o : Option Mark) → NoGap (mark_or_shorter first o)
     go (Some m) = tt
-    go None = no_gap_single (single_mark first)
+    go None = no_gap_single first (single_mark first)
 
 token_no_gap : (b : ℕ) (rest : List ℕ) → NoGap (token_of (b ∷ rest))
 token_no_gap b rest = go (is_letter b) (is_digit b)

@@ -37,7 +37,7 @@ step at text next = go (front_of text) (sym (seen_front text)) (fits_front text)
 
     go : (f : Front) → tokens.front text ≡ seen text f → Fits (length text) f → IsLexed at text
     go fronts.End e f = inl ([], at_end e)
-    go fronts.Broken e f = inr (at, here e)
+    go (fronts.Broken fault) e f = inr (at, here e)
     go (fronts.Skip n) e f = skipped n e (next (at + n) (drop n text) (shorter n f.0 f.1))
     go (fronts.Token kind n) e f = taken _ n e (next (at + n) (drop n text) (shorter n f.0 f.1))
 

@@ -11,8 +11,8 @@ ghost use Rattle.kp_view_explain.specs.inner.Reading.{IsReadAs};
 
 use crate::explanation::Explanation;
 use crate::of_job::explain_rule;
-use kp_base::{NoMemory, Place, Refusal, Refused, word_length};
-use kp_lex::{Lexed, Mark, Token, TokenKind, lex};
+use kp_base::{NoMemory, Place, Refusal, Refused};
+use kp_lex::{Front, Lexed, Mark, Token, TokenFault, TokenKind, lex, read_front};
 use kp_parse::{Parsed, parse};
 use kp_view_excerpt::offset_of;
 use kp_view_expected::expected;
@@ -64,25 +64,16 @@ fn read_tokens(alloc: Global, file: &[u8], text: &[u8], lexed: &Lexed) -> Result
     }
 }
 
-// The message where the text has no tokens (E1 and E2).
+// The message where the text has no tokens (E1 and E2): what the lexer finds at the place.
 fn no_tokens(text: &[u8], refusal: Refusal) -> Message<'_> {
-    match refusal.number {
-        1 => no_token(text, refusal.place),
-        2 => Message::Reading(ReadingFault::NoNumber),
-        number => Message::Fixed(number),
-    }
-}
-
-// Why no token begins at a place.
-fn no_token(text: &[u8], place: Place) -> Message<'_> {
-    let rest = &text[offset_of(text, place)..];
-    let length = word_length(rest);
-    if length > 64 {
-        return Message::Reading(ReadingFault::LongName(length));
-    }
-    match rest.first() {
-        Some(byte) => Message::Reading(ReadingFault::NoToken(*byte)),
-        None => Message::Fixed(1),
+    match read_front(&text[offset_of(text, refusal.place)..]) {
+        Front::Broken(fault) => Message::Reading(match fault {
+            TokenFault::NoToken { byte } => ReadingFault::NoToken(byte),
+            TokenFault::LongName { length } => ReadingFault::LongName(length),
+            TokenFault::NoNumber => ReadingFault::NoNumber,
+        }),
+        // Not reached, since the lexer stops there.
+        _ => Message::Fixed(refusal.number),
     }
 }
 

@@ -1,19 +1,21 @@
 // Why no token begins at a place, or no module continues with one: V1 and V2.
 ghost use Rattle.std.specs.Prelude.{◌≤◌, length};
 
-use kp_base::{is_digit, is_letter};
 use kp_view_help::{FoundToken, Word};
-use kp_view_verilog_faults::{ReadingFault, name_length};
-use kp_vlog::{VKind, VToken};
+use kp_view_verilog_faults::ReadingFault;
+use kp_vlog::{Front, TokenFault, VKind, VToken, read_front};
 
-/// Why no token begins at the head of a text.
+/// Why no token begins at the head of a text: what the lexer finds there.
 pub(crate) fn no_token(rest: &[u8]) -> ReadingFault<'_> {
-    match rest {
-        [b'/', b'*', ..] => ReadingFault::OpenComment,
-        [first, ..] if is_digit(*first) => ReadingFault::NoNumber,
-        [first, ..] if is_letter(*first) => ReadingFault::LongName(name_length(rest)),
-        [first, ..] => ReadingFault::NoToken(*first),
-        [] => ReadingFault::Unknown,
+    match read_front(rest) {
+        Front::Broken(fault) => match fault {
+            TokenFault::OpenComment => ReadingFault::OpenComment,
+            TokenFault::LongName { length } => ReadingFault::LongName(length),
+            TokenFault::NoNumber => ReadingFault::NoNumber,
+            TokenFault::NoToken { byte } => ReadingFault::NoToken(byte),
+        },
+        // Not reached, since the lexer stops there.
+        _ => ReadingFault::Unknown,
     }
 }
 

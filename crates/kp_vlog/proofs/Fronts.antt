@@ -9,6 +9,7 @@ use Rattle.kp_vlog.specs.Words.{keyword_of, single_mark, double_mark}
 use Rattle.kp_vlog.specs.{Tokens.is_layout, Tokens.is_in_line, Tokens.is_in_run, Tokens.begins_with, Tokens.one_more, Tokens.to_close, Fronts.seen, Fronts.Fits}
 use Rattle.kp_vlog.specs.inner.Kinds.{kind_or_name, identifier, literal_kind, number_kind, number_run, comment, mark_kind, mark_or_shorter, mark, front_of}
 use Rattle.kp_vlog.specs.declared.front.Front.TheVariants as fronts
+use Rattle.kp_vlog.specs.declared.front.TokenFault.TheVariants as faults
 use Rattle.kp_vlog.specs.Tokens as tokens
 
 -- a comment that is closed the given number of bytes later
@@ -41,7 +42,7 @@ seen_keyword text run (Some k) e = refl
 seen_keyword text run None e = ap (λ (r : List ℕ). tokens.takes (tokens.name r) (length run)) e
 
 seen_identifier : (text run : List ℕ) → take (length run) text ≡ run → seen text (identifier run) ≡ tokens.identifier run
-seen_identifier text run e = seen_cond text (nat_lt 70 (length run)) fronts.Broken (fronts.Token (kind_or_name (keyword_of run)) (length run)) tokens.broken _ refl (seen_keyword text run (keyword_of run) e)
+seen_identifier text run e = seen_cond text (nat_lt 70 (length run)) (fronts.Broken (faults.LongName (length run))) (fronts.Token (kind_or_name (keyword_of run)) (length run)) tokens.broken _ refl (seen_keyword text run (keyword_of run) e)
 
 seen_literal : (text : List ℕ) (len : ℕ) (r : Result Literal LiteralFault) → seen text (literal_kind len r) ≡ tokens.literal_or_broken len r
 seen_literal text len (Ok l) = refl
@@ -55,16 +56,16 @@ seen_comment : (text : List ℕ) (o : Option ℕ) → seen text (comment o) ≡ 
 seen_comment text (Some n) = refl
 seen_comment text None = refl
 
-seen_single : (text : List ℕ) (o : Option Mark) → seen text (mark_kind o) ≡ tokens.mark_or_broken o
-seen_single text (Some m) = refl
-seen_single text None = refl
+seen_single : (text : List ℕ) (first : ℕ) (o : Option Mark) → seen text (mark_kind first o) ≡ tokens.mark_or_broken o
+seen_single text first (Some m) = refl
+seen_single text first None = refl
 
 seen_double : (text : List ℕ) (first : ℕ) (o : Option Mark) → seen text (mark_or_shorter first o) ≡ tokens.mark_or_shorter first o
 seen_double text first (Some m) = refl
-seen_double text first None = seen_single text (single_mark first)
+seen_double text first None = seen_single text first (single_mark first)
 
 seen_mark : (text : List ℕ) (first : ℕ) (rest : List ℕ) → seen text (mark first rest) ≡ tokens.mark_front first rest
-seen_mark text first [] = seen_single text (single_mark first)
+seen_mark text first [] = seen_single text first (single_mark first)
 seen_mark text first (second ∷ rest) = seen_double text first (double_mark first second)
 
 pub seen_front : (text : List ℕ) → seen text (front_of text) ≡ tokens.front text
@@ -94,7 +95,7 @@ run_fits test byte rest h =
     (omega arith, omega arith)
 
 fits_identifier : (run : List ℕ) (n : ℕ) → 0 < length run → length run ≤ n → Fits n (identifier run)
-fits_identifier run n low high = fits_cond n (nat_lt 70 (length run)) fronts.Broken _ (λ e. tt) (low, high)
+fits_identifier run n low high = fits_cond n (nat_lt 70 (length run)) (fronts.Broken _) _ (λ e. tt) (low, high)
 
 fits_number : (run : List ℕ) (n : ℕ) → 0 < length run → length run ≤ n → Fits n (number_run run)
 fits_number run n low high = go (number_of run)
@@ -121,16 +122,16 @@ fits_comment [] e o h = absurd (false≢true e)
 fits_comment (c ∷ bs) e (Some n) h = (omega arith, omega arith)
 fits_comment (c ∷ bs) e None h = tt
 
-fits_single : (n : ℕ) (o : Option Mark) → Fits (suc n) (mark_kind o)
-fits_single n (Some m) = (omega arith, omega arith)
-fits_single n None = tt
+fits_single : (n first : ℕ) (o : Option Mark) → Fits (suc n) (mark_kind first o)
+fits_single n first (Some m) = (omega arith, omega arith)
+fits_single n first None = tt
 
 fits_double : (n first : ℕ) (o : Option Mark) → Fits (suc (suc n)) (mark_or_shorter first o)
 fits_double n first (Some m) = (omega arith, omega arith)
-fits_double n first None = fits_single (suc n) (single_mark first)
+fits_double n first None = fits_single (suc n) first (single_mark first)
 
 fits_mark : (first : ℕ) (rest : List ℕ) → Fits (suc (length rest)) (mark first rest)
-fits_mark first [] = fits_single 0 (single_mark first)
+fits_mark first [] = fits_single 0 first (single_mark first)
 fits_mark first (second ∷ rest) = fits_double (length rest) first (double_mark first second)
 
 slash_in_line : (b : ℕ) → (b == 47) ≡ true → is_in_line b ≡ true

@@ -13,6 +13,19 @@ use crate::{Keyword, Mark, VKind};
 use kp_base::{is_digit, is_letter, is_word, run_length};
 use kp_bits::{read_literal, read_number};
 
+/// Why no token begins a text that isn't layout.
+#[derive(Clone, Copy)]
+pub enum TokenFault {
+    /// A `/*` that isn't closed.
+    OpenComment,
+    /// An identifier of this many bytes, which are more than 70.
+    LongName { length: usize },
+    /// A run that starts with a digit, and is neither a number of 64 bits nor a literal.
+    NoNumber,
+    /// A byte with which no token begins.
+    NoToken { byte: u8 },
+}
+
 /// What a text starts with. Lengths are in bytes.
 #[derive(Clone, Copy)]
 pub enum Front {
@@ -22,12 +35,13 @@ pub enum Front {
     Skip(usize),
     /// A token, with its length.
     Token(VKind, usize),
-    /// No token starts here, or a comment isn't closed.
-    Broken,
+    /// A violation of V1.
+    Broken(TokenFault),
 }
 
 /// What the text starts with. A token is a number or a literal with its value, a keyword, a punctuator, or a name.
 pub fn read_front(text: &[u8]) -> Front
+    ensures computed { result ≡ front_of text.now }
     ensures reported { seen text.now result ≡ front text.now }
     ensures fits { Fits (length text.now) result }
 {
@@ -134,7 +148,7 @@ fn comment(close: Option<usize>) -> Front
 {
     match close {
         Some(count) => Front::Skip(count + 2),
-        None => Front::Broken,
+        None => Front::Broken(TokenFault::OpenComment),
     }
 }
 
@@ -159,7 +173,7 @@ fn identifier(run: &[u8]) -> Front
     ensures { result ≡ identifier run.now }
 {
     if run.len() > 70 {
-        return Front::Broken;
+        return Front::Broken(TokenFault::LongName { length: run.len() });
     }
     match keyword(run) {
         Some(keyword) => Front::Token(VKind::Keyword(keyword), run.len()),
@@ -194,7 +208,7 @@ fn number_run(run: &[u8]) -> Front
     }
     match read_literal(run) {
         Ok(literal) => Front::Token(VKind::Literal(literal), run.len()),
-        Err(_) => Front::Broken,
+        Err(_) => Front::Broken(TokenFault::NoNumber),
     }
 }
 
@@ -209,7 +223,7 @@ fn mark(first: u8, after: &[u8]) -> Front
     }
     match single_mark(first) {
         Some(mark) => Front::Token(VKind::Mark(mark), 1),
-        None => Front::Broken,
+        None => Front::Broken(TokenFault::NoToken { byte: first }),
     }
 }
 

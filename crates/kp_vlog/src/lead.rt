@@ -22,7 +22,7 @@ pub fn read_lead(text: &[u8]) -> Lead
     ensures { result ≡ lead_of (front text.now) }
 {
     match read_front(text) {
-        Front::End | Front::Broken => Lead::Stops,
+        Front::End | Front::Broken(_) => Lead::Stops,
         Front::Skip(len) => Lead::Past(len),
         Front::Token(kind, len) => {
             if is_closing(kind) {

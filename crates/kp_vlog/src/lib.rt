@@ -13,7 +13,7 @@ mod token;
 mod tree;
 
 pub use first_module::first_module_end;
-pub use front::{Front, read_front};
+pub use front::{Front, TokenFault, read_front};
 pub use lexer::vlex;
 pub use token::{Keyword, Mark, VKind, VToken};
 pub use tree::{

@@ -15,7 +15,7 @@ use crate::fault::{Found, ModuleFault, Side, WidthFault};
 use crate::first::{Sought, first_at};
 use crate::names::Occurrence;
 use crate::sizes::{Sizes, address_width};
-use kp_bits::{BinOp, Literal};
+use kp_bits::{BinOp, Literal, LiteralFault};
 use kp_vlog::{Fill, Init, Item, Lit, Named, Num, Range, ResetValue, Right, Update, VPort};
 
 /// The names of a module, and their sizes.
@@ -303,14 +303,14 @@ fn wrong_literal(literal: &Lit) -> Option<Found>
     ensures { result ≡ wrong (is_fitting literal.now.literal) literal.now.at (literal_fault literal.now.literal) }
 {
     let Literal { width, value } = literal.literal;
-    if !(1 <= width && width <= 64) {
-        return Some(found(literal.at, WidthFault::LiteralWidth(width)));
+    match literal.literal.fit() {
+        Ok(_) => None,
+        Err(LiteralFault::TooBig) => Some(found(
+            literal.at,
+            WidthFault::LiteralValue { value, width },
+        )),
+        Err(_) => Some(found(literal.at, WidthFault::LiteralWidth(width))),
     }
-    wrong(
-        u128::from(value) < 1 << width,
-        literal.at,
-        WidthFault::LiteralValue { value, width },
-    )
 }
 
 /// A start value.

@@ -7,7 +7,7 @@ use crate::fault::{Destination, Position, WidthFault, found_at};
 use crate::names::{Meaning, Names};
 use kp_ast::{Decl, Expr, ExprKind, Name, Num, Param};
 use kp_base::{Finding, Place};
-use kp_bits::{BinOp, Literal};
+use kp_bits::{BinOp, Literal, LiteralFault};
 
 // The width of an expression that `done` declarations precede.
 #[cycle(width)]
@@ -287,15 +287,12 @@ pub(crate) fn check_address(
 pub(crate) fn literal_width(literal: Literal, at: Place) -> Result<u8, Finding<WidthFault>>
     ensures { result ≡ (literal_of literal at).found }
 {
-    if literal.width == 0 || literal.width > 64 {
-        let width = literal.width;
-        return Err(found_at(at, WidthFault::LiteralWidth { width }));
+    let Literal { width, value } = literal;
+    match literal.fit() {
+        Ok(word) => Ok(word.width()),
+        Err(LiteralFault::TooBig) => Err(found_at(at, WidthFault::LiteralValue { value, width })),
+        Err(_) => Err(found_at(at, WidthFault::LiteralWidth { width })),
     }
-    if literal.value > u64::MAX >> (64 - literal.width) {
-        let Literal { width, value } = literal;
-        return Err(found_at(at, WidthFault::LiteralValue { value, width }));
-    }
-    Ok(literal.width as u8)
 }
 
 pub(crate) fn is_in_range(w: u64) -> bool

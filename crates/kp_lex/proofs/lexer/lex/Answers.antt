@@ -7,7 +7,7 @@ pub returns-in-End : goal.returns-in-End
 returns-in-End c = rw c.new.ensures (finished _ _ _ _ _ c.loop-tokens.invariant (sym c.in-End.ensures))
 
 pub returns-in-Broken : goal.returns-in-Broken
-returns-in-Broken c = rw c.e.ensures (refused _ _ _ _ _ c.loop-tokens.invariant c.in-Broken.number (sym c.in-Broken.ensures))
+returns-in-Broken c = rw (c.e.ensures, c.rule.ensures) (refused _ _ _ _ _ c.loop-tokens.invariant c.in-Broken.fault (sym c.in-Broken.ensures))
 
 pub split_at-requires : goal.split_at-requires
 split_at-requires c = (gap_fits _ c.in-Gap.len (sym c.in-Gap.ensures)).1

@@ -2,7 +2,7 @@ use Rattle.std.proofs.Common.{◌∙◌, ◌+◌, ap, sym, drop}
 use Rattle.kp_base.specs.Findings.{with_answers}
 use Rattle.kp_stage.specs.{Rules.ask_in_block, Rules.ask_blocks, inner.Tables.facts_in}
 use Rattle.kp_base.proofs.Collecting.{append, step}
-use Rattle.kp_stage.proofs.rules.in_each_block.Goals as goal
+use Rattle.kp_stage.proofs.rules.in_blocks.Goals as goal
 
 pub loop-k-preserved : goal.loop-k-preserved
 loop-k-preserved c =
