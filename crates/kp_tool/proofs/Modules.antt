@@ -1,14 +1,14 @@
 -- The module of a job: how it is read, the properties of its netlist, and how a command ends that reads it.
-use Rattle.std.proofs.Common.{◌≡◌, ℕ, List, drop, Ok, Err, refl, subst, sym}
+use Rattle.std.proofs.Common.{◌≡◌, ℕ, List, drop, Ok, Err, refl}
 use Rattle.std.specs.declared.option.Option.{Option}
 use Rattle.kp_base.specs.declared.refusal.{Refusal.Refusal, Refused.Refused}
 use Rattle.kp_base.specs.declared.refusal.Refused.TheVariants as refused
 use Rattle.kp_ast.specs.declared.tree.Job.{Job}
-use Rattle.kp_vread.specs.Matching.{IsRefused}
+use Rattle.kp_vread.specs.Matching.{not_of_job}
 use Rattle.kp_net.specs.{Names.IsNamed, Netlist.Net}
 use Rattle.kp_implements.specs.Shows.{HasOutputs, IsOfJob}
 use Rattle.kp_vlog.{specs.Verdict.AnswersNet, proofs.Sound.denoted_named}
-use Rattle.kp_tool.specs.{Watched.wrong_netlist, Compared.ReadsModule, Compared.misread, Compared.not_jobs, Compared.jobs, Ends.Ends, inner.Failures.misread_of}
+use Rattle.kp_tool.specs.{Compared.ReadsModule, Compared.misread, Compared.not_jobs, Compared.jobs, Ends.Ends, inner.Failures.misread_of}
 use Rattle.kp_tool.specs.{inner.Modules.RefusesModule, inner.Modules.MisreadsModule, declared.failure.Failure.Failure}
 use Rattle.kp_report.specs.Texts.{refusal_line}
 use Rattle.kp_tool.specs.declared.failure.Failure.TheVariants as failure
@@ -19,11 +19,9 @@ refused_misread job text from (refused.Rule r) broken = misread broken
 refused_misread job text from refused.NoMemory broken = tt
 
 -- and V6
-pub refused_other : (job : Job) (text : List ℕ) (from : ℕ) (net : Net) (r : Refused) → AnswersNet text from (Ok net) → IsRefused net job r → RefusesModule job text from r
-refused_other job text from net (refused.Rule r) read (same, other) =
-    let wrong : r ≡ wrong_netlist = cc same in
-    subst (λ (x : Refusal). ReadsModule job text from (Err x)) (sym wrong) (not_jobs read other)
-refused_other job text from net refused.NoMemory read (same, other) = tt
+pub refused_other : (job : Job) (text : List ℕ) (from : ℕ) (net : Net) → AnswersNet text from (Ok net) → (IsOfJob net job → ⊥)
+    → RefusesModule job text from (refused.Rule not_of_job)
+refused_other job text from net read other = not_jobs read other
 
 pub module_named : (job : Job) (text : List ℕ) (from : ℕ) (net : Net) → ReadsModule job text from (Ok net) → IsNamed net
 module_named job text from net (jobs read is) = denoted_named from (drop from text) net read

@@ -1,7 +1,7 @@
 -- The arguments and an input have exactly one specified outcome: one status with one text.
-use Rattle.std.proofs.Common.{◌≡◌, ◌∙◌, ◌≤◌, ℕ, List, take, drop, Bool, true, false, Result, Ok, Err, Some, None, length, inl, inr, sym, subst, refl, ap, arith}
-use Rattle.std.{proofs.lemmas.Bool.cases_lt, proofs.lemmas.Bool.Decides.not_from_Decides, specs.declared.option.Option.Option}
-use Rattle.kp_vread.{specs.inner.Tests.is_of_job, proofs.JobMatches.is_found}
+use Rattle.std.proofs.Common.{◌≡◌, ◌∙◌, ◌≤◌, ℕ, List, take, drop, Result, Ok, Err, Some, None, length, inl, inr, sym, subst, refl, ap, arith}
+use Rattle.std.{proofs.lemmas.Bool.cases_lt, specs.Prelude.MatchOption, specs.declared.option.Option.Option}
+use Rattle.kp_vread.{specs.Matching.first_mismatch, specs.declared.job_match.Mismatch.Mismatch, proofs.JobMatches.exact}
 use Rattle.kp_base.specs.declared.refusal.Refusal.{Refusal}
 use Rattle.kp_ast.specs.declared.tree.Job.{Job}
 use Rattle.kp_stage.specs.Counts.{summary_of}
@@ -192,13 +192,12 @@ read_said input = elim (cases_lt most_bytes (length input)) [
   | inr short ↦ let v = some_reading input 0 in let said = verilog_said v.0 in (said.0, said.1, read_within v.0 short v.1 said.2)
 ]
 
-netlist_said : (n : ℕ) (job : Job) (net : Net) (b : Bool) → is_of_job net.parts job ≡ b → Any (DueOfNetlist n job net)
-netlist_said n job net true e = let said = run_said job net n in (said.0, said.1, of_job ((is_found net job).0 e) said.2)
-netlist_said n job net false e =
-    (6, refusal_line wrong_netlist, of_other (not_from_Decides (is_of_job net.parts job) (is_found net job) e) (refl, refl))
+netlist_said : (n : ℕ) (job : Job) (net : Net) (found : Option Mismatch) → MatchOption found (IsOfJob net job) (λ _. IsOfJob net job → ⊥) → Any (DueOfNetlist n job net)
+netlist_said n job net None is = let said = run_said job net n in (said.0, said.1, of_job is said.2)
+netlist_said n job net (Some mismatch) other = (6, refusal_line wrong_netlist, of_other other (refl, refl))
 
 text_said : (n : ℕ) (job : Job) (v : Result Net Refusal) → Any (DueOfText n job v)
-text_said n job (Ok net) = netlist_said n job net (is_of_job net.parts job) refl
+text_said n job (Ok net) = netlist_said n job net (first_mismatch net.parts job) (exact net job)
 text_said n job (Err refusal) = (6, refusal_line refusal, (refl, refl))
 
 head_said : (n : ℕ) (input : List ℕ) (v : Result (Job × ℕ) Refusal) → Any (DueOfHead n input v)
@@ -206,13 +205,13 @@ head_said n input (Ok (job, rest)) = by_any (ReadsVerilog input rest) (DueOfText
 head_said n input (Err refusal) = (2, refusal_line refusal, (refl, refl))
 
 -- a module denotes a netlist of the job, or violates some rule
-net_said : (job : Job) (text : List ℕ) (from : ℕ) (net : Net) → ReadsVerilog text from (Ok net) → (b : Bool) → is_of_job net.parts job ≡ b
-    → (v : Result Net Refusal) × ReadsModule job text from v
-net_said job text from net read true e = (Ok net, jobs read ((is_found net job).0 e))
-net_said job text from net read false e = (Err wrong_netlist, not_jobs read (not_from_Decides (is_of_job net.parts job) (is_found net job) e))
+net_said : (job : Job) (text : List ℕ) (from : ℕ) (net : Net) → ReadsVerilog text from (Ok net) → (found : Option Mismatch)
+    → MatchOption found (IsOfJob net job) (λ _. IsOfJob net job → ⊥) → (v : Result Net Refusal) × ReadsModule job text from v
+net_said job text from net read None is = (Ok net, jobs read is)
+net_said job text from net read (Some mismatch) other = (Err wrong_netlist, not_jobs read other)
 
 reading_said : (job : Job) (text : List ℕ) (from : ℕ) (v : Result Net Refusal) → ReadsVerilog text from v → (w : Result Net Refusal) × ReadsModule job text from w
-reading_said job text from (Ok net) read = net_said job text from net read (is_of_job net.parts job) refl
+reading_said job text from (Ok net) read = net_said job text from net read (first_mismatch net.parts job) (exact net job)
 reading_said job text from (Err refusal) read = (Err refusal, misread read)
 
 some_module_reading : (job : Job) (text : List ℕ) (from : ℕ) → (v : Result Net Refusal) × ReadsModule job text from v

@@ -6,7 +6,7 @@ use crate::failure::Failure;
 use kp_base::Refused;
 use kp_net::Netlist;
 use kp_stage::Design;
-use kp_vread::{matches, read_verilog};
+use kp_vread::{first_mismatch, read_verilog};
 use std::alloc::Global;
 
 /// The netlist of the module that starts at an offset of a text, if it is one of the job. A violated rule is the first of V1 to V6.
@@ -35,6 +35,8 @@ fn module_of(alloc: Global, text: &[u8], from: u32, design: &Design) -> Result<N
         (λ refused. RefusesModule design.now.job text.now from refused) }
 {
     let net = read_verilog(alloc, text, from)?;
-    matches(alloc, &net, design)?;
-    Ok(net)
+    match first_mismatch(&net, design) {
+        None => Ok(net),
+        Some(mismatch) => Err(Refused::Rule(mismatch.refusal())),
+    }
 }

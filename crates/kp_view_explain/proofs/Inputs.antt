@@ -2,15 +2,14 @@
 use Rattle.std.proofs.Common.{◌≡◌, ◌<◌, ◌≤◌, ℕ, Bool, List, [], ◌++◌, length, drop, Ok, Err, Some, None, inl, inr, refl, ap, sym, subst, arith}
 use Rattle.std.proofs.lemmas.Option.{IfSome_then}
 use Rattle.std.specs.{declared.option.Option.Option, Io.KnownBytes.Consumes, Io.KnownBytes.IsAtEnd}
-use Rattle.kp_base.specs.{Refusal.v_rule, declared.refusal.Refusal.Refusal}
-use Rattle.kp_base.specs.declared.refusal.Refused.TheVariants as refused_by
+use Rattle.kp_base.specs.declared.refusal.Refusal.{Refusal}
 use Rattle.kp_ast.specs.declared.tree.{Decl.Decl, Job.Job}
 use Rattle.kp_net.specs.Netlist.{Net}
 use Rattle.kp_asm.specs.{Faults.ProgramFinding, Faults.refusal_of as program_refusal, Program.program_of, Program.verdict_of as program_verdict, Program.assembled}
 use Rattle.kp_vlog.specs.{Denote.Denotes, Verdict.IsRefused}
 use Rattle.kp_debug_script.specs.{Faults.ScriptFinding, Faults.refusal_of as script_refusal, Faults.verdict_of as script_verdict, Scripts.script_in, Scripts.script_of, declared.command.Command.Command}
 use Rattle.kp_implements.specs.Shows.{IsOfJob}
-use Rattle.kp_vread.specs.Matching.{IsRefused as IsOfOther}
+use Rattle.kp_vread.specs.Matching.{not_of_job}
 use Rattle.kp_frontend.specs.Judging.{JudgesText, JudgesHeadText, most_bytes, too_long}
 use Rattle.kp_view_excerpt.specs.Notes.{AppendsNoteAt}
 use Rattle.kp_view_texts.specs.{Heads.rule_head, Marks.program_mark, Marks.script_mark}
@@ -88,12 +87,10 @@ pub own_netlist : (file text : List ℕ) (job : Job) (from : ℕ) (net : Net) (s
     → status ≡ 0 → said ≡ [] → ExplainsModule job file text from status said
 own_netlist file text job from net status said denotes own zero empty = (None, (net, denotes, own), (λ strict. (zero, empty)), tt)
 
-pub other_netlist : (file text : List ℕ) (job : Job) (from : ℕ) (net : Net) (refusal : Refusal) (status : ℕ) (said : List ℕ) → Denotes from (drop from text) net
-    → IsOfOther net job (refused_by.Rule refusal) → status ≡ 2 → ShowsPlace file text refusal (job_mark text refusal) said
-    → ExplainsModule job file text from status said
-other_netlist file text job from net refusal status said denotes (is, other) two shown =
-    let same : refusal ≡ v_rule 6 (record { line = 1; col = 1 }) = cc is in
-    (Some refusal, inr (net, denotes, other, same), (λ strict. (two, begins shown)), (_, inr (ap (λ (r : Refusal). r.number) same, refl), shown))
+pub other_netlist : (file text : List ℕ) (job : Job) (from : ℕ) (net : Net) (status : ℕ) (said : List ℕ) → Denotes from (drop from text) net
+    → (IsOfJob net job → ⊥) → status ≡ 2 → ShowsPlace file text not_of_job (job_mark text not_of_job) said → ExplainsModule job file text from status said
+other_netlist file text job from net status said denotes other two shown =
+    (Some not_of_job, inr (net, denotes, other, refl), (λ strict. (two, begins shown)), (_, inr (refl, refl), shown))
 
 -- what the rules find, and that its place is shown
 pub explains : (subject : Subject) (strict : Bool) (file input : List ℕ) (status : ℕ) (said : List ℕ) → ExplainsShown subject strict file input status said

@@ -12,7 +12,7 @@ use kp_base::{NoMemory, Refusal, Refused};
 use kp_frontend::{Head, judge_head};
 use kp_net::Netlist;
 use kp_view_verilog::{write_other, write_verilog};
-use kp_vread::{matches, read_verilog};
+use kp_vread::{first_mismatch, read_verilog};
 use std::alloc::Global;
 
 /// The explanation of a Verilog text that is not too long: the first rule that it violates.
@@ -113,12 +113,13 @@ fn explain_netlist(
     ensures said { IfOk result (λ e. ExplainsModule head.now.job.design.job file.now text.now head.now.rest e.status e.text.items) }
     ensures low { IfOk result (λ e. (e.status ≤ 2) × (e.status ≢ 1)) }
 {
-    match matches(alloc, net, &head.job.design) {
-        Ok(()) => Ok(Explanation::silent(alloc)),
-        Err(Refused::NoMemory) => Err(NoMemory),
-        Err(Refused::Rule(refusal)) => {
+    match first_mismatch(net, &head.job.design) {
+        None => Ok(Explanation::silent(alloc)),
+        Some(mismatch) => {
             let mut facts = Vec::new(alloc);
-            write_other(alloc, &mut facts, text, net, head.job.design.job(), refusal)?;
+            let job = head.job.design.job();
+            write_other(alloc, &mut facts, text, net, job, mismatch)?;
+            let refusal = mismatch.refusal();
             Ok(Explanation::refused(alloc, file, refusal, facts.as_slice())?)
         }
     }

@@ -1,8 +1,8 @@
 //! Why a Verilog text is rejected: for the rule and the place that its reader names, a sentence with the facts that the rule rests on, the line, and what
 //! helps.
 //!
-//! For V3 to V5 they are those of the first finding of kp_vread_rules; for V1, V2 and V6 they come from a second pass over the text, its tokens or the
-//! netlist.
+//! For V3 to V5 they are those of the first finding of kp_vread_rules; for V1 and V2 they come from a second pass over the text or its tokens, and for V6
+//! from the difference that kp_vread finds.
 #![tactic(auto)]
 
 mod lines;

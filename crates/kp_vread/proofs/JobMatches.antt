@@ -1,14 +1,18 @@
--- A netlist is accepted as one of the job exactly if it is one.
-use Rattle.std.proofs.Common.{◌≡◌, ◌∙◌, ℕ, ◌<◌, ◌==◌, List, [], ◌∷◌, ◌++◌, length, get_or, map, take, codes, true, false, not, ◌&&◌, ◌||◌, refl, ap, sym, arith}
-use Rattle.std.{proofs.Math.Dec.eqb-suc-zero, proofs.lemmas.Bool.false≢true, proofs.lemmas.Bool.Decides.Decides-eqb, specs.Bool.Decides}
+-- A netlist differs in nothing from a job exactly if it is one of the job.
+use Rattle.std.specs.Prelude.{is_some, MatchOption}
+use Rattle.std.proofs.Common.{◌≡◌, ◌∙◌, ℕ, ◌<◌, ◌+◌, ◌==◌, Option, Some, None, List, [], ◌∷◌, ◌++◌, length, get_or, map, take, codes, true, false, not, ◌&&◌, ◌||◌, refl, ap, sym, arith}
+use Rattle.std.{proofs.lemmas.Bool.false≢true, proofs.lemmas.Bool.Decides.Decides-eqb, specs.Bool.Decides}
 use Rattle.std.specs.Cmp.Lexicographic.{bytes_decides}
-use Rattle.kp_ast.specs.declared.tree.Job.{Job}
-use Rattle.kp_machine.specs.{Slots.Slot, Slots.targets_of, Slots.samples_of, Slots.is_register, Words.no_slot}
+use Rattle.kp_ast.specs.declared.tree.{Decl.Decl, Job.Job}
+use Rattle.kp_ast.specs.declared.tree.Decl.TheVariants as decls
+use Rattle.kp_machine.specs.{Slots.Slot, Slots.slot, Slots.targets_of, Slots.samples_of, Slots.is_register, Words.no_slot}
 use Rattle.kp_net.specs.{Names.same, Netlist.Net, Parts.no_reg, Parts.no_file, declared.netlist.Port.Port, declared.netlist.NetReg.NetReg}
 use Rattle.kp_net.specs.declared.netlist.{NetFile.NetFile, Parts.Parts}
 use Rattle.kp_implements.specs.{Naming.place_among, Naming.register_name, Naming.file_name, Naming.sample_port, Shows.IsOfJob}
-use Rattle.kp_vread.specs.inner.Tests.{has_register, has_file, has_target, has_targets, names_register, names_file, is_visible, registers_known, files_known, is_port_of, are_ports_of, is_of_job}
-use Rattle.kp_vread.proofs.Tests.{holds, fails, both, implied, either_way, as_well, each, some, named}
+use Rattle.kp_vread.specs.Matching.{has_register, has_file, has_target, has_targets, names_register, names_file, is_visible, is_port_of, of_ports, of_targets, of_registers, of_files, of_stages, first_mismatch}
+use Rattle.kp_vread.specs.declared.job_match.Mismatch.{Mismatch}
+use Rattle.kp_vread.specs.declared.job_match.Mismatch.TheVariants as differs
+use Rattle.kp_vread.proofs.Tests.{holds, fails, both, implied, either_way, as_well, each, some, named, tested, alone, and_true, both_true, true_both, none_first, none_last}
 
 -- the first register of a name, and the first file
 abbrev IsReg : ℕ → NetReg → Type 0
@@ -49,6 +53,20 @@ targets_found p [] = (λ e t l. absurd (omega (arith, l)), λ h. refl)
 targets_found p (s ∷ ss) =
     each (has_target p s) (has_targets p ss) (length ss) (λ t. HasTarget p (get_or (s ∷ ss) t no_slot)) (target_found p s) (targets_found p ss)
 
+apart : (p : Parts) (d : Decl) (ds : List Decl) → has_targets p (targets_of (d ∷ ds)) ≡ has_targets p (targets_of (d ∷ [])) && has_targets p (targets_of ds)
+apart p (decls.Reg n width start) ds = and_true (has_target p (slot n width 0)) (has_targets p (targets_of ds))
+apart p (decls.File n width address) ds = and_true (has_target p (slot n width address.value)) (has_targets p (targets_of ds))
+apart p d ds = refl
+
+none_absent : (p : Parts) (i : ℕ) (ds : List Decl) → Decides (not (is_some (of_targets p i ds))) (has_targets p (targets_of ds) ≡ true)
+none_absent p i [] = holds true
+none_absent p i (d ∷ ds) =
+    let here = has_targets p (targets_of (d ∷ [])) in
+    let rest = has_targets p (targets_of ds) in
+    tested here (of_targets p (i + 1) ds) (differs.Absent i)
+    (as_well (here && not (is_some (of_targets p (i + 1) ds))) (λ h. apart p d ds ∙ both_true here rest h) (λ h. true_both here rest (sym (apart p d ds) ∙ h))
+    (both here (not (is_some (of_targets p (i + 1) ds))) (holds here) (none_absent p (i + 1) ds)))
+
 -- the names of targets
 abbrev NamesReg : List ℕ → Slot → Type 0
 NamesReg name s = (is_register s ≡ true) × (name ≡ register_name s)
@@ -75,16 +93,20 @@ KnowsReg ss name = take 2 name ≡ codes "r_" → (t : ℕ) × (t < length ss) �
 abbrev KnowsFile : List Slot → List ℕ → Type 0
 KnowsFile ss name = (t : ℕ) × (t < length ss) × NamesFile name (get_or ss t no_slot)
 
-regs_known : (ss : List Slot) (rs : List NetReg) → Decides (registers_known ss rs) ((r : ℕ) → r < length rs → KnowsReg ss (get_or (map (λ x. x.name) rs) r []))
-regs_known ss [] = (λ e r l. absurd (omega (arith, l)), λ h. refl)
-regs_known ss (r ∷ rs) =
-    each (not (is_visible r.name) || names_register ss r.name) (registers_known ss rs) (length rs) (λ i. KnowsReg ss (get_or (map (λ x. x.name) (r ∷ rs)) i []))
-    (implied (is_visible r.name) (names_register ss r.name) (bytes_decides (take 2 r.name) (codes "r_")) (reg_named ss r.name)) (regs_known ss rs)
+regs_known : (ss : List Slot) (i : ℕ) (rs : List NetReg) → Decides (not (is_some (of_registers ss i rs))) ((r : ℕ) → r < length rs → KnowsReg ss (get_or (map (λ x. x.name) rs) r []))
+regs_known ss i [] = (λ e r l. absurd (omega (arith, l)), λ h. refl)
+regs_known ss i (r ∷ rs) =
+    let here = not (is_visible r.name) || names_register ss r.name in
+    tested here (of_registers ss (i + 1) rs) (differs.OtherRegister i)
+    (each here (not (is_some (of_registers ss (i + 1) rs))) (length rs) (λ t. KnowsReg ss (get_or (map (λ x. x.name) (r ∷ rs)) t []))
+    (implied (is_visible r.name) (names_register ss r.name) (bytes_decides (take 2 r.name) (codes "r_")) (reg_named ss r.name)) (regs_known ss (i + 1) rs))
 
-words_known : (ss : List Slot) (fs : List NetFile) → Decides (files_known ss fs) ((f : ℕ) → f < length fs → KnowsFile ss (get_or (map (λ x. x.name) fs) f []))
-words_known ss [] = (λ e r l. absurd (omega (arith, l)), λ h. refl)
-words_known ss (f ∷ fs) =
-    each (names_file ss f.name) (files_known ss fs) (length fs) (λ i. KnowsFile ss (get_or (map (λ x. x.name) (f ∷ fs)) i [])) (file_named ss f.name) (words_known ss fs)
+words_known : (ss : List Slot) (i : ℕ) (fs : List NetFile) → Decides (not (is_some (of_files ss i fs))) ((f : ℕ) → f < length fs → KnowsFile ss (get_or (map (λ x. x.name) fs) f []))
+words_known ss i [] = (λ e r l. absurd (omega (arith, l)), λ h. refl)
+words_known ss i (f ∷ fs) =
+    tested (names_file ss f.name) (of_files ss (i + 1) fs) (differs.OtherFile i)
+    (each (names_file ss f.name) (not (is_some (of_files ss (i + 1) fs))) (length fs) (λ t. KnowsFile ss (get_or (map (λ x. x.name) (f ∷ fs)) t []))
+    (file_named ss f.name) (words_known ss (i + 1) fs))
 
 -- the sample ports
 port_is : (p : Port) (s : Slot) → (p.name ≡ codes "s_" ++ s.name) × (p.width ≡ s.width) → p ≡ sample_port s
@@ -98,13 +120,16 @@ port_found p s =
 first_is : (p : Port) (ps : List Port) (s : Slot) (ss : List Slot) → (p ≡ sample_port s) × (ps ≡ map sample_port ss) → p ∷ ps ≡ map sample_port (s ∷ ss)
 first_is p ps s ss h = ap (λ x. x ∷ ps) h.0 ∙ ap (λ xs. sample_port s ∷ xs) h.1
 
-ports_found : (ps : List Port) (ss : List Slot) → Decides (are_ports_of ps ss) (ps ≡ map sample_port ss)
-ports_found [] [] = (λ e. refl, λ e. refl)
-ports_found [] (s ∷ ss) = (λ e. absurd (false≢true e), λ e. cc)
-ports_found (p ∷ ps) [] = (λ e. absurd (false≢true e), λ e. cc)
-ports_found (p ∷ ps) (s ∷ ss) =
-    as_well (is_port_of p s && are_ports_of ps ss) (first_is p ps s ss) (λ e. (cc, cc))
-    (both (is_port_of p s) (are_ports_of ps ss) (port_found p s) (ports_found ps ss))
+ports_found : (i : ℕ) (ds : List Decl) (ps : List Port) → Decides (not (is_some (of_ports i ds ps))) (ps ≡ map sample_port (samples_of ds))
+ports_found i [] [] = (λ e. refl, λ e. refl)
+ports_found i [] (p ∷ ps) = (λ e. absurd (false≢true e), λ e. cc)
+ports_found i (decls.Sample n width stage ∷ ds) [] = (λ e. absurd (false≢true e), λ e. cc)
+ports_found i (decls.Sample n width stage ∷ ds) (p ∷ ps) =
+    let s = slot n width 0 in
+    tested (is_port_of p s) (of_ports (i + 1) ds ps) (differs.Absent i)
+    (as_well (is_port_of p s && not (is_some (of_ports (i + 1) ds ps))) (first_is p ps s (samples_of ds)) (λ e. (cc, cc))
+    (both (is_port_of p s) (not (is_some (of_ports (i + 1) ds ps))) (port_found p s) (ports_found (i + 1) ds ps)))
+ports_found i (d ∷ ds) ps = ports_found (i + 1) ds ps
 
 -- all of it
 abbrev Found : Parts → Job → Type 0
@@ -114,14 +139,15 @@ Found p job =
     × (((r : ℕ) → r < length p.regs → KnowsReg (targets_of job.decls) (get_or (map (λ x. x.name) p.regs) r []))
     × ((f : ℕ) → f < length p.files → KnowsFile (targets_of job.decls) (get_or (map (λ x. x.name) p.files) f [])))))
 
-found : (p : Parts) (job : Job) → Decides (is_of_job p job) (Found p job)
+found : (p : Parts) (job : Job) → Decides (not (is_some (first_mismatch p job))) (Found p job)
 found p job =
     let ts = targets_of job.decls in
-    let known = both (registers_known ts p.regs) (files_known ts p.files) (regs_known ts p.regs) (words_known ts p.files) in
-    let there = both (has_targets p ts) (registers_known ts p.regs && files_known ts p.files) (targets_found p ts) known in
-    let ports = both (are_ports_of p.samples (samples_of job.decls)) (has_targets p ts && (registers_known ts p.regs && files_known ts p.files)) (ports_found p.samples (samples_of job.decls)) there in
-    both (p.ext == job.stages.value) (are_ports_of p.samples (samples_of job.decls) && (has_targets p ts && (registers_known ts p.regs && files_known ts p.files)))
-    (Decides-eqb p.ext job.stages.value) ports
+    let targets = as_well (not (is_some (of_targets p 0 job.decls))) (targets_found p ts).0 (targets_found p ts).1 (none_absent p 0 job.decls) in
+    none_first (of_stages p job) _ (tested (p.ext == job.stages.value) None (differs.Stages p.ext job.stages.value) (alone (p.ext == job.stages.value) (Decides-eqb p.ext job.stages.value)))
+    (none_first (of_ports 0 job.decls p.samples) _ (ports_found 0 job.decls p.samples)
+    (none_first (of_targets p 0 job.decls) _ targets
+    (none_first (of_registers ts 0 p.regs) _ (regs_known ts 0 p.regs)
+    (none_last (of_files ts 0 p.files) (words_known ts 0 p.files)))))
 
 of_job : (net : Net) (job : Job) → Found net.parts job → IsOfJob net job
 of_job net job h = record {
@@ -148,10 +174,9 @@ then_found net job h = (
   ),
 )
 
-pub is_found : (net : Net) (job : Job) → Decides (is_of_job net.parts job) (IsOfJob net job)
-is_found net job = as_well (is_of_job net.parts job) (of_job net job) (then_found net job) (found net.parts job)
+by_answer : {P : Type 0} (o : Option Mismatch) → Decides (not (is_some o)) P → MatchOption o P (λ _. P → ⊥)
+by_answer None d = d.0 refl
+by_answer (Some m) d = λ p. false≢true (d.1 p)
 
--- after the samples no port is left
-pub none_left : (ps : List Port) → are_ports_of ps [] ≡ (length ps == 0)
-none_left [] = refl
-none_left (p ∷ ps) = sym (eqb-suc-zero (length ps))
+pub exact : (net : Net) (job : Job) → MatchOption (first_mismatch net.parts job) (IsOfJob net job) (λ _. IsOfJob net job → ⊥)
+exact net job = by_answer (first_mismatch net.parts job) (as_well (not (is_some (first_mismatch net.parts job))) (of_job net job) (then_found net job) (found net.parts job))

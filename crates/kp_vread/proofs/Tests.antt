@@ -1,5 +1,7 @@
 -- Tests and what they decide.
-use Rattle.std.proofs.Common.{◌≡◌, ℕ, zero, suc, ◌<◌, List, ◌∷◌, length, get_or, Bool, true, false, cond, not, ◌&&◌, ◌||◌, refl, sym, arith}
+use Rattle.std.proofs.Common.{◌≡◌, ℕ, zero, suc, ◌<◌, List, [], ◌∷◌, Option, Some, None, length, get_or, Bool, true, false, cond, not, ◌&&◌, ◌||◌, refl, sym, arith}
+use Rattle.std.specs.Prelude.{is_some}
+use Rattle.kp_base.specs.First.{first}
 use Rattle.std.{proofs.lemmas.Bool.false≢true, specs.Bool.Decides}
 
 pub holds : (b : Bool) → Decides b (b ≡ true)
@@ -46,3 +48,34 @@ pub named : {X : Type 0} (b here there : Bool) (k : ℕ) (x : X) (xs : List X) (
     → Decides (cond b here there) ((cond b 0 (suc k) < length (x ∷ xs)) × P (get_or (x ∷ xs) (cond b 0 (suc k)) d))
 named true here there k x xs d P e f = (λ y. (omega arith, e.0 y), λ h. e.1 h.1)
 named false here there k x xs d P e f = (λ y. let h = f.0 y in ((let l = h.0 in omega (arith, l)), h.1), λ h. f.1 ((let l = h.0 in omega (arith, l)), h.1))
+
+-- what is true and true
+pub and_true : (a b : Bool) → a && b ≡ (a && true) && b
+and_true true b = refl
+and_true false b = refl
+
+pub both_true : (a b : Bool) → (a ≡ true) × (b ≡ true) → a && b ≡ true
+both_true true b h = h.1
+both_true false b h = h.0
+
+pub true_both : (a b : Bool) → a && b ≡ true → (a ≡ true) × (b ≡ true)
+true_both true b e = (refl, e)
+true_both false b e = (e, absurd (false≢true e))
+
+pub alone : {P : Type 0} (a : Bool) → Decides a P → Decides (a && true) P
+alone true d = d
+alone false d = d
+
+-- a difference where a test fails
+pub tested : {X P : Type 0} (a : Bool) (o : Option X) (x : X) → Decides (a && not (is_some o)) P → Decides (not (is_some (cond a o (Some x)))) P
+tested true o x d = d
+tested false o x d = d
+
+-- no first difference
+pub none_first : {X P Q : Type 0} (o : Option X) (os : List (Option X)) → Decides (not (is_some o)) P → Decides (not (is_some (first os))) Q → Decides (not (is_some (first (o ∷ os)))) (P × Q)
+none_first None os d e = both true (not (is_some (first os))) d e
+none_first (Some x) os d e = both false (not (is_some (first os))) d e
+
+pub none_last : {X P : Type 0} (o : Option X) → Decides (not (is_some o)) P → Decides (not (is_some (first (o ∷ [])))) P
+none_last None d = d
+none_last (Some x) d = d

@@ -4,4 +4,3 @@ pub mod Numbering
 pub mod Building
 pub mod Nexts
 pub mod Parts
-pub mod Tests

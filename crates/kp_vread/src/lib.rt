@@ -1,6 +1,6 @@
-//! The netlist that a Verilog text denotes. And rule V6: whether a netlist is one of a job.
+//! The netlist that a Verilog text denotes. And rule V6: how a netlist differs from a job, if it does.
 //!
-//! `matches` decides it for any netlist, whoever made it. `laws` shows that a netlist that was read from a text can be run.
+//! `first_mismatch` decides it for any netlist, whoever made it. `laws` shows that a netlist that was read from a text can be run.
 #![tactic(auto)]
 
 mod build;
@@ -16,5 +16,5 @@ mod read;
 mod targets;
 mod words;
 
-pub use job_match::matches;
+pub use job_match::{Mismatch, first_mismatch};
 pub use read::read_verilog;

@@ -2,7 +2,7 @@
 ghost use Rattle.std.specs.Prelude.{◌≡◌, ◌++◌, ◌∷◌, [], codes};
 ghost use Rattle.kp_machine.specs.Slots.{targets_of};
 ghost use Rattle.kp_net.specs.Names.{same};
-ghost use Rattle.kp_vread.specs.inner.Tests.{has_register, has_file, has_targets, names_register, names_file, is_port_of};
+ghost use Rattle.kp_vread.specs.Matching.{has_register, has_file, has_targets, names_register, names_file, is_port_of};
 
 use kp_ast::{Decl, Name};
 use kp_net::{Label, NetFile, NetReg, Parts, Port};

@@ -7,10 +7,9 @@ returns-in_err-net c =
     let p = err_from_is_err_and c.from_residual.result c.from_residual.ensures.1 in
     rw (p.1, p.2) (refused_misread c.args.design.now.job c.args.text.now c.args.from _ c.in_err-net.ensures)
 
-pub returns-in_err-matches : goal.returns-in_err-matches
-returns-in_err-matches c =
-    let p = err_from_is_err_and c.from_residual-in_err-matches.result c.from_residual-in_err-matches.ensures.1 in
-    rw (p.1, p.2) (refused_other c.args.design.now.job c.args.text.now c.args.from c.in_ok-net.net _ c.in_ok-net.ensures c.in_err-matches.ensures)
+pub returns-in-Some : goal.returns-in-Some
+returns-in-Some c =
+    rw c.refusal.ensures (refused_other c.args.design.now.job c.args.text.now c.args.from c.in_ok-net.net c.in_ok-net.ensures c.in-Some.ensures.exact)
 
-pub returns : goal.returns
-returns c = jobs c.in_ok-net.ensures c.in_ok-matches.ensures
+pub returns-in-None : goal.returns-in-None
+returns-in-None c = jobs c.in_ok-net.ensures c.in-None.ensures.exact

@@ -1,5 +1,5 @@
 use Rattle.std.proofs.Common.{◌≡◌, drop, codes, ◌++◌}
-use Rattle.kp_vread.specs.inner.Tests.{has_file}
+use Rattle.kp_vread.specs.Matching.{has_file}
 use Rattle.kp_vread.proofs.targets.has_file.Given as goal
 
 abbrev pub invariant-loop-file : goal.invariant-loop-file

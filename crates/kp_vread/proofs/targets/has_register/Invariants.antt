@@ -1,5 +1,5 @@
 use Rattle.std.proofs.Common.{◌≡◌, drop, codes, ◌++◌}
-use Rattle.kp_vread.specs.inner.Tests.{has_register}
+use Rattle.kp_vread.specs.Matching.{has_register}
 use Rattle.kp_vread.proofs.targets.has_register.Given as goal
 
 abbrev pub invariant-loop-reg : goal.invariant-loop-reg

@@ -1,6 +1,6 @@
 use Rattle.std.proofs.Common.{◌≡◌, drop}
 use Rattle.kp_machine.specs.Slots.{targets_of}
-use Rattle.kp_vread.specs.inner.Tests.{names_file}
+use Rattle.kp_vread.specs.Matching.{names_file}
 use Rattle.kp_vread.proofs.targets.names_file.Given as goal
 
 abbrev pub invariant-loop-decl : goal.invariant-loop-decl

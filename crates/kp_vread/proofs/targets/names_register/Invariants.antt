@@ -1,6 +1,6 @@
 use Rattle.std.proofs.Common.{◌≡◌, drop}
 use Rattle.kp_machine.specs.Slots.{targets_of}
-use Rattle.kp_vread.specs.inner.Tests.{names_register}
+use Rattle.kp_vread.specs.Matching.{names_register}
 use Rattle.kp_vread.proofs.targets.names_register.Given as goal
 
 abbrev pub invariant-loop-decl : goal.invariant-loop-decl
