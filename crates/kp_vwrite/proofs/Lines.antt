@@ -4,7 +4,7 @@ use Rattle.std.{proofs.lemmas.List.take_all, proofs.lemmas.Bool.cond-false, spec
 use Rattle.kp_bits.specs.{Spelling.spelling, Word.word}
 use Rattle.kp_net.specs.declared.{node.NodeId.NodeId, node.Node.Node, netlist.Port.Port, netlist.NetReg.NetReg, netlist.NetFile.NetFile, netlist.Parts.Parts}
 use Rattle.kp_vlog.specs.Canon.{text_of, joined, more_parts, wire, sample_ports, reg_lines, file_lines, node_lines, start_lines, word_line, word_lines, fill_lines, update_lines, port_line, port_lines, reset_lines}
-use Rattle.kp_vwrite.specs.inner.Texts.{ranged_text, sample_text, samples_text, reg_text, regs_text, file_text, files_text, front_text, right_text, nodes_text, part_text, parts_text, joined_text, value_text, values_text, fill_text, word_text, words_text, contents_text, fills_text, update_text, updates_text, port_text, ports_text}
+use Rattle.kp_vwrite.specs.Texts.{ranged_text, sample_text, samples_text, reg_text, regs_text, file_text, files_text, front_text, right_text, nodes_text, part_text, parts_text, joined_text, value_text, values_text, fill_text, word_text, words_text, contents_text, fills_text, update_text, updates_text, port_text, ports_text}
 
 pub text_append : (ps qs : List (List ℕ)) → text_of (ps ++ qs) ≡ text_of ps ++ text_of qs
 text_append [] qs = refl

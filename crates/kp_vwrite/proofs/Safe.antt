@@ -5,7 +5,7 @@ use Rattle.kp_net.specs.declared.node.Kind.{Kind}
 use Rattle.kp_net.specs.declared.node.Kind.TheVariants.{Const, Ext, Sample, Reg, Word, Not, Binary, Mux, Concat, Slice}
 use Rattle.kp_net.specs.{declared.node.Node.Node, declared.netlist.NetFile.NetFile, declared.netlist.Parts.Parts, Netlist.Net}
 use Rattle.kp_net.specs.{Widths.wide, Widths.no_node, Widths.KindOk, Parts.NetOk, Parts.CellOk, Parts.FileOk}
-use Rattle.kp_vwrite.specs.inner.Texts.{KindSafe, NodeSafe, AllSafe, FileSafe}
+use Rattle.kp_vwrite.specs.Texts.{KindSafe, NodeSafe, AllSafe, FileSafe}
 
 -- the entry at an index of a list doesn't depend on the default past its end
 pub any_default : {X : Type 0} (xs : List X) (i : ℕ) (d e : X) → i < length xs → get_or xs i d ≡ get_or xs i e

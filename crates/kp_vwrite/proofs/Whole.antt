@@ -3,7 +3,7 @@ use Rattle.std.proofs.Common.{◌≡◌, ◌∙◌, ℕ, ◌-◌, Bool, true, fa
 use Rattle.std.specs.Prelude.{codes, decimal}
 use Rattle.kp_net.specs.{declared.node.Node.Node, declared.netlist.Parts.Parts, Widths.wide, Netlist.Net}
 use Rattle.kp_vlog.specs.Canon.{canon, text_of, header, reset_port, sample_ports, out_ports, reg_lines, file_lines, integer_line, node_lines, out_line, start_lines, fill_lines, update_lines, port_lines, change_lines, reset_lines, body_lines}
-use Rattle.kp_vwrite.specs.inner.Texts.{reset_text, start_text, outputs_text, header_text, outs_text, samples_text, integer_text, changes_text, body_text, whole_text}
+use Rattle.kp_vwrite.specs.Texts.{reset_text, start_text, outputs_text, header_text, outs_text, samples_text, integer_text, changes_text, body_text, whole_text}
 use Rattle.kp_vwrite.proofs.Lines.{text_append, samples_are, regs_are, files_are, nodes_are, starts_are, resets_are, fills_are, updates_are, ports_are}
 
 header_split : (m n c r i x k s o : List ℕ) → m ++ (n ++ (c ++ (r ++ (i ++ (x ++ (k ++ (s ++ o))))))) ≡ (m ++ (n ++ (c ++ (r ++ (i ++ (x ++ (k ++ []))))))) ++ (s ++ o)

@@ -3,7 +3,7 @@ ghost use Rattle.std.specs.Prelude.{◌≡◌, ◌<◌, ◌≤◌, ◌^◌, All,
 ghost use Rattle.kp_net.specs.Widths.{wide};
 ghost use Rattle.kp_net.specs.Parts.{PortOk};
 ghost use Rattle.kp_base.specs.Writer.{Wrote};
-ghost use Rattle.kp_vwrite.specs.inner.Texts.{reset_text, start_text, ranged_text, samples_text, outputs_text, header_text, regs_text, file_text, files_text, integer_text, FileSafe};
+ghost use Rattle.kp_vwrite.specs.Texts.{reset_text, start_text, ranged_text, samples_text, outputs_text, header_text, regs_text, file_text, files_text, integer_text, FileSafe};
 
 use kp_base::{Piece, Sink, Writer};
 use kp_net::{NetFile, NetReg, Netlist, NodeId, Parts, Port};
@@ -123,7 +123,7 @@ pub fn word_count(address_width: u8) -> u32
     1 << address_width
 }
 
-fn write_file<K: Sink>(file: &NetFile, out: &mut Writer<'_, K>)
+pub fn write_file<K: Sink>(file: &NetFile, out: &mut Writer<'_, K>)
     requires { FileSafe file.now }
     ensures { Wrote K.held K.faults out.old out.new (file_text file.now) }
 {
@@ -148,7 +148,7 @@ pub fn write_files<K: Sink>(files: &[NetFile], out: &mut Writer<'_, K>)
     }
 }
 
-#[tactic(auto, using(kp_base::proofs::Writing::wrote_none), unfolding(crate::specs::inner::Texts::integer_text))]
+#[tactic(auto, using(kp_base::proofs::Writing::wrote_none), unfolding(crate::specs::Texts::integer_text))]
 pub fn write_integer<K: Sink>(files: &[NetFile], out: &mut Writer<'_, K>)
     ensures { Wrote K.held K.faults out.old out.new (integer_text files.now) }
 {

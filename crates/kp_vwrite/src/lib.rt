@@ -6,4 +6,7 @@ mod nodes;
 mod state;
 mod writer;
 
+pub use header::{write_file, write_integer, write_regs};
+pub use nodes::write_right;
+pub use state::{write_contents, write_values};
 pub use writer::write_verilog;

@@ -5,7 +5,7 @@ ghost use Rattle.kp_bits.specs.Word.{IsWord, word};
 ghost use Rattle.kp_net.specs.Parts.{no_port, no_reg, no_file};
 ghost use Rattle.kp_vlog.specs.Canon.{sign, wire};
 ghost use Rattle.kp_base.specs.Writer.{Wrote};
-ghost use Rattle.kp_vwrite.specs.inner.Texts.{part_text, right_text, parts_text, joined_text, node_text, nodes_text, outs_text, KindSafe, NodeSafe, AllSafe};
+ghost use Rattle.kp_vwrite.specs.Texts.{part_text, right_text, parts_text, joined_text, node_text, nodes_text, outs_text, KindSafe, NodeSafe, AllSafe};
 
 use kp_base::{Piece, Sink, Writer};
 use kp_bits::{BinOp, Bits};
@@ -106,9 +106,14 @@ fn write_binary<K: Sink>(op: BinOp, a: NodeId, b: NodeId, out: &mut Writer<'_, K
     out.fill(b"n@;\n", &[Piece::Number(u64::from(b.0))])
 }
 
-// The right side of a node's assignment, and the end of the line.
-#[tactic(auto, unfolding(kp_base::specs::Texts::filled, crate::specs::inner::Texts::right_text))]
-fn write_right<'a, K: Sink>(parts: &'a Parts, width: u8, kind: &'a Kind, out: &mut Writer<'_, K>)
+/// Writes the right side of a node's assignment, and the end of the line.
+#[tactic(auto, unfolding(kp_base::specs::Texts::filled, crate::specs::Texts::right_text))]
+pub fn write_right<'a, K: Sink>(
+    parts: &'a Parts,
+    width: u8,
+    kind: &'a Kind,
+    out: &mut Writer<'_, K>,
+)
     requires { KindSafe parts.now width kind.now }
     ensures { Wrote K.held K.faults out.old out.new (right_text parts.now width kind.now) }
 {

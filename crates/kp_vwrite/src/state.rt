@@ -1,7 +1,7 @@
 // The blocks that set the start values of registers and files, and that update them.
 ghost use Rattle.std.specs.Prelude.{◌<◌, ◌≤◌, ◌^◌, All, true};
 ghost use Rattle.kp_base.specs.Writer.{Wrote};
-ghost use Rattle.kp_vwrite.specs.inner.Texts.{value_text, values_text, fill_text, word_text, words_text, contents_text, fills_text, update_text, updates_text, port_text, ports_text, changes_text, body_text, FileSafe};
+ghost use Rattle.kp_vwrite.specs.Texts.{value_text, values_text, fill_text, word_text, words_text, contents_text, fills_text, update_text, updates_text, port_text, ports_text, changes_text, body_text, FileSafe};
 
 use crate::header::word_count;
 use crate::nodes::{word_of, write_literal};
@@ -52,7 +52,7 @@ fn write_fill<K: Sink>(file: &NetFile, out: &mut Writer<'_, K>)
     out.put(b";\n")
 }
 
-#[tactic(auto, using(kp_base::proofs::Writing::wrote_none), unfolding(crate::specs::inner::Texts::word_text))]
+#[tactic(auto, using(kp_base::proofs::Writing::wrote_none), unfolding(crate::specs::Texts::word_text))]
 fn write_word<K: Sink>(name: &[u8], width: u8, address: usize, value: u64, out: &mut Writer<'_, K>)
     requires positive { 1 ≤ width }
     requires at_most { width ≤ 64 }
@@ -82,7 +82,7 @@ fn write_words<K: Sink>(name: &[u8], width: u8, words: &[u64], out: &mut Writer<
     }
 }
 
-fn write_contents<K: Sink>(file: &NetFile, out: &mut Writer<'_, K>)
+pub fn write_contents<K: Sink>(file: &NetFile, out: &mut Writer<'_, K>)
     requires { FileSafe file.now }
     ensures { Wrote K.held K.faults out.old out.new (contents_text file.now) }
 {
@@ -123,7 +123,7 @@ fn write_updates<K: Sink>(margin: &[u8], regs: &[NetReg], out: &mut Writer<'_, K
     }
 }
 
-#[tactic(auto, using(kp_base::proofs::Writing::wrote_none), unfolding(kp_base::specs::Texts::filled, crate::specs::inner::Texts::port_text))]
+#[tactic(auto, using(kp_base::proofs::Writing::wrote_none), unfolding(kp_base::specs::Texts::filled, crate::specs::Texts::port_text))]
 fn write_port<'a, K: Sink>(margin: &'a [u8], file: &'a NetFile, out: &mut Writer<'_, K>)
     ensures { Wrote K.held K.faults out.old out.new (port_text margin.now file.now) }
 {

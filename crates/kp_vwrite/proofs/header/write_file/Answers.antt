@@ -1,5 +1,5 @@
 use Rattle.kp_base.specs.Texts.{filled}
-use Rattle.kp_vwrite.specs.inner.Texts.{file_text}
+use Rattle.kp_vwrite.specs.Texts.{file_text}
 use Rattle.kp_vwrite.proofs.header.write_file.Goals as goal
 
 pub returns : goal.returns

@@ -1,6 +1,6 @@
 use Rattle.std.proofs.Common.{take}
 use Rattle.kp_base.specs.Writer.{Wrote}
-use Rattle.kp_vwrite.specs.inner.Texts.{files_text}
+use Rattle.kp_vwrite.specs.Texts.{files_text}
 use Rattle.kp_vwrite.proofs.header.write_files.Given as goal
 
 abbrev pub invariant-loop-file : goal.invariant-loop-file

@@ -1,6 +1,6 @@
 use Rattle.std.proofs.Common.{take}
 use Rattle.kp_base.specs.Writer.{Wrote}
-use Rattle.kp_vwrite.specs.inner.Texts.{regs_text}
+use Rattle.kp_vwrite.specs.Texts.{regs_text}
 use Rattle.kp_vwrite.proofs.header.write_regs.Given as goal
 
 abbrev pub invariant-loop-reg : goal.invariant-loop-reg

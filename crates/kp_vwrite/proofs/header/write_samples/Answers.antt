@@ -1,5 +1,5 @@
 use Rattle.kp_base.proofs.Writing.{each_more}
-use Rattle.kp_vwrite.specs.inner.Texts.{sample_text}
+use Rattle.kp_vwrite.specs.Texts.{sample_text}
 use Rattle.kp_vwrite.proofs.header.write_samples.Goals as goal
 
 pub loop-port-preserved : goal.loop-port-preserved

@@ -1,6 +1,6 @@
 use Rattle.std.proofs.Common.{take}
 use Rattle.kp_base.specs.Writer.{Wrote}
-use Rattle.kp_vwrite.specs.inner.Texts.{samples_text}
+use Rattle.kp_vwrite.specs.Texts.{samples_text}
 use Rattle.kp_vwrite.proofs.header.write_samples.Given as goal
 
 abbrev pub invariant-loop-port : goal.invariant-loop-port

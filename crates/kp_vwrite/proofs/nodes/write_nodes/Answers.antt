@@ -1,6 +1,6 @@
 use Rattle.std.proofs.{Common.refl, lemmas.List.take_all}
 use Rattle.kp_base.proofs.Writing.{each_at}
-use Rattle.kp_vwrite.{specs.inner.Texts.nodes_text, specs.inner.Texts.node_text, proofs.Safe.safe_at}
+use Rattle.kp_vwrite.{specs.Texts.nodes_text, specs.Texts.node_text, proofs.Safe.safe_at}
 use Rattle.kp_vwrite.proofs.nodes.write_nodes.Goals as goal
 
 pub write_node-requires : goal.write_node-requires

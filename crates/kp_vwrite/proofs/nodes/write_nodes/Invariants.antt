@@ -1,6 +1,6 @@
 use Rattle.std.proofs.Common.{take}
 use Rattle.kp_base.specs.Writer.{Wrote}
-use Rattle.kp_vwrite.specs.inner.Texts.{nodes_text}
+use Rattle.kp_vwrite.specs.Texts.{nodes_text}
 use Rattle.kp_vwrite.proofs.nodes.write_nodes.Given as goal
 
 abbrev pub invariant-loop-number : goal.invariant-loop-number

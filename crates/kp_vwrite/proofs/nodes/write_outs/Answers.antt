@@ -1,5 +1,5 @@
 use Rattle.kp_base.specs.Texts.{filled}
-use Rattle.kp_vwrite.specs.inner.Texts.{outs_text}
+use Rattle.kp_vwrite.specs.Texts.{outs_text}
 use Rattle.kp_vwrite.proofs.nodes.write_outs.Goals as goal
 
 pub returns : goal.returns

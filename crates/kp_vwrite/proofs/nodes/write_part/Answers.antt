@@ -1,5 +1,5 @@
 use Rattle.kp_base.proofs.Writing.{◌▷◌}
-use Rattle.kp_vwrite.specs.inner.Texts.{part_text}
+use Rattle.kp_vwrite.specs.Texts.{part_text}
 use Rattle.kp_vwrite.proofs.nodes.write_part.Goals as goal
 
 pub returns : goal.returns

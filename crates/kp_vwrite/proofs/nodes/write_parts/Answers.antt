@@ -1,5 +1,5 @@
 use Rattle.kp_base.proofs.Writing.{each_more}
-use Rattle.kp_vwrite.{specs.inner.Texts.part_text, proofs.Safe.get_again}
+use Rattle.kp_vwrite.{specs.Texts.part_text, proofs.Safe.get_again}
 use Rattle.kp_vwrite.proofs.nodes.write_parts.Goals as goal
 
 pub loop-part-preserved : goal.loop-part-preserved

@@ -1,6 +1,6 @@
 use Rattle.std.proofs.Common.{take}
 use Rattle.kp_base.specs.Writer.{Wrote}
-use Rattle.kp_vwrite.specs.inner.Texts.{parts_text}
+use Rattle.kp_vwrite.specs.Texts.{parts_text}
 use Rattle.kp_vwrite.proofs.nodes.write_parts.Given as goal
 
 abbrev pub invariant-loop-part : goal.invariant-loop-part

@@ -1,5 +1,5 @@
 use Rattle.kp_base.proofs.Writing.{◌▷◌, wrote_as}
-use Rattle.kp_vwrite.{specs.inner.Texts.right_text, proofs.Lines.concat_is}
+use Rattle.kp_vwrite.{specs.Texts.right_text, proofs.Lines.concat_is}
 use Rattle.kp_vwrite.proofs.nodes.write_right.Goals as goal
 
 pub returns-in-Const : goal.returns-in-Const

@@ -1,5 +1,5 @@
 use Rattle.kp_base.specs.Texts.{filled}
-use Rattle.kp_vwrite.specs.inner.Texts.{port_text}
+use Rattle.kp_vwrite.specs.Texts.{port_text}
 use Rattle.kp_vwrite.proofs.state.write_port.Goals as goal
 
 pub returns-in-Some : goal.returns-in-Some

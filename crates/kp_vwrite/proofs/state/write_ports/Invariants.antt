@@ -1,6 +1,6 @@
 use Rattle.std.proofs.Common.{take}
 use Rattle.kp_base.specs.Writer.{Wrote}
-use Rattle.kp_vwrite.specs.inner.Texts.{ports_text}
+use Rattle.kp_vwrite.specs.Texts.{ports_text}
 use Rattle.kp_vwrite.proofs.state.write_ports.Given as goal
 
 abbrev pub invariant-loop-file : goal.invariant-loop-file

@@ -1,5 +1,5 @@
 use Rattle.kp_base.specs.Texts.{filled}
-use Rattle.kp_vwrite.specs.inner.Texts.{update_text}
+use Rattle.kp_vwrite.specs.Texts.{update_text}
 use Rattle.kp_vwrite.proofs.state.write_update.Goals as goal
 
 pub returns : goal.returns

@@ -1,7 +1,7 @@
 use Rattle.std.proofs.Common.{append_assoc, append-nil}
 use Rattle.kp_base.specs.Texts.{filled}
 use Rattle.kp_base.proofs.Writing.{◌▷◌, wrote_as}
-use Rattle.kp_vwrite.specs.inner.Texts.{value_text}
+use Rattle.kp_vwrite.specs.Texts.{value_text}
 use Rattle.kp_vwrite.proofs.state.write_value.Goals as goal
 
 pub returns : goal.returns

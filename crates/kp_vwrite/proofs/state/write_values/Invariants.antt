@@ -1,6 +1,6 @@
 use Rattle.std.proofs.Common.{take}
 use Rattle.kp_base.specs.Writer.{Wrote}
-use Rattle.kp_vwrite.specs.inner.Texts.{values_text}
+use Rattle.kp_vwrite.specs.Texts.{values_text}
 use Rattle.kp_vwrite.proofs.state.write_values.Given as goal
 
 abbrev pub invariant-loop-reg : goal.invariant-loop-reg

@@ -1,6 +1,6 @@
 use Rattle.std.proofs.{Common.refl, lemmas.List.take_all}
 use Rattle.kp_base.proofs.Writing.{each_at}
-use Rattle.kp_vwrite.{specs.inner.Texts.words_text, specs.inner.Texts.word_text, proofs.Safe.get_again}
+use Rattle.kp_vwrite.{specs.Texts.words_text, specs.Texts.word_text, proofs.Safe.get_again}
 use Rattle.kp_vwrite.proofs.state.write_words.Goals as goal
 
 pub loop-address-preserved : goal.loop-address-preserved

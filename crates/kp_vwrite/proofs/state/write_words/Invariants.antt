@@ -1,6 +1,6 @@
 use Rattle.std.proofs.Common.{take}
 use Rattle.kp_base.specs.Writer.{Wrote}
-use Rattle.kp_vwrite.specs.inner.Texts.{words_text}
+use Rattle.kp_vwrite.specs.Texts.{words_text}
 use Rattle.kp_vwrite.proofs.state.write_words.Given as goal
 
 abbrev pub invariant-loop-address : goal.invariant-loop-address
