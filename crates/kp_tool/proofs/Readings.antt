@@ -9,7 +9,7 @@ use Rattle.kp_net.specs.Netlist.{Net}
 use Rattle.kp_vlog.specs.declared.{front.Front.Front, tree.VModule.VModule}
 use Rattle.kp_vlog.specs.Tokens.{Token, Lexes, at_end, past, token, LexesTo, here, past_gap, past_token}
 use Rattle.kp_vlog.specs.Language.{Sym, Value, verilog, rules, MODULE, PORT, STALLS, ITEMS, DECLARED, INITS, UPDATES}
-use Rattle.kp_vlog.specs.{inner.Follow.tables, inner.Kinds.front_of, Rules.Fault, Rules.broken, Denote.net_of, Denote.IsModule, Denote.Denotes}
+use Rattle.kp_vlog.specs.{inner.Follow.tables, Kinds.front_of, Rules.Fault, Rules.broken, Denote.net_of, Denote.IsModule, Denote.Denotes}
 use Rattle.kp_vlog.specs.{Verdict.Breaks, Verdict.no_token, Verdict.wrong_token, Verdict.broken_rule, Verdict.refusal_of, Fronts.seen, Fronts.Fits}
 use Rattle.kp_vlog.proofs.{Fronts.seen_front, Fronts.fits_front, Predictive.is_predictive}
 use Rattle.kp_vlog.specs.declared.front.Front.TheVariants as fronts

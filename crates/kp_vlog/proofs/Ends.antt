@@ -3,7 +3,7 @@ use Rattle.std.proofs.Common.{ℕ, zero, suc, Bool, true, false, ◌+◌, ◌≤
 use Rattle.std.proofs.lemmas.Bool.{false≢true}
 use Rattle.kp_vlog.specs.declared.{front.Front.Front as Reported, token.Keyword.Keyword}
 use Rattle.kp_vlog.specs.Tokens.{Word, keyword, Front, front, finish, skips, takes, broken}
-use Rattle.kp_vlog.{specs.inner.Kinds.front_of, specs.Fronts.seen, specs.Fronts.Fits, proofs.Fronts.seen_front, proofs.Fronts.fits_front}
+use Rattle.kp_vlog.{specs.Kinds.front_of, specs.Fronts.seen, specs.Fronts.Fits, proofs.Fronts.seen_front, proofs.Fronts.fits_front}
 use Rattle.kp_vlog.specs.inner.Leads.{closes_module, is_endmodule}
 use Rattle.kp_vlog.specs.Splitting.{FirstEnds, closes, over, faulty, past_gap, past_token}
 use Rattle.kp_vlog.specs.declared.front.Front.TheVariants as reported

@@ -7,7 +7,7 @@ use Rattle.kp_base.specs.Characters.{is_letter, is_digit, run_length}
 use Rattle.kp_vlog.specs.declared.{front.Front.Front, token.Keyword.Keyword, token.Mark.Mark}
 use Rattle.kp_vlog.specs.Words.{keyword_of, single_mark, double_mark}
 use Rattle.kp_vlog.specs.{Tokens.is_layout, Tokens.is_in_line, Tokens.is_in_run, Tokens.begins_with, Tokens.one_more, Tokens.to_close, Fronts.seen, Fronts.Fits}
-use Rattle.kp_vlog.specs.inner.Kinds.{kind_or_name, identifier, literal_kind, number_kind, number_run, comment, mark_kind, mark_or_shorter, mark, front_of}
+use Rattle.kp_vlog.specs.Kinds.{kind_or_name, identifier, literal_kind, number_kind, number_run, comment, mark_kind, mark_or_shorter, mark, front_of}
 use Rattle.kp_vlog.specs.declared.front.Front.TheVariants as fronts
 use Rattle.kp_vlog.specs.declared.front.TokenFault.TheVariants as faults
 use Rattle.kp_vlog.specs.Tokens as tokens

@@ -1,5 +1,6 @@
 pub mod Words
 pub mod Tokens
+pub mod Kinds
 pub mod Language
 pub mod Scope
 pub mod Occurrences

@@ -1,4 +1,3 @@
 -- For private contracts and proofs of this crate and of the parser's: no public clause depends on it.
-pub mod Kinds
 pub mod Follow
 pub mod Leads

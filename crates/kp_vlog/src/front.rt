@@ -7,7 +7,7 @@ ghost use Rattle.kp_vlog.specs.Words.{spelling, keyword_of, single_mark, double_
 ghost use Rattle.kp_vlog.specs.Tokens.{is_layout, is_in_line, is_in_run, begins_with, to_close, front};
 ghost use Rattle.kp_vlog.specs.Fronts.{seen, Fits};
 ghost use Rattle.kp_base.specs.Characters.{run_length};
-ghost use Rattle.kp_vlog.specs.inner.Kinds.{identifier, number_run, comment, mark, token, front_of};
+ghost use Rattle.kp_vlog.specs.Kinds.{identifier, number_run, comment, mark, token, front_of};
 
 use crate::{Keyword, Mark, VKind};
 use kp_base::{is_digit, is_letter, is_word, run_length};
