@@ -1,10 +1,10 @@
 #!/usr/bin/env python3
 """docs/PROVED.md, which is made from the sources: python3 checks/proved.py compares it with them, python3 checks/proved.py --write writes it.
 
-For each crate that has laws or a top call, in the order of crates.txt but the top calls first: the clauses of its top call but those that all of them have, with
-the comments above them, and its laws: the public functions that return and change nothing, whose contracts state a theorem. A law has the first sentence of its
-comment, or two where that is a title. Of a crate whose laws only proofs of others cite the page has the name alone, and of the laws in a file of examples
-their number. A comment that several laws of a crate have is printed once.
+For each crate that has laws or a top call, in the order of crates.txt but the top calls first: the clauses of its top call, with the comments above those that not
+all of them have, and its laws: the public functions that return and change nothing, whose contracts state a theorem. A law has the first sentence of its comment,
+without what explains it after a colon, and the next one where that is a title. Examples and the laws on processors have the name alone, and machines with worked
+runs their number. Crates whose laws only proofs of others cite are left out. A comment that several laws of a crate have is printed once.
 """
 import os
 import re
@@ -19,30 +19,31 @@ SHARED = {"due", "unread", "read_fault", "write_fault", "no_memory", "statuses",
 # Crates whose laws are steps in the proofs of others; docs/PARSING.md has those of kp_grammar.
 STEPS = """kp_base kp_bits kp_grammar kp_region kp_ast kp_lex kp_parse kp_view_expected kp_described kp_width kp_stage kp_machine kp_plain kp_isa_rv kp_isa_rvm
 kp_isa_dlx kp_isa_dlx5 kp_isa kp_isa_six kp_seq kp_net kp_sched kp_synth_next kp_cycle kp_image kp_gen kp_run kp_vread kp_view_excerpt""".split()
+# Laws of other crates that are such steps.
+STEP_LAWS = {"one_row_more_counts", "taken_of_a_longer_run_agrees", "to_reset_leads_to_the_last_reset", "the_statements_of_a_stage_join_it_to_the_next"}
 HEAD = """# What is proved, crate by crate
 
-Made from the comments of the sources by `python3 checks/proved.py --write`. [README.md](../README.md) has the main promises, [BELIEVE.md](BELIEVE.md) the definitions
-that one has to read to believe them, [ARCHITECTURE.md](ARCHITECTURE.md) what each crate is.
+Made from the comments of the sources by `python3 checks/proved.py --write`. [README.md](../README.md) has the main promises, [BELIEVE.md](BELIEVE.md) the
+definitions that one has to read to believe them.
 
-A promise is a clause of the contract of a top call. A law is a public function that returns and changes nothing, whose contract states the theorem: a line here is
-the first sentence of its comment. Every other public function has a contract too, beside its code. Every function is also proved to return, with no index out of
+A promise is a clause of the contract of a top call. A law is a public function that does nothing, whose contract is the theorem: a line is the claim of its comment.
+Laws that are steps of other proofs are left out. Every public function has a contract, beside its code, and every function is proved to return, with no index out of
 bounds, no overflow and no failed `unwrap`.
 
-A *row* is the record of one cycle: the full bits, the update enables and the rollback. A netlist *shows* a machine if its runs have the rows and the visible values of that machine.
+A *row* is the record of one cycle: full bits, update enables, rollback. A netlist *shows* a machine if its runs have that machine's rows and visible values.
 
-Clauses of these names say the same of each top call that has them:
+Top calls have these clauses:
 
-- `due`: any status but 3 (fault of the source), 4 (fault of a sink) and 5 (out of memory) is the specified one, and the specified text for all bytes that were left in the
-  source was written.
-- `complete`: if the bytes of the source are known and nothing failed, the outcome is the specified one, in full, unless out of memory.
-- `read_fault`, `write_fault`, `no_memory`: status 3 or 4 only if the source or a sink failed in this call, and 5 only with nothing written.
+- `due`: any status but 3 (fault of the source), 4 (fault of a sink) and 5 (out of memory) is the specified one, with the specified text for all bytes that were left
+  in the source.
+- `complete`: if the bytes of the source are known and nothing failed, that is the outcome, unless out of memory.
+- `read_fault`, `write_fault`, `no_memory`: 3 or 4 only if the source or a sink failed in this call, and 5 only with nothing written.
 - `unread`: what reads nothing leaves the source unchanged.
 - `statuses`: a bound of the status.
 """
-STEPS_HEAD = """
-## Laws that are steps of other proofs
-
-They are in `src/` of"""
+# The files of laws on processors, and the word in the names of examples, which have the name alone.
+PROCESSORS, EXAMPLES = "processors.rt", "examples"
+OPENING = re.compile(r"(?:For|In|So|No|As|Whether)\b")
 FUNCTION = re.compile(r"^pub fn (\w+)", re.M)
 CLAUSE = re.compile(r"^    ensures (\w+) \{")
 WIDTH = 160
@@ -104,24 +105,33 @@ def clauses(text, at):
 
 
 def first_sentence(text):
-    """The first sentence, and the next one where it is a title."""
+    """The first sentence; the next one where it is a short title, and both where it is a long one. What is after a colon only explains a complete claim."""
     first, *others = re.split(r"(?<=\.)\s+(?=[A-Z`])", text)
-    return first if len(first.split()) > 14 or not others else f"{first} {others[0]}"
+    words = len(first.split())
+    said = first if words > 14 or not others else others[0] if words < 7 else f"{first} {others[0]}"
+    claim = said.split(": ")[0]
+    return said if claim == said or len(claim.split()) < 5 or OPENING.match(claim) else f"{claim}."
 
 
 def laws(crate):
-    """What is said of the laws of the crate, each with the names of the laws that have these words; and the names of those that are examples."""
-    said, examples = {}, []
+    """What is said of the laws of the crate, each with the names of the laws that have these words; and the names of those that have no words, by what they are."""
+    said, named = {}, {}
     for name, text in files_of(crate):
         for found in FUNCTION.finditer(text):
             signature = re.compile(r"^    (?:requires|ensures)\b|^\{", re.M).split(text[found.end() :], maxsplit=1)[0]
             comment = sentence(comment_above(text, found.start()))
             states = text[found.end() + len(signature) :].startswith(("    requires", "    ensures"))
-            if comment and states and "->" not in signature and "&mut" not in signature:
-                words = first_sentence(comment)
-                names = examples if name.endswith("examples.rt") else said.setdefault(words, [])
+            if comment and states and found[1] not in STEP_LAWS and "->" not in signature and "&mut" not in signature:
+                if name == PROCESSORS:
+                    names = named.setdefault("A processor executes its instruction set ([RISCV.md](RISCV.md#what-is-proved-of-this-processor))", [])
+                elif name.endswith("examples.rt"):
+                    names = named.setdefault("", [])
+                elif EXAMPLES in found[1]:
+                    names = named.setdefault("Examples", [])
+                else:
+                    names = said.setdefault(first_sentence(comment), [])
                 names += [found[1]] if found[1] not in names else []
-    return said, examples
+    return said, named
 
 
 def quoted(names):
@@ -129,7 +139,7 @@ def quoted(names):
 
 
 def part(crate):
-    said, examples = laws(crate)
+    said, named = laws(crate)
     if crate not in CALLS and not said:
         return
     yield f"\n## {crate}\n"
@@ -137,18 +147,16 @@ def part(crate):
         for name, text in files_of(crate):
             found = re.search(rf"^pub fn {CALLS[crate]}\b", text, re.M)
             if found:
-                yield wrapped(f"**`{CALLS[crate]}`**: {first_sentence(sentence(comment_above(text, found.start())))}") + "\n"
                 said_here = clauses(text, found.start())
-                for words, names in said_here:
-                    if not SHARED.issuperset(names):
-                        yield wrapped(f"- {quoted(names)}: {words}", "", "  ")
                 shared = [it for _, names in said_here if SHARED.issuperset(names) for it in names]
-                if shared:
-                    yield wrapped(f"- As above: {quoted(shared)}.", "", "  ")
+                own = [(words, names) for words, names in said_here if not SHARED.issuperset(names)]
+                after = f" {quoted(shared)}{', and' if own else '.'}" if shared else ""
+                yield wrapped(f"Clauses of `{CALLS[crate]}`:{after}") + "\n"
+                yield from (wrapped(f"- {quoted(names)}: {words}", "", "  ") for words, names in own)
                 yield ""
     yield from (wrapped(f"- {quoted(names)}: {words}", "", "  ") for words, names in said.items())
-    if examples:
-        yield wrapped(f"- Of machines with worked runs, in `src/examples.rt`: {len(examples)}.", "", "  ")
+    for words, names in named.items():
+        yield wrapped(f"- {words}: {quoted(names)}." if words else f"- Machines with worked runs, in `src/examples.rt`: {len(names)}.", "", "  ")
     yield ""
 
 
@@ -156,9 +164,7 @@ def page():
     with open(f"{TOP}/crates.txt", encoding="utf-8") as it:
         order = [line.split(":")[0].split()[0] for line in it if line.strip() and not line.startswith("#")]
     crates = [*CALLS, *(it for it in order if it not in CALLS)]
-    text = "\n".join(
-        [HEAD, *(line for it in crates if it not in STEPS for line in part(it)), wrapped(f"{', '.join(it for it in crates if it in STEPS)}.", f"{STEPS_HEAD} ")]
-    )
+    text = "\n".join([HEAD, *(line for it in crates if it not in STEPS for line in part(it))])
     return re.sub(r"\n{3,}", "\n\n", text).rstrip("\n") + "\n"
 
 

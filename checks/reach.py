@@ -2,7 +2,7 @@
 """Which definitions a statement reaches.
 
     python3 checks/reach.py                    compares docs/BELIEVE.md with the sources
-    python3 checks/reach.py --write            writes the numbers of lines into docs/BELIEVE.md
+    python3 checks/reach.py --write            writes the numbers of lines into docs/BELIEVE.md, those of rows and `N lines in part P` of its text
     python3 checks/reach.py --list [ROOT ..]   the definitions of specs/ that the roots name, directly or through others: for each file how many
                                                of its lines these have, without comments and blank lines, and their names
 
@@ -26,6 +26,7 @@ NAME = re.compile(r"[A-Za-z_][\w'\-]*(?:\.\w+)?|[^\s\w(){}\[\],;.'\"◌]+")
 CLAUSE = re.compile(r"^\s*(?:requires|ensures)\s*(\w*)\s*\{", re.M)
 REACH = re.compile(r"<!-- reach: (.*?) -->")
 ROW = re.compile(r"^\| (.*?) \| ([\d,]+) \| ")
+SUM = re.compile(r"[\d,]+( lines in parts? (\d+)(?: (?:to|and) (\d+))?)")
 FILES = re.compile(r"(kp_\w+)|`(\w+)`")
 
 
@@ -160,6 +161,16 @@ def modules_of(cell):
     return modules
 
 
+def summed(lines):
+    """The lines of the page, where the sums of the rows of its parts are right."""
+    sizes, part = {}, 0
+    for line in lines:
+        part = int(line[3:].split(".")[0]) if line.startswith("## ") else part
+        row = ROW.match(line)
+        sizes[part] = sizes.get(part, 0) + (int(row[2].replace(",", "")) if row else 0)
+    return [SUM.sub(lambda it: f"{sum(sizes[part] for part in range(int(it[2]), int(it[3] or it[2]) + 1)):,}{it[1]}", line) for line in lines]
+
+
 def page(found, write):
     """Compares the rows of the page with the sources, and returns its text with the right numbers."""
     with open(PAGE, encoding="utf-8") as it:
@@ -197,9 +208,11 @@ def page(found, write):
             rows[number] = (row[1], modules_of(row[1]), int(row[2].replace(",", "")))
     if rows:
         end_part()
+    right = summed(lines)
+    wrong += [f"a sum of lines is wrong: {line}" for line, it in zip(lines, right) if line != it]
     if write:
         with open(PAGE, "w", encoding="utf-8") as it:
-            it.write("\n".join(lines))
+            it.write("\n".join(right))
     return wrong
 
 

@@ -1,9 +1,10 @@
 #!/usr/bin/env python3
 """Where each rule is decided: python3 checks/rules.py
 
-Prints, for each rule of descriptions (E), Verilog texts (V), assembler programs (A) and lines of ports (P) and each warning (W), the ways to violate it and the
-functions that find them. A way is a variant of an enum with its facts, whose `rule` or `number` returns the number of the rule, or a call as `Refusal::e(4, ..)`.
-The status is 1 where a rule's ways are found in a crate that the list below doesn't name for it, or where a message names a way that nobody finds.
+Prints for each rule of descriptions (E), directives (D), Verilog texts (V), assembler programs (A), lines of ports (P) and of expectations (X), and each warning
+(W), the function that decides it, and below it the ways to violate it, each with the functions that find it. A way is a variant of an enum with its facts, whose
+`rule` or `number` returns the number of the rule, or whose comment has it, or a call as `Refusal::e(4, ..)`, but in a function `refusal`. The status is 1 where a way is found in a crate that
+the lists below don't name for its rule, or by a function that the one which decides neither calls nor is called by, directly or through others, or nowhere.
 """
 import os
 import re
@@ -11,13 +12,70 @@ import sys
 
 TOP = os.path.dirname(os.path.dirname(os.path.abspath(__file__)))
 # The enums of the ways, and the letter of their rules.
-ENUMS = {"WidthFault": "E", "StageFault": "E", "SectionFault": "E", "ScriptFault": "E", "ProgramFault": "A", "PortRule": "P"}
-# Those of a Verilog module, whose rule is that of the enum.
-MODULE = {"NameFault": "V3", "WidthFault": "V4", "DriverFault": "V5"}
+ENUMS = {
+    "TokenFault": "E",
+    "WidthFault": "E",
+    "StageFault": "E",
+    "SectionFault": "E",
+    "ScriptFault": "E",
+    "ProgramFault": "A",
+    "DirectiveFault": "D",
+    "PortRule": "P",
+    "LineRule": "X",
+    "Lint": "W",
+}
+# Those whose comments have the rules, with their files.
+COMMENTED = {"Lint": "kp_lint/src/lint.rt", "LineRule": "kp_until/src/expected.rt"}
+# The function that decides a rule: it calls those that find the ways, or its callers name the ways.
+DECIDES = {
+    "A1": "kp_asm read_front",
+    "A3": "kp_asm broken_operand",
+    "A4": "kp_asm broken_operand",
+    "A5": "kp_asm broken_operand",
+    "A6": "kp_asm add_word",
+    "D1": "kp_directive broken_in",
+    "D2": "kp_directive names_broken",
+    "D3": "kp_diagram_labels label_named",
+    "D4": "kp_until read_expected",
+    "E1": "kp_lex read_front",
+    "E2": "kp_lex read_front",
+    "E3": "kp_base read_all",
+    "E4": "kp_parse parse",
+    "E27": "kp_parse parse",
+    "E30": "kp_image of_entry",
+    "E31": "kp_image of_entry",
+    "E36": "kp_image of_input",
+    "E38": "kp_timing untimed",
+    "V1": "kp_vlog read_front",
+    "V2": "kp_vread_parse vparse",
+    "V6": "kp_vread first_mismatch",
+}
+# The pass of a crate, which decides a rule whose ways several functions find.
+PASSES = {
+    "kp_asm": "read_program",
+    "kp_core_ports": "port_in",
+    "kp_debug_script": "command_in",
+    "kp_directive": "stage_names",
+    "kp_image": "section_findings",
+    "kp_lint": "lints",
+    "kp_stage": "stage_findings",
+    "kp_until": "read_expected",
+    "kp_vread_rules": "module_findings",
+    "kp_width": "width_findings",
+}
+# Those of a Verilog text, whose rule is that of the enum.
+VERILOG = {
+    ("kp_vlog", "TokenFault"): "V1",
+    ("kp_vread_rules", "NameFault"): "V3",
+    ("kp_vread_rules", "WidthFault"): "V4",
+    ("kp_vread_rules", "DriverFault"): "V5",
+    ("kp_vread", "Mismatch"): "V6",
+}
 # E8, E10 and E13 are rules of each literal: of those of expressions, and of those of sections.
 TWICE = {"E8", "E10", "E13"}
-# The end of a text is checked where its job is judged, and its size where it is read: each command has the line for both.
-SHARED = {"E3", "E4"}
+# The end of a text is checked where its job is judged (`tail` of kp_lex), and its size where it is read: each command has the line for both. kpview names a word
+# that is no label.
+SHARED = {"E3", "E4", "D3"}
 PATTERN = re.compile(r"\s*(?:=>|\||if\b|=[^=])")
 
 
@@ -50,7 +108,7 @@ def numbers(texts):
     """The rule of each way."""
     found = {}
     for crate, text in texts:
-        for enum, rule in MODULE.items() if crate == "kp_vread_rules" else []:
+        for (_, enum), rule in (it for it in VERILOG.items() if it[0][0] == crate):
             for body in re.findall(r"pub enum %s \{\n(.*?)^\}" % enum, text, re.M | re.S):
                 found.update({(crate, enum, way): rule for way in re.findall(r"^    (\w+)", body, re.M)})
         for enum, letter in ENUMS.items():
@@ -58,6 +116,24 @@ def numbers(texts):
                 for _, body in (it for it in functions(text) if it[0] in ("rule", "number")):
                     for ways, number in re.findall(r"((?:\|?\s*(?:%s|Self)::\w+(?:\s*\{[^}]*\}|\([^)]*\))?\s*)+)=>\s*(\d+)" % enum, body):
                         found.update({(crate, enum, way): f"{letter}{number}" for way in re.findall(r"::(\w+)", ways)})
+    for enum, path in COMMENTED.items():
+        with open(f"{TOP}/crates/{path}", encoding="utf-8") as it:
+            body = re.search(r"pub enum %s \{\n(.*?)^\}" % enum, it.read(), re.M | re.S)[1]
+        rule = ""
+        for number, way in re.findall(r"^    /// ([WX]\d+):|^    (\w+)", body, re.M):
+            rule = number or rule
+            found.update({(path.split("/")[0], enum, way): rule} if way else {})
+    return found
+
+
+def reached(calls, start):
+    """The functions that a function calls, directly or through others, and itself."""
+    found, left = set(), [start]
+    while left:
+        name = left.pop()
+        if name not in found:
+            found.add(name)
+            left += calls.get(name, ())
     return found
 
 
@@ -67,9 +143,9 @@ def main():
     homes, unfound = {}, {(enum, way) for _, enum, way in rules}
     for crate, text in texts:
         for name, body in functions(text):
-            for letter, number in re.findall(r"Refusal::([eva])\((\d+),", body) + [("e", it) for it in re.findall(r"Front::Broken\((\d)\)", body)]:
+            for letter, number in re.findall(r"Refusal::([eva])\((\d+),", body) if name != "refusal" else []:
                 homes.setdefault(f"{letter.upper()}{number}", {}).setdefault((crate, "-"), set()).add(name)
-            for it in re.finditer(r"\b(%s)::([A-Z]\w+)" % "|".join({**ENUMS, **MODULE}), body):
+            for it in re.finditer(r"\b(%s)::([A-Z]\w+)" % "|".join({*ENUMS, *(enum for _, enum in VERILOG)}), body):
                 at = it.end() + len(re.match(r"\s*", body[it.end() :]).group())
                 end = closed(body, at) if body[at : at + 1] in ("{", "(") else it.end()
                 found = [rules[key] for key in rules if key[1:] == it.groups() and (key[0] == crate or crate.startswith("kp_view"))]
@@ -77,14 +153,29 @@ def main():
                 if found and not is_pattern:
                     homes.setdefault(found[0], {}).setdefault((crate, it.group(2)), set()).add(name)
                     unfound.discard(it.groups())
+    calls = {}
+    for crate, text in texts:
+        for name, body in functions(text):
+            calls.setdefault(crate, {}).setdefault(name, set()).update(re.findall(r"\w+", body))
+    calls = {crate: {name: called & names.keys() for name, called in names.items()} for crate, names in calls.items()}
+    homes.update({rule: homes.get(rule, {}) for rule in DECIDES})
     wrong = 0
     for rule in sorted(homes, key=lambda r: (r[0], int(r[1:]))):
-        crates = {crate for crate, _ in homes[rule]}
+        crates = sorted({crate for crate, _ in homes[rule]} - ({"kp_view"} if rule in SHARED else set()))
+        for crate in [DECIDES[rule].split()[0]] if rule in DECIDES else crates:
+            names = {name for (it, _), finders in homes[rule].items() if it == crate for name in finders}
+            by = DECIDES[rule].split()[1] if rule in DECIDES else min(names) if len(names) == 1 else PASSES.get(crate, "")
+            print(f"{rule:4} {crate} {by}")
+            called = reached(calls[crate], by)
+            lost = {it for it in [PASSES.get(crate, by)] if by not in reached(calls[crate], it)} | {it for it in names - called if by not in reached(calls[crate], it)}
+            if by not in calls[crate] or lost:
+                wrong += 1
+                print(f"{rule}: {by} of {crate} isn't there, or has nothing to do with {', '.join(sorted(lost))}")
         for (crate, way), names in sorted(homes[rule].items()):
-            print(f"{rule:4} {way:16} {crate}: {', '.join(sorted(names))}")
+            print(f"       {way:16} {crate}: {', '.join(sorted(names))}")
         if len(crates) > 1 + (rule in TWICE) and rule not in SHARED:
             wrong += 1
-            print(f"{rule} is found by {', '.join(sorted(crates))}")
+            print(f"{rule} is found by {', '.join(crates)}")
     for enum, way in sorted(unfound):
         wrong += 1
         print(f"{enum}::{way} is found nowhere")
