@@ -1,10 +1,10 @@
 // A line of a text, with a mark under some of its bytes.
-ghost use Rattle.std.specs.Prelude.{◌≡◌, ◌-◌, ◌≤◌, ◌++◌, OnOk, length, map};
+ghost use Rattle.std.specs.Prelude.{◌≡◌, ◌-◌, ◌≤◌, ◌++◌, OnOk, length, map, min};
 ghost use Rattle.kp_view_excerpt.specs.Excerpts.{IsExcerpt, bar, blanks, caret_text, carets, excerpt_text, help_text, is_first, printed, source_text, where_cut};
 ghost use Rattle.kp_view_excerpt.specs.Lines.{from_place, line_at};
 ghost use Rattle.kp_view_excerpt.specs.Tokens.{token_length};
 
-use crate::place::{line_at, token_length};
+use crate::place::{line_at, line_from, token_length};
 use itoa::Buffer;
 use kp_base::{NoMemory, Place};
 
@@ -41,20 +41,7 @@ impl<'t> Excerpt<'t> {
         ensures after { length result.after.now ≤ 200 }
         ensures shows { IsExcerpt result place.line (line_at text.now place.line) (place.col - 1) (token_length (from_place text.now place)) }
     {
-        let line = line_at(text, place.line);
-        let column = (place.col.saturating_sub(1) as usize).min(line.len());
-        let (before, from) = line.split_at(column);
-        let (_, before) = before.split_at(before.len().saturating_sub(BEFORE));
-        let (marked, after) = from.split_at(token_length(from).min(MARKED));
-        let (after, rest) = after.split_at(AFTER.min(after.len()));
-        Excerpt {
-            line: place.line,
-            begins_late: before.len() < column,
-            before,
-            marked,
-            after,
-            ends_early: !rest.is_empty(),
-        }
+        excerpt_at(text, place, token_length(line_from(text, place)))
     }
 
     /// Appends the excerpt: an empty line, the line, and a line with carets.
@@ -108,6 +95,30 @@ impl<'t> Excerpt<'t> {
         out.extend_from_slice(help.as_bytes())?;
         out.push(b'\n')?;
         Ok(())
+    }
+}
+
+/// The excerpt at a place of a text, with a mark under this many bytes: as far as the line goes, and at most 100.
+pub fn excerpt_at<'t>(text: &'t [u8], place: Place, count: usize) -> Excerpt<'t>
+    ensures line { result.line ≡ place.line }
+    ensures before { length result.before.now ≤ 400 }
+    ensures marked { length result.marked.now ≤ min count 100 }
+    ensures after { length result.after.now ≤ 200 }
+    ensures shows { IsExcerpt result place.line (line_at text.now place.line) (place.col - 1) count }
+{
+    let line = line_at(text, place.line);
+    let column = (place.col.saturating_sub(1) as usize).min(line.len());
+    let (before, from) = line.split_at(column);
+    let (_, before) = before.split_at(before.len().saturating_sub(BEFORE));
+    let (marked, after) = from.split_at(from.len().min(count).min(MARKED));
+    let (after, rest) = after.split_at(AFTER.min(after.len()));
+    Excerpt {
+        line: place.line,
+        begins_late: before.len() < column,
+        before,
+        marked,
+        after,
+        ends_early: !rest.is_empty(),
     }
 }
 

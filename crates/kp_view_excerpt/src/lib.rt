@@ -8,6 +8,6 @@ pub mod laws;
 mod note;
 mod place;
 
-pub use excerpt::Excerpt;
-pub use note::{excerpt_at, write_fault};
+pub use excerpt::{Excerpt, excerpt_at};
+pub use note::write_fault;
 pub use place::{line_from, offset_of, token_at};

@@ -1,7 +1,6 @@
 // Classes of tokens.
-ghost use Rattle.std.specs.Prelude.{◌≡◌, ◌==◌};
+ghost use Rattle.std.specs.Prelude.{◌≡◌};
 ghost use Rattle.kp_view_expected.specs.GoesOn.{all_classes, class_of};
-ghost use Rattle.kp_parse_grammar.specs.Tokens.{keyword_class, mark_class};
 ghost use Rattle.kp_view_expected.specs.inner.Plain.{number};
 
 use crate::part::CLASSES;
@@ -45,29 +44,11 @@ impl Class for TokenClass {
 
     fn is(self, other: TokenClass) -> bool {
         match self {
-            TokenClass::Keyword(keyword) => is_keyword(other, keyword),
-            TokenClass::Mark(mark) => is_mark(other, mark),
+            TokenClass::Keyword(keyword) => matches!(other, TokenClass::Keyword(k) if k == keyword),
+            TokenClass::Mark(mark) => matches!(other, TokenClass::Mark(m) if m == mark),
             TokenClass::Name => matches!(other, TokenClass::Name),
             TokenClass::Number => matches!(other, TokenClass::Number),
             TokenClass::Literal => matches!(other, TokenClass::Literal),
         }
-    }
-}
-
-fn is_keyword(class: TokenClass, keyword: Keyword) -> bool
-    ensures { result ≡ (number class == keyword_class keyword) }
-{
-    match class {
-        TokenClass::Keyword(k) => k == keyword,
-        _ => false,
-    }
-}
-
-fn is_mark(class: TokenClass, mark: Mark) -> bool
-    ensures { result ≡ (number class == mark_class mark) }
-{
-    match class {
-        TokenClass::Mark(m) => m == mark,
-        _ => false,
     }
 }

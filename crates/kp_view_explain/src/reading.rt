@@ -155,7 +155,7 @@ fn found<'t>(kind: TokenKind, word: Word<'t>) -> FoundToken<'t>
     }
 }
 
-// How these tokens end: as those of `reg X : 8 =`, as those of `a[`, or otherwise.
+// How these tokens end: as those of `reg X : 8 =`, as those of `a[`, with `&` or `|`, or otherwise.
 fn end_of(tokens: &[Token]) -> Before {
     let [.., before, last] = tokens else {
         return Before::Other;
@@ -167,6 +167,8 @@ fn end_of(tokens: &[Token]) -> Before {
         (TokenKind::Ident | TokenKind::Mark(_), TokenKind::Mark(Mark::OpenBracket)) => {
             Before::Sliced
         }
+        (_, TokenKind::Mark(Mark::Ampersand)) => Before::And,
+        (_, TokenKind::Mark(Mark::Bar)) => Before::Or,
         _ => Before::Other,
     }
 }

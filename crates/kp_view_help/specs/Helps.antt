@@ -10,12 +10,15 @@ use Rattle.kp_view_help.specs.declared.found.FoundToken.TheVariants as tokens
 use Rattle.kp_view_help.specs.declared.help.Help.TheVariants as help
 use Rattle.kp_view_help.specs.declared.allowed.Before.TheVariants as before
 
--- `!`, `>`, `#` and `/` of other languages; the first byte of a byte order mark, and of typographic quotes and dashes
+-- `!`, `>`, `#`, `/`, `%` and `$` of other languages; `'` of a literal without a width; the first byte of a byte order mark, and of typographic quotes and dashes
 abbrev pub byte_help : ℕ → Option Help
 byte_help byte =
     if byte == 33 then Some help.NotEqual
     else if byte == 62 then Some help.Greater
     else if byte == 35 || byte == 47 then Some help.Comment
+    else if byte == 37 then Some help.Remainder
+    else if byte == 36 then Some help.Dollar
+    else if byte == 39 then Some help.NoWidth
     else if byte == 226 then Some help.Typographic
     else if byte == 239 then Some help.ByteOrderMark
     else None
@@ -36,20 +39,32 @@ Describes e a =
     × (IsTrue a.stage ↔ Lists e (classes.Keyword keywords.Stage))
     × (IsTrue a.end ↔ Lists e (classes.Keyword keywords.End))
 
--- in the place of a value: `<=`, `&&` and `||` have a second mark there
-abbrev pub value_help : List ℕ → Option Help
-value_help mark =
+abbrev pub is_and : Before → Bool
+is_and before.And = true
+is_and _ = false
+
+abbrev pub is_or : Before → Bool
+is_or before.Or = true
+is_or _ = false
+
+abbrev pub reduction : Bool → Help
+reduction doubled = if doubled then help.OneMark else help.Reduction
+
+-- in the place of a value: `<=`, `&&` and `||` have a second mark there, and a reduction, as `|a`, begins with one
+abbrev pub value_help : List ℕ → Before → Option Help
+value_help mark b =
     if bytes_eq mark (codes "=") then Some help.NotGreater
-    else if bytes_eq mark (codes "&") || bytes_eq mark (codes "|") then Some help.OneMark
+    else if bytes_eq mark (codes "&") then Some (reduction (is_and b))
+    else if bytes_eq mark (codes "|") then Some (reduction (is_or b))
     else None
 
 -- the marks that go on with a condition
 abbrev pub goes_on : List ℕ → Bool
 goes_on mark = bytes_eq mark (codes "==") || (bytes_eq mark (codes "<") || (bytes_eq mark (codes "&") || (bytes_eq mark (codes "|") || (bytes_eq mark (codes "^") || bytes_eq mark (codes "[")))))
 
-abbrev pub mark_help : Allowed → Word → Option Help
-mark_help a w =
-    if a.value then value_help w.0.now
+abbrev pub mark_help : Allowed → Word → Before → Option Help
+mark_help a w b =
+    if a.value then value_help w.0.now b
     else if a.operator then (if bytes_eq w.0.now (codes "=") then Some help.Equal else None)
     else if a.bracket && bytes_eq w.0.now (codes "[") then Some help.AddressInPipe
     else if a.at && goes_on w.0.now then Some help.EnableInPipe
@@ -79,16 +94,19 @@ number_help value (before.Width width) w = help.NumberAsValue w width
 number_help true _ w = help.NumberInValue w
 number_help false _ w = help.NumberAsWord w
 
--- a name in the place of a number: of a slice, or elsewhere
-abbrev pub name_help : Before → Word → Help
-name_help before.Sliced w = help.NameAsNumber w
-name_help _ w = help.Digits
+-- a name in the place of a number: of a slice, or elsewhere; and in that of a statement
+abbrev pub name_as_number : Before → Word → Help
+name_as_number before.Sliced w = help.NameAsNumber w
+name_as_number _ w = help.Digits
+
+abbrev pub name_help : Allowed → Before → Word → Option Help
+name_help a b w = if a.number then Some (name_as_number b w) else if a.statement then Some (help.GiveValue w) else None
 
 abbrev pub token_help : Allowed → Before → FoundToken → Option Help
 token_help a b (tokens.Number w) = if a.literal then Some (number_help a.value b w) else None
-token_help a b (tokens.Mark w) = mark_help a w
+token_help a b (tokens.Mark w) = mark_help a w b
 token_help a b (tokens.Keyword w) = keyword_help a w
-token_help a b (tokens.Name w) = if a.number then Some (name_help b w) else None
+token_help a b (tokens.Name w) = name_help a b w
 token_help a b _ = None
 
 -- the token, what may be there, and what is before

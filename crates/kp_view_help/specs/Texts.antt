@@ -3,7 +3,6 @@ use Rattle.std.specs.Prelude.{ℕ, List, ◌++◌, Bool, true, false, ◌&&◌, 
 use Rattle.std.specs.Char.{encode_utf8}
 use Rattle.kp_ast.specs.declared.widths.NameKind.{NameKind}
 use Rattle.kp_ast.specs.declared.widths.NameKind.TheVariants as names
-use Rattle.kp_view_expected.specs.Texts.{class_text}
 use Rattle.kp_view_help.specs.declared.{word.Word.Word, found.FoundToken.FoundToken, kind.Kind.Kind, kind.Wanted.Wanted, phrase.Term.Term}
 use Rattle.kp_view_help.specs.declared.found.FoundToken.TheVariants as tokens
 use Rattle.kp_view_help.specs.declared.kind.Kind.TheVariants as kinds
@@ -67,18 +66,10 @@ wanted_text wanted.Function = codes "a function"
 abbrev pub byte_text : ℕ → List ℕ
 byte_text byte = if nat_lt 32 byte && nat_lt byte 127 then codes "`" ++ encode_utf8 byte ++ codes "`" else codes "the byte " ++ decimal byte
 
--- a name, the line of its declaration, and its width
-abbrev pub sized_text : Word → ℕ → ℕ → List ℕ
-sized_text w line bits = codes "`" ++ word_text w ++ codes "` (line " ++ decimal line ++ codes ") has " ++ bits_text bits
-
 abbrev pub term_text : Term → List ℕ
 term_text (term.Number n) = decimal n
 term_text (term.Bits count) = bits_text count
 term_text (term.Word w) = word_text w
-term_text (term.Sized w line bits) = sized_text w line bits
 term_text (term.Kind k) = kind_text k
 term_text (term.Wanted w) = wanted_text w
-term_text (term.Class c) = class_text c
-term_text (term.Found t) = found_text t
-term_text (term.Byte byte) = byte_text byte
 term_text (term.Text text) = text.now

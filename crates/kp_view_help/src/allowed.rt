@@ -1,6 +1,6 @@
 // What helps at a token that can't be there.
 ghost use Rattle.std.specs.Prelude.{◌≡◌, ◌||◌};
-ghost use Rattle.kp_view_help.specs.Helps.{begins_section, byte_help, declares, Describes, goes_on, HelpsAt, keyword_help, mark_help, number_help, token_help, value_help};
+ghost use Rattle.kp_view_help.specs.Helps.{begins_section, byte_help, declares, Describes, goes_on, HelpsAt, keyword_help, mark_help, number_help, reduction, token_help, value_help};
 
 use crate::found::FoundToken;
 use crate::help::Help;
@@ -15,6 +15,10 @@ pub enum Before {
     Width(u64),
     /// A value, and the opening bracket of a slice of it.
     Sliced,
+    /// `&`
+    And,
+    /// `|`
+    Or,
     Other,
 }
 
@@ -65,12 +69,13 @@ impl Allowed {
     {
         match found {
             FoundToken::Number(word) if self.literal => Some(self.number_help(word, before)),
-            FoundToken::Mark(word) => self.mark_help(word),
+            FoundToken::Mark(word) => self.mark_help(word, before),
             FoundToken::Keyword(word) => self.keyword_help(word),
             FoundToken::Name(word) if self.number => Some(match before {
                 Before::Sliced => Help::NameAsNumber(word),
                 _ => Help::Digits,
             }),
+            FoundToken::Name(word) if self.statement => Some(Help::GiveValue(word)),
             _ => None,
         }
     }
@@ -85,12 +90,12 @@ impl Allowed {
         }
     }
 
-    fn mark_help<'t>(self, word: Word<'t>) -> Option<Help<'t>>
-        ensures { result ≡ mark_help self word.entry }
+    fn mark_help<'t>(self, word: Word<'t>, before: Before) -> Option<Help<'t>>
+        ensures { result ≡ mark_help self word.entry before }
     {
         let mark = word.0;
         if self.value {
-            value_help(mark)
+            value_help(mark, before)
         } else if self.operator {
             if mark == b"=".as_slice() {
                 Some(Help::Equal)
@@ -131,15 +136,28 @@ impl Allowed {
 }
 
 // In the place of a value.
-fn value_help<'t>(mark: &[u8]) -> Option<Help<'t>>
-    ensures { result ≡ value_help mark.now }
+fn value_help<'t>(mark: &[u8], before: Before) -> Option<Help<'t>>
+    ensures { result ≡ value_help mark.now before }
 {
     if mark == b"=".as_slice() {
         Some(Help::NotGreater)
-    } else if mark == b"&".as_slice() || mark == b"|".as_slice() {
-        Some(Help::OneMark)
+    } else if mark == b"&".as_slice() {
+        Some(reduction(matches!(before, Before::And)))
+    } else if mark == b"|".as_slice() {
+        Some(reduction(matches!(before, Before::Or)))
     } else {
         None
+    }
+}
+
+// At `&` or `|`, after the same mark or not.
+fn reduction<'t>(doubled: bool) -> Help<'t>
+    ensures { result ≡ reduction doubled }
+{
+    if doubled {
+        Help::OneMark
+    } else {
+        Help::Reduction
     }
 }
 
@@ -182,6 +200,9 @@ impl<'t> Help<'t> {
             b'!' => Some(Help::NotEqual),
             b'>' => Some(Help::Greater),
             b'#' | b'/' => Some(Help::Comment),
+            b'%' => Some(Help::Remainder),
+            b'$' => Some(Help::Dollar),
+            b'\'' => Some(Help::NoWidth),
             226 => Some(Help::Typographic),
             239 => Some(Help::ByteOrderMark),
             _ => None,

@@ -2,6 +2,7 @@
 ghost use Rattle.kp_view_help.specs.Helps.{IsHelpForWords};
 
 use crate::phrase::{Term, Terms, write_phrase};
+use crate::phrases;
 use crate::word::Word;
 use std::fmt;
 
@@ -18,8 +19,16 @@ pub enum Help<'t> {
     Equal,
     /// `&&` and `||`.
     OneMark,
+    /// `&` or `|` in front of a value.
+    Reduction,
     /// `#` and `/`.
     Comment,
+    /// `%`
+    Remainder,
+    /// `$`
+    Dollar,
+    /// `'`
+    NoWidth,
     Typographic,
     ByteOrderMark,
     /// A number in the place of a literal, and the width that is declared for it.
@@ -33,6 +42,8 @@ pub enum Help<'t> {
     /// In the place of another number.
     Digits,
     KeywordAsName(Word<'t>),
+    /// A name in the place of a statement.
+    GiveValue(Word<'t>),
     /// An expression in the place of a name.
     NameAlone,
     /// `]` is wanted in a result's address.
@@ -71,6 +82,8 @@ pub enum Help<'t> {
     LiteralBits(u64),
     Extend(u64),
     Cut(u64),
+    /// The pipe of a result's address, and the width that the address has.
+    AddressPipe(Word<'t>, u8),
     Compare,
     AddressWords {
         words: u64,
@@ -119,202 +132,104 @@ impl<'t> Help<'t> {
         }
         None
     }
-
-    // The line, up to the numbers of lines that some end with.
-    fn text(&self) -> &'static str {
-        match self {
-            Help::NotEqual => "for `a != b` write `~(a == b)`, and for `!x` of 1 bit `~x`",
-            Help::Greater => "for `a > b` write `b < a`, and for `a >= b` write `~(a < b)`",
-            Help::NotGreater => "the comparisons are `==` and `<`: for `a <= b` write `~(b < a)`",
-            Help::Equal => "values are compared by `==`",
-            Help::OneMark =>
-                "a condition has 1 bit: for `a && b` write `a & b`, and for `a || b` write `a | b`",
-            Help::Comment => "a comment begins with `//` and ends with its line",
-            Help::Typographic =>
-                "a typographic quote, dash or arrow begins with it: write `'`, `-` or `->`",
-            Help::ByteOrderMark =>
-                "a byte order mark at the beginning of a file begins with it: save the file as UTF-8 without one",
-            Help::NumberAsValue(_, _) => "a value is written with its width: for {}, `{}'d{}`",
-            Help::NumberInValue(_) =>
-                "a value is written with its width: `w'd{}` for w bits; n copies of a bit b are `sext(b, n)`",
-            Help::NumberAsWord(_) =>
-                "a value is written with its width: `w'd{}`, where w is the declared width",
-            Help::NameAsNumber(_) =>
-                "a number is written in digits; bit {} of a value a is `(a >> {})[0]`, and a word of a file M is read by a statement first: `read x = M[{}];`",
-            Help::Digits => "a number is written in digits",
-            Help::KeywordAsName(_) => "`{}` is a word of the language, and no name: choose another",
-            Help::NameAlone =>
-                "only a name can be here: the enable of a result is a pipe of 1 bit that an earlier stage `put`s, and `let` names the value of an expression",
-            Help::AddressInPipe =>
-                "a result is written at the address in a pipe: declare `pipe AD : w;`, `put` it in an earlier stage, and write `[AD]`",
-            Help::EnableInPipe =>
-                "an enable is the name of a pipe: declare `pipe E : 1;`, `put` the condition into it in an earlier stage, and write `when E`",
-            Help::WhenBeforeAt => "`when` stands before `at`: `-> X when W at 3;`",
-            Help::WhenOfSet =>
-                "only `set` and `read` have a condition: elsewhere choose between two values, `c ? a : b`",
-            Help::DeclaredFirst => "declarations come before `stage 0`",
-            Help::SectionsLast =>
-                "`image`, `stalls` and `inputs` come after the last stage, in this order",
-            Help::PipeIsPut => "`read` and `let` name a new value; a pipe gets its value by `put`",
-            Help::MoveUp => "a name is declared before it is used: move the declaration up",
-            Help::OwnDefinition =>
-                "a definition can't use the name that it defines: another name is meant, or its declaration is missing",
-            Help::OtherCase(_) => "`{}` is declared: capital and small letters differ",
-            Help::HeldBy(_) => "the pipe `{}` holds it: use `{}`",
-            Help::KnownThere(_) =>
-                "a name that `read` or `let` defines is known only in its own stage, here stage {}",
-            Help::ThroughPipe { width: Some(_), .. } =>
-                "a later stage sees it through a pipe: declare `pipe P : {};`, write `put P = {};` in stage {}, and use `P`",
-            Help::ThroughPipe { width: None, .. } =>
-                "a later stage sees it through a pipe: declare `pipe P : w;`, write `put P = {};` in stage {}, and use `P`",
-            Help::ReadRegister(_) => "a register is read by a statement first: `read x = {};`",
-            Help::ReadFile(_) => "a file is read by a statement first: `read x = {}[..];`",
-            Help::WritePut(_) => "a pipe gets its value by `put {} = ..;`",
-            Help::WriteSet(_) => "a result gets its value by `set {} = ..;`",
-            Help::WriteAim(_) => "a hint gets its value by `aim {} = ..;`",
-            Help::SetItsResult(_) =>
-                "a register changes by its result: `result C : w -> {} at k;` and `set C = ..;`",
-            Help::WithAddress(_) => "write `{}[..]`",
-            Help::WithNumber(_) => "write `{}[0] = ..;` for the words from address 0 on",
-            Help::Literal(_, _) => "give the literal {} bits: `{}'d{}`",
-            Help::LiteralBits(_) => "it needs {} bits: `{}'d{}`",
-            Help::Extend(_) => "widen it by `zext(.., {})`, or `sext(.., {})` for a signed number",
-            Help::Cut(_) => "cut it by a slice: `(..)[{}:0]`",
-            Help::Compare => "compare it, as `x == 8'h00`, or take a bit, as `x[0]`",
-            Help::AddressWords { .. } =>
-                "the number is the width of an address: for {} words write `[{}]`",
-            Help::EmptyStage(_) => "an empty stage is written too: `stage {} {}`",
-            Help::PutIt(_) =>
-                "write `put {} = ..;` in the stage that computes it, or remove the declaration",
-            Help::OnePut =>
-                "a pipe has one value for an instruction, given in one stage; for a value that a later stage changes take a second pipe",
-            Help::SameStage(_) => "in stage {} use the value itself",
-            Help::ReadEarlier =>
-                "read it earlier and pass it on in a pipe, or write its result in a later stage",
-            Help::PutBefore =>
-                "the address and the enable of a result are put at least one stage before `at`",
-            Help::WriteLater { .. } => "write `at {}` in line {}, or set it by stage {}",
-            Help::OneSet(_) =>
-                "write one `set` with a choice: `set {} = c ? a : b;`, and where both have a condition `set {} = c ? a : b when c | d;`",
-            Help::OneAim(_) => "write one `aim` with a choice: `aim {} = c ? a : b;`",
-            Help::OneResult(_) =>
-                "a register or a file has one result: choose between the values, `set {} = c ? a : b;`, or set it in several stages by `when`",
-            Help::NotWritten =>
-                "an instruction that may be squashed must not have written: choose a later stage",
-            Help::NotSampled =>
-                "an instruction that may be squashed must not have taken a sample: choose a later stage",
-            Help::NamePart => "name a part of it by `let`",
-            Help::SamplePipe => "pass it on in a pipe, or change its `at`",
-            Help::SetOnlyIn { .. } => "`{}` is set only where",
-            Help::EnableIt { file: false, .. } =>
-                "to leave `{}` as it is, give the result an enable: declare `pipe E : 1;` before it, `put` it in an earlier stage, and write `-> {} when E at {};`",
-            Help::EnableIt { file: true, .. } =>
-                "to leave `{}` as it is, give the result an enable: declare `pipe E : 1;` before it, `put` it in an earlier stage, and write `-> {}[A] when E at {};`",
-            Help::FirstCounts =>
-                "the first `set` that takes place counts: give that one a condition, `set .. when ..;`",
-        }
-    }
-
-    // The terms of the line. A term for which it has no place isn't written.
-    fn terms(&self) -> Terms<'t> {
-        match self {
-            Help::NumberInValue(name)
-            | Help::NumberAsWord(name)
-            | Help::NameAsNumber(name)
-            | Help::KeywordAsName(name)
-            | Help::OtherCase(name)
-            | Help::HeldBy(name)
-            | Help::ReadRegister(name)
-            | Help::ReadFile(name)
-            | Help::WritePut(name)
-            | Help::WriteSet(name)
-            | Help::WriteAim(name)
-            | Help::SetItsResult(name)
-            | Help::WithAddress(name)
-            | Help::WithNumber(name)
-            | Help::PutIt(name)
-            | Help::OneAim(name)
-            | Help::OneSet(name)
-            | Help::OneResult(name)
-            | Help::SetOnlyIn { name, .. } => {
-                let word = Term::Word(*name);
-                Terms::Three(word, word, word)
-            }
-            Help::KnownThere(stage) | Help::EmptyStage(stage) | Help::SameStage(stage) => {
-                Terms::Two(Term::Number(*stage as u64), Term::Text("{ }"))
-            }
-            _ => self.other_terms(),
-        }
-    }
-
-    // The terms of a line with numbers of bits, with addresses or with several facts.
-    fn other_terms(&self) -> Terms<'t> {
-        match self {
-            Help::NumberAsValue(word, width) => {
-                Terms::Three(Term::Bits(*width), Term::Number(*width), Term::Word(*word))
-            }
-            Help::ThroughPipe { name, stage, width } => through_pipe(*name, *stage, *width),
-            Help::Literal(width, value) => of_literal(*width, *value),
-            Help::LiteralBits(value) => of_literal((64 - value.leading_zeros()) as u64, *value),
-            Help::Extend(width) => Terms::Two(Term::Number(*width), Term::Number(*width)),
-            Help::Cut(width) => Terms::One(Term::Number(width.saturating_sub(1))),
-            Help::AddressWords { words, bits } => {
-                Terms::Two(Term::Number(*words), Term::Number(*bits as u64))
-            }
-            Help::WriteLater { line, stage, write } => Terms::Three(
-                Term::Number(*stage as u64),
-                Term::Number(*line as u64),
-                Term::Number(*write),
-            ),
-            Help::EnableIt { target, stage, .. } => Terms::Three(
-                Term::Word(*target),
-                Term::Word(*target),
-                Term::Number(*stage),
-            ),
-            _ => Terms::None,
-        }
-    }
-}
-
-fn through_pipe(name: Word<'_>, stage: usize, width: Option<u8>) -> Terms<'_> {
-    let (name, stage) = (Term::Word(name), Term::Number(stage as u64));
-    match width {
-        Some(width) => Terms::Three(Term::Number(width as u64), name, stage),
-        None => Terms::Two(name, stage),
-    }
-}
-
-// A number of bits, and the literal of this width and this value.
-fn of_literal<'t>(width: u64, value: u64) -> Terms<'t> {
-    Terms::Three(
-        Term::Number(width),
-        Term::Number(width),
-        Term::Number(value),
-    )
 }
 
 impl<'t> fmt::Display for Help<'t> {
     fn fmt<W: fmt::Write>(&self, f: &mut fmt::Formatter<W>) -> fmt::Result {
-        write_phrase(f, self.text(), &self.terms())?;
+        phrases!(f, self, {
+            Help::NotEqual => "for `a != b` write `~(a == b)`, and for `!x` of 1 bit `~x`",
+            Help::Greater => "for `a > b` write `b < a`, and for `a >= b` write `~(a < b)`",
+            Help::NotGreater => "the comparisons are `==` and `<`: for `a <= b` write `~(b < a)`",
+            Help::Equal => "values are compared by `==`",
+            Help::OneMark => "a condition has 1 bit: for `a && b` write `a & b`, and for `a || b` write `a | b`",
+            Help::Reduction => "for `|a` of 8 bits write `~(a == 8'h00)`, and for `&a` write `a == 8'hff`",
+            Help::Comment => "a comment begins with `//` and ends with its line",
+            Help::Remainder => "there is no division: for `a % 8` write the low bits, `a[2:0]`",
+            Help::Dollar => "a name has letters, digits and `_`; a signed number is widened by `sext(a, 16)`",
+            Help::NoWidth => "a literal has its width before the `'`: `8'h01`",
+            Help::Typographic => "a typographic quote, dash or arrow begins with it: write `'`, `-` or `->`",
+            Help::ByteOrderMark => "a byte order mark at the beginning of a file begins with it: save the file as UTF-8 without one",
+            Help::NumberAsValue(word, width) => "a value is written with its width: for {}, `{}'d{}`" [Term::Bits(*width), Term::Number(*width), Term::Word(*word)],
+            Help::NumberInValue(word) => "a value is written with its width: `w'd{}` for w bits; n copies of a bit b are `sext(b, n)`" [Term::Word(*word)],
+            Help::NumberAsWord(word) => "a value is written with its width: `w'd{}`, where w is the declared width" [Term::Word(*word)],
+            Help::NameAsNumber(name) => "a number is written in digits; bit {} of a value a is `(a >> {})[0]`, and a word of a file M is read by a statement first: `read x = M[{}];`" [Term::Word(*name), Term::Word(*name), Term::Word(*name)],
+            Help::Digits => "a number is written in digits",
+            Help::KeywordAsName(word) => "`{}` is a word of the language, and no name: choose another" [Term::Word(*word)],
+            Help::GiveValue(name) => "a new name gets its value by `let {} = ..;`, a pipe by `put {} = ..;`, and a result by `set {} = ..;`" [Term::Word(*name), Term::Word(*name), Term::Word(*name)],
+            Help::NameAlone => "only a name can be here: the enable of a result is a pipe of 1 bit that an earlier stage `put`s, and `let` names the value of an expression",
+            Help::AddressInPipe => "a result is written at the address in a pipe: declare `pipe AD : w;`, `put` it in an earlier stage, and write `[AD]`",
+            Help::EnableInPipe => "an enable is the name of a pipe: declare `pipe E : 1;`, `put` the condition into it in an earlier stage, and write `when E`",
+            Help::WhenBeforeAt => "`when` stands before `at`: `-> X when W at 3;`",
+            Help::WhenOfSet => "only `set` and `read` have a condition: elsewhere choose between two values, `c ? a : b`",
+            Help::DeclaredFirst => "declarations come before `stage 0`",
+            Help::SectionsLast => "`image`, `stalls` and `inputs` come after the last stage, in this order",
+            Help::PipeIsPut => "`read` and `let` name a new value; a pipe gets its value by `put`",
+            Help::MoveUp => "a name is declared before it is used: move the declaration up",
+            Help::OwnDefinition => "a definition can't use the name that it defines: another name is meant, or its declaration is missing",
+            Help::OtherCase(name) => "`{}` is declared: capital and small letters differ" [Term::Word(*name)],
+            Help::HeldBy(pipe) => "the pipe `{}` holds it: use `{}`" [Term::Word(*pipe), Term::Word(*pipe)],
+            Help::KnownThere(stage) => "a name that `read` or `let` defines is known only in its own stage, here stage {}" [Term::Number(*stage as u64)],
+            Help::ThroughPipe { name, stage, width: Some(width) } => "a later stage sees it through a pipe: declare `pipe P : {};`, write `put P = {};` in stage {}, and use `P`" [Term::Number(u64::from(*width)), Term::Word(*name), Term::Number(*stage as u64)],
+            Help::ThroughPipe { name, stage, width: None } => "a later stage sees it through a pipe: declare `pipe P : w;`, write `put P = {};` in stage {}, and use `P`" [Term::Word(*name), Term::Number(*stage as u64)],
+            Help::ReadRegister(name) => "a register is read by a statement first: `read x = {};`" [Term::Word(*name)],
+            Help::ReadFile(name) => "a file is read by a statement first: `read x = {}[..];`" [Term::Word(*name)],
+            Help::WritePut(name) => "a pipe gets its value by `put {} = ..;`" [Term::Word(*name)],
+            Help::WriteSet(name) => "a result gets its value by `set {} = ..;`" [Term::Word(*name)],
+            Help::WriteAim(name) => "a hint gets its value by `aim {} = ..;`" [Term::Word(*name)],
+            Help::SetItsResult(name) => "a register changes by its result: `result C : w -> {} at k;` and `set C = ..;`" [Term::Word(*name)],
+            Help::WithAddress(name) => "write `{}[..]`" [Term::Word(*name)],
+            Help::WithNumber(name) => "write `{}[0] = ..;` for the words from address 0 on" [Term::Word(*name)],
+            Help::Literal(width, value) => "give the literal {} bits: `{}'d{}`" [Term::Number(*width), Term::Number(*width), Term::Number(*value)],
+            Help::LiteralBits(value) => "it needs {} bits: `{}'d{}`" [Term::Number(u64::from(bits_of(*value))), Term::Number(u64::from(bits_of(*value))), Term::Number(*value)],
+            Help::Extend(width) => "widen it by `zext(.., {})`, or `sext(.., {})` for a signed number" [Term::Number(*width), Term::Number(*width)],
+            Help::Cut(width) => "cut it by a slice: `(..)[{}:0]`" [Term::Number(width.saturating_sub(1))],
+            Help::AddressPipe(pipe, width) => "an address is put into a pipe of that width: declare `pipe {} : {};`, or another pipe" [Term::Word(*pipe), Term::Number(u64::from(*width))],
+            Help::Compare => "compare it, as `x == 8'h00`, or take a bit, as `x[0]`",
+            Help::AddressWords { words, bits } => "the number is the width of an address: for {} words write `[{}]`" [Term::Number(*words), Term::Number(u64::from(*bits))],
+            Help::EmptyStage(stage) => "an empty stage is written too: `stage {} {}`" [Term::Number(*stage as u64), Term::Text("{ }")],
+            Help::PutIt(name) => "write `put {} = ..;` in the stage that computes it, or remove the declaration" [Term::Word(*name)],
+            Help::OnePut => "a pipe has one value for an instruction, given in one stage; for a value that a later stage changes take a second pipe",
+            Help::SameStage(stage) => "in stage {} use the value itself" [Term::Number(*stage as u64)],
+            Help::ReadEarlier => "read it earlier and pass it on in a pipe, or write its result in a later stage",
+            Help::PutBefore => "the address and the enable of a result are put at least one stage before `at`",
+            Help::WriteLater { line, stage, write } => "write `at {}` in line {}, or set it by stage {}" [Term::Number(*stage as u64), Term::Number(u64::from(*line)), Term::Number(*write)],
+            Help::OneSet(name) => "write one `set` with a choice: `set {} = c ? a : b;`, and where both have a condition `set {} = c ? a : b when c | d;`" [Term::Word(*name), Term::Word(*name)],
+            Help::OneAim(name) => "write one `aim` with a choice: `aim {} = c ? a : b;`" [Term::Word(*name)],
+            Help::OneResult(name) => "a register or a file has one result: choose between the values, `set {} = c ? a : b;`, or set it in several stages by `when`" [Term::Word(*name)],
+            Help::NotWritten => "an instruction that may be squashed must not have written: choose a later stage",
+            Help::NotSampled => "an instruction that may be squashed must not have taken a sample: choose a later stage",
+            Help::NamePart => "name a part of it by `let`",
+            Help::SamplePipe => "pass it on in a pipe, or change its `at`",
+            Help::SetOnlyIn { name, .. } => "`{}` is set only where" [Term::Word(*name)],
+            Help::EnableIt { target, stage, file: false } => "to leave `{}` as it is, give the result an enable: declare `pipe E : 1;` before it, `put` it in an earlier stage, and write `-> {} when E at {};`" [Term::Word(*target), Term::Word(*target), Term::Number(*stage)],
+            Help::EnableIt { target, stage, file: true } => "to leave `{}` as it is, give the result an enable: declare `pipe E : 1;` before it, `put` it in an earlier stage, and write `-> {}[A] when E at {};`" [Term::Word(*target), Term::Word(*target), Term::Number(*stage)],
+            Help::FirstCounts => "the first `set` that takes place counts: give that one a condition, `set .. when ..;`",
+        })?;
         match self {
-            Help::SetOnlyIn { lines, .. } => write_lines(f, lines),
+            Help::SetOnlyIn { lines, .. } => Lines(lines).fmt(f),
             _ => Ok(()),
         }
     }
 }
 
-// Some of these lines: ` line 3 or line 5 says so`.
-fn write_lines<W: fmt::Write>(f: &mut fmt::Formatter<W>, lines: &[Option<u32>; 4]) -> fmt::Result {
-    let mut before = " line ";
-    for line in lines {
-        if let Some(line) = line {
-            write_line(f, before, *line)?;
-            before = " or line ";
-        }
-    }
-    f.write_str(" says so")
+// The number of bits that a number needs.
+fn bits_of(value: u64) -> u32 {
+    64 - value.leading_zeros()
 }
 
-fn write_line<W: fmt::Write>(f: &mut fmt::Formatter<W>, before: &str, line: u32) -> fmt::Result {
-    write!(f, "{before}{line}")
+// Some of these lines: ` line 3 or line 5 says so`.
+#[derive(Clone, Copy)]
+struct Lines<'h>(&'h [Option<u32>; 4]);
+
+impl<'h> fmt::Display for Lines<'h> {
+    fn fmt<W: fmt::Write>(&self, f: &mut fmt::Formatter<W>) -> fmt::Result {
+        let mut before = " line ";
+        for line in self.0 {
+            if let Some(line) = line {
+                write!(f, "{before}{line}")?;
+                before = " or line ";
+            }
+        }
+        f.write_str(" says so")
+    }
 }

@@ -8,6 +8,7 @@ mod found;
 mod help;
 mod kind;
 mod phrase;
+mod table;
 mod word;
 
 pub use allowed::Before;
@@ -15,4 +16,4 @@ pub use found::FoundToken;
 pub use help::Help;
 pub use kind::{Kind, Wanted};
 pub use phrase::{Line, Term, Terms, write_phrase};
-pub use word::{Bits, Word};
+pub use word::{Bits, Byte, Word};

@@ -1,16 +1,14 @@
 // Sentences with terms in them.
 ghost use Rattle.std.specs.Prelude.{◌≡◌, [], Some, slice_index_or};
 ghost use Rattle.std.specs.Fmt.{WritesOnOk};
-ghost use Rattle.kp_view_help.specs.Texts.{byte_text, sized_text, term_text};
+ghost use Rattle.kp_view_help.specs.Texts.{term_text};
 ghost use Rattle.kp_view_help.specs.Phrases.{phrase_text, printed, terms_texts};
 ghost use Rattle.kp_view_help.specs.declared.phrase.Term.TheVariants as term_as;
 ghost use Rattle.kp_view_help.specs.declared.phrase.Terms.TheVariants as terms_as;
 ghost use Rattle.kp_view_help.specs.inner.Terms.{IsTermAt};
 
-use crate::found::FoundToken;
 use crate::kind::{Kind, Wanted};
 use crate::word::{Bits, Word};
-use kp_view_expected::TokenClass;
 use std::fmt::{self, Display};
 
 /// A term of a sentence.
@@ -20,18 +18,8 @@ pub enum Term<'t> {
     /// A number of bits: `1 bit`, `8 bits`.
     Bits(u64),
     Word(Word<'t>),
-    /// A name with the line of its declaration and its width.
-    Sized {
-        name: Word<'t>,
-        line: u64,
-        bits: u64,
-    },
     Kind(Kind),
     Wanted(Wanted),
-    Class(TokenClass),
-    Found(FoundToken<'t>),
-    /// The first byte of what is no token.
-    Byte(u8),
     Text(&'t str),
 }
 
@@ -43,38 +31,10 @@ impl<'t> Display for Term<'t> {
             Term::Number(number) => number.fmt(f),
             Term::Bits(count) => Bits(*count).fmt(f),
             Term::Word(word) => word.fmt(f),
-            Term::Sized { name, line, bits } => write_sized(f, *name, *line, Bits(*bits)),
             Term::Kind(kind) => kind.fmt(f),
             Term::Wanted(wanted) => wanted.fmt(f),
-            Term::Class(class) => class.fmt(f),
-            Term::Found(found) => found.fmt(f),
-            Term::Byte(byte) => write_byte(f, *byte),
             Term::Text(text) => f.write_str(text),
         }
-    }
-}
-
-// A name, the line of its declaration, and its width.
-fn write_sized<W: fmt::Write>(
-    f: &mut fmt::Formatter<W>,
-    name: Word<'_>,
-    line: u64,
-    bits: Bits,
-) -> fmt::Result
-    ensures { WritesOnOk W.write_str_gives f.old result (sized_text name.entry line bits.0) f.new }
-{
-    write!(f, "`{name}` (line {line}) has {bits}")
-}
-
-// A byte, as the character that it is, or as its number where that isn't printed.
-fn write_byte<W: fmt::Write>(f: &mut fmt::Formatter<W>, byte: u8) -> fmt::Result
-    ensures { WritesOnOk W.write_str_gives f.old result (byte_text byte) f.new }
-{
-    let shown = char::from(byte);
-    if byte > 32 && byte < 127 {
-        write!(f, "`{shown}`")
-    } else {
-        write!(f, "the byte {byte}")
     }
 }
 

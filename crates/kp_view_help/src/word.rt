@@ -2,7 +2,7 @@
 ghost use Rattle.std.specs.Prelude.{◌≡◌, flat_map, Some};
 ghost use Rattle.std.specs.Char.{encode_utf8};
 ghost use Rattle.std.specs.Fmt.{WritesOnOk};
-ghost use Rattle.kp_view_help.specs.Texts.{bits_text, word_text};
+ghost use Rattle.kp_view_help.specs.Texts.{bits_text, byte_text, word_text};
 
 use kp_ast::Name;
 use std::fmt;
@@ -61,6 +61,24 @@ impl fmt::Display for Bits {
             f.write_str("1 bit")
         } else {
             write!(f, "{count} bits")
+        }
+    }
+}
+
+/// The first byte of what is no token: the character that it is, or its number where that isn't printed.
+#[derive(Clone, Copy)]
+pub struct Byte(pub u8);
+
+impl fmt::Display for Byte {
+    ghost output = { λ byte. Some (byte_text byte.0) };
+
+    fn fmt<W: fmt::Write>(&self, f: &mut fmt::Formatter<W>) -> fmt::Result {
+        let byte = self.0;
+        let shown = char::from(byte);
+        if byte > 32 && byte < 127 {
+            write!(f, "`{shown}`")
+        } else {
+            write!(f, "the byte {byte}")
         }
     }
 }

@@ -5,6 +5,7 @@ use Rattle.kp_base.specs.declared.place.Place.{Place}
 use Rattle.kp_bits.specs.{Literals.literal_of, declared.literal.Literal.Literal, declared.literal.LiteralFault.LiteralFault}
 use Rattle.kp_ast.specs.{Expressions.is_same_name, declared.tree.Decl.Decl, declared.tree.Stmt.Stmt, declared.tree.StmtKind.StmtKind}
 use Rattle.kp_ast.specs.declared.tree.{Block.Block, Job.Job, Named.Named}
+use Rattle.kp_ast.specs.declared.tree.Decl.TheVariants as decls
 use Rattle.kp_ast.specs.declared.tree.StmtKind.TheVariants as stmts
 use Rattle.kp_ast.specs.declared.widths.Scope.{Scope}
 use Rattle.kp_ast.specs.declared.widths.Scope.TheVariants as scopes
@@ -18,6 +19,15 @@ if_read (Err fault) = None
 -- the literal at a place
 abbrev pub literal_at : List ℕ → Place → Option Literal
 literal_at text at = if_read (literal_of (token_at text at))
+
+-- a declaration has an address at this place: that of a result, which is a pipe
+abbrev pub is_at : Place → Option Named → Bool
+is_at at None = false
+is_at at (Some n) = n.at.line == at.line && n.at.col == at.col
+
+abbrev pub addresses_at : Place → Decl → Bool
+addresses_at at (decls.Target r) = is_at at r.address
+addresses_at at _ = false
 
 abbrev pub declares : List ℕ → Decl → Bool
 declares name d = is_same_name (name_of d).name name

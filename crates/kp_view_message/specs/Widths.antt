@@ -1,5 +1,6 @@
 -- What is said where a rule of names or widths is violated (E5 to E14 and E26): the number of the rule, and what helps.
 use Rattle.std.specs.Prelude.{ℕ, ◌≡◌, List, [], ◌∷◌, ◌++◌, max, nat_lt, if◌then◌else◌, Option, Some, None, Result, Ok, Err, unwrap_or}
+use Rattle.std.specs.List.{list_any}
 use Rattle.kp_base.specs.declared.{place.Place.Place, finding.Finding.Finding}
 use Rattle.kp_bits.specs.{Literals.fit_of, Word.Word, declared.literal.Literal.Literal, declared.literal.LiteralFault.LiteralFault}
 use Rattle.kp_ast.specs.declared.tree.Job.{Job}
@@ -10,7 +11,7 @@ use Rattle.kp_view_help.specs.{Helps.IsHelpForWords, declared.help.Help.Help, de
 use Rattle.kp_view_help.specs.declared.help.Help.TheVariants as help
 use Rattle.kp_view_help.specs.declared.phrase.Term.TheVariants as term
 use Rattle.kp_view_help.specs.declared.phrase.Terms.TheVariants as terms
-use Rattle.kp_view_message.specs.{Sites.literal_at, Names.again_help, Names.kind_help, Names.AreScopeHelps}
+use Rattle.kp_view_message.specs.{Sites.addresses_at, Sites.literal_at, Names.again_help, Names.kind_help, Names.AreScopeHelps}
 use Rattle.kp_view_message.specs.declared.{message.Message.Message, sentence.Sentence.Sentence}
 use Rattle.kp_view_message.specs.declared.message.Message.TheVariants as messages
 
@@ -54,14 +55,18 @@ AreWidthHelps text at (faults.Branches left right left_at right_at) helps = help
 AreWidthHelps text at (faults.Value found wanted to) helps = helps ≡ fitted text at found wanted
 AreWidthHelps text at (faults.Start found wanted) helps = helps ≡ (with_width (literal_at text at) wanted, None)
 AreWidthHelps text at (faults.Condition found) helps = helps ≡ (Some help.Compare, None)
-AreWidthHelps text at (faults.Address found wanted file) helps = helps ≡ fitted text at found wanted
 AreWidthHelps text at fault helps = AreNumberHelps fault helps
+
+-- an address at this place: at that of a result, which is a pipe, another declaration
+abbrev pub address_help : List ℕ → Job → Place → Spelled → ℕ → ℕ → Help
+address_help text job at name found wanted = if list_any (addresses_at at) job.decls then help.AddressPipe name wanted else fit (literal_at text at) found wanted
 
 -- with the name at the place
 abbrev pub AreNameHelps : List ℕ → Job → Place → Spelled → WidthFault → Option Help × Option Help → Type 0
 AreNameHelps text job at name (faults.DeclaredAgain found from here) helps = helps ≡ (again_help found here, None)
 AreNameHelps text job at name (faults.NotInScope here bound) helps = AreScopeHelps text name job at here bound helps
 AreNameHelps text job at name (faults.WrongKind found from wanted here) helps = helps ≡ (kind_help name found wanted here, None)
+AreNameHelps text job at name (faults.Address found wanted file) helps = helps ≡ (Some (address_help text job at name found wanted), None)
 AreNameHelps text job at name fault helps = AreWidthHelps text at fault helps
 
 abbrev pub term_bits : Term → List ℕ
@@ -91,13 +96,13 @@ value_widths (faults.Branches left right left_at right_at) = left ∷ right ∷ 
 value_widths (faults.Value found wanted to) = found ∷ wanted ∷ []
 value_widths (faults.Start found wanted) = found ∷ wanted ∷ []
 value_widths (faults.Condition found) = found ∷ []
-value_widths (faults.Address found wanted file) = found ∷ wanted ∷ []
 value_widths fault = number_widths fault
 
 -- and of names
 abbrev pub widths_in : WidthFault → List ℕ
 widths_in (faults.Target result target kind from) = result ∷ target ∷ []
 widths_in (faults.Enable found from) = found ∷ []
+widths_in (faults.Address found wanted file) = found ∷ wanted ∷ []
 widths_in fault = value_widths fault
 
 -- The message for a finding in a text with this tree: the number of its rule; the numbers of bits that it prints are the widths of the finding; and what helps.

@@ -1,13 +1,12 @@
 // The message for a violated rule.
 ghost use Rattle.std.specs.Prelude.{◌≡◌};
 ghost use Rattle.kp_view_message.specs.{Helps.AreHelps, Helps.IsHelp, Helps.second_help, Rules.rule_of, Texts.message_text};
-ghost use Rattle.kp_view_message.specs.inner.Places.{HasPlaces, HasTerms};
 
 use crate::reading_fault::ReadingFault;
 use crate::section_fault::SectionMessage;
 use crate::sentence::Sentence;
 use crate::stage_fault::StageMessage;
-use kp_view_help::{Help, Terms, write_phrase};
+use kp_view_help::Help;
 use std::fmt::{self, Display};
 
 /// A way to violate a rule, with the facts that it rests on. Lines are those of declarations and earlier statements.
@@ -62,30 +61,6 @@ impl<'t> Message<'t> {
             _ => None,
         }
     }
-
-    fn text(&self) -> &'static str
-        ensures { HasPlaces self.now result.now }
-    {
-        match self {
-            Message::Reading(fault) => fault.text(),
-            Message::Stage(said) => said.text(),
-            Message::Section(said) => said.text(),
-            Message::Rule(_, sentence) => sentence.text,
-            Message::Fixed(_) => "this violates a rule (docs/LANGUAGE.md)",
-        }
-    }
-
-    fn terms(&self) -> Terms<'t>
-        ensures { HasTerms self.now result }
-    {
-        match self {
-            Message::Reading(fault) => fault.terms(),
-            Message::Stage(said) => said.terms(),
-            Message::Section(said) => said.terms(),
-            Message::Rule(_, sentence) => sentence.terms,
-            Message::Fixed(_) => Terms::None,
-        }
-    }
 }
 
 impl<'t> Display for Message<'t> {
@@ -93,14 +68,11 @@ impl<'t> Display for Message<'t> {
 
     fn fmt<W: fmt::Write>(&self, f: &mut fmt::Formatter<W>) -> fmt::Result {
         match self {
-            Message::Reading(
-                ReadingFault::Unexpected {
-                    found,
-                    expected,
-                    ..
-                },
-            ) => { write!(f, "expected {expected}, found {found}") }
-            _ => { write_phrase(f, self.text(), &self.terms()) }
+            Message::Reading(fault) => fault.fmt(f),
+            Message::Stage(said) => said.fmt(f),
+            Message::Section(said) => said.fmt(f),
+            Message::Rule(_, sentence) => sentence.fmt(f),
+            Message::Fixed(_) => f.write_str("this violates a rule (docs/LANGUAGE.md)"),
         }
     }
 }

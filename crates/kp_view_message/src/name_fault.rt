@@ -30,10 +30,9 @@ pub(crate) fn declared_again<'t>(
         Term::Kind(Kind::of(found)),
         Term::Number(line_of(earlier)),
     );
-    Sentence::new("`{}` is declared already, as a {} (line {})", terms).with(
-        again_help(found, here),
-        None,
-    )
+    Sentence::new("`{}` is declared already, as a {} (line {})", terms).with(again_help(
+        found, here,
+    ))
 }
 
 fn again_help<'t>(found: NameKind, here: Scope) -> Option<Help<'t>>
@@ -82,7 +81,7 @@ fn own_definition<'t>(job: &'t Job, name: Word<'t>) -> Sentence<'t>
         "`{}` isn't known in its own definition",
         Terms::One(Term::Word(name)),
     )
-    .with(meant, None)
+    .with(meant)
 }
 
 // The same for a name that isn't declared before the stages.
@@ -104,8 +103,10 @@ fn not_in_stage<'t>(site: Site<'t>, name: Word<'t>, here: usize, width: Option<u
         Term::Number(stage as u64),
         Term::Number(line),
     );
-    let (first, second) = elsewhere_helps(site, name, here, width, stage);
-    Sentence::new(elsewhere(stmt), terms).with(first, second)
+    Sentence {
+        helps: elsewhere_helps(site, name, here, width, stage),
+        ..Sentence::new(elsewhere(stmt), terms)
+    }
 }
 
 // What helps where another stage binds the name: a pipe that holds it, and else a new one.
@@ -141,10 +142,9 @@ fn declared_below<'t>(name: Word<'t>, line: u64) -> Sentence<'t>
     ensures widths { bits_in result.terms ≡ [] }
 {
     let terms = Terms::Two(Term::Word(name), Term::Number(line));
-    Sentence::new("`{}` is declared only in line {}, after this use", terms).with(
-        Some(Help::MoveUp),
-        None,
-    )
+    Sentence::new("`{}` is declared only in line {}, after this use", terms).with(Some(
+        Help::MoveUp,
+    ))
 }
 
 // The text for a name that this statement of another stage binds.
@@ -206,7 +206,7 @@ pub(crate) fn wrong_kind<'t>(
             ),
         ),
     };
-    sentence.with(kind_help(name, found, wanted, here), None)
+    sentence.with(kind_help(name, found, wanted, here))
 }
 
 // What helps there.

@@ -1,10 +1,10 @@
 // Why a text is no sentence of the language.
 ghost use Rattle.std.specs.Prelude.{◌≡◌};
-ghost use Rattle.kp_view_message.specs.{Helps.IsReadingHelp, Rules.reading_rule};
-ghost use Rattle.kp_view_message.specs.inner.Places.{count, of_reading, places};
+ghost use Rattle.kp_view_message.specs.{Helps.IsReadingHelp, Rules.reading_rule, Texts.reading_text};
 
 use kp_view_expected::Expected;
-use kp_view_help::{Before, FoundToken, Help, Term, Terms};
+use kp_view_help::{Before, Byte, FoundToken, Help, sentences};
+use std::fmt::{self, Display};
 
 /// Why a text is no sentence of the language.
 #[derive(Clone, Copy)]
@@ -53,32 +53,22 @@ impl<'t> ReadingFault<'t> {
             _ => None,
         }
     }
+}
 
-    // The sentence, in which the terms are printed. Where a token is unexpected, the message has a list in it and is printed apart.
-    pub(crate) fn text(&self) -> &'static str
-        ensures { places result.now ≡ of_reading self.now }
-    {
-        match self {
-            ReadingFault::NoToken(_) => "no word of the language begins with {}",
-            ReadingFault::LongName(_) =>
-                "a name has at most 64 letters, digits and `_`; this has {}",
+impl<'t> Display for ReadingFault<'t> {
+    ghost output = { reading_text };
+
+    fn fmt<W: fmt::Write>(&self, f: &mut fmt::Formatter<W>) -> fmt::Result {
+        sentences!(f, self, {
+            ReadingFault::NoToken(byte) => "no word of the language begins with {}" (Byte(*byte)),
+            ReadingFault::LongName(length) =>
+                "a name has at most 64 letters, digits and `_`; this has {length}",
             ReadingFault::NoNumber =>
                 "neither a decimal number below 2^64 nor a literal with its width, such as `12'h105`",
-            ReadingFault::Unexpected { .. } => "expected ",
+            ReadingFault::Unexpected { found, expected, .. } => "expected {expected}, found {found}",
             ReadingFault::AfterEnd => "expected the end of the text after `end`",
             ReadingFault::TooDeep =>
                 "more than 64 brackets and operators of this expression are open here",
-        }
-    }
-
-    // The terms of the sentence.
-    pub(crate) fn terms(&self) -> Terms<'t>
-        ensures { count result ≡ of_reading self.now }
-    {
-        match self {
-            ReadingFault::NoToken(byte) => Terms::One(Term::Byte(*byte)),
-            ReadingFault::LongName(length) => Terms::One(Term::Number(*length as u64)),
-            _ => Terms::None,
-        }
+        })
     }
 }

@@ -2,14 +2,14 @@
 ghost use Rattle.std.specs.Prelude.{◌≡◌};
 ghost use Rattle.kp_view_excerpt.specs.Tokens.{token_at};
 ghost use Rattle.kp_view_message.specs.{Entries.entry_name, Helps.section_help};
-ghost use Rattle.kp_view_message.specs.inner.Places.{count, of_section, places};
 
-use crate::width_fault::{fit, literal_width, other_width, value_terms, value_text};
+use crate::width_fault::{fit, literal_value, literal_width, other_width};
 use kp_base::{Finding, Place};
 use kp_bits::Literal;
 use kp_image::SectionFault;
 use kp_view_excerpt::token_at;
-use kp_view_help::{Help, Kind, Term, Terms, Word};
+use kp_view_help::{Help, Kind, Word, sentences};
+use std::fmt::{self, Display};
 
 /// A wrong entry of a section, with what its sentence prints of the text.
 #[derive(Clone, Copy)]
@@ -54,75 +54,37 @@ impl<'t> SectionMessage<'t> {
             _ => None,
         }
     }
+}
 
-    // The sentence, in which the terms are printed.
-    pub(crate) fn text(&self) -> &'static str
-        ensures { places result.now ≡ of_section self.now.fault }
-    {
-        match self.fault {
-            SectionFault::LiteralWidth { width } => literal_width(width).text,
-            SectionFault::LiteralValue { width, .. } => value_text(width),
-            SectionFault::ValueWidth {
-                kind,
-                width,
-                found,
-                ..
-            } => other_width(Kind::of(kind), self.name, u64::from(found), width).text,
-            SectionFault::Unknown => "`{}` is declared nowhere; an image fills registers and files",
-            SectionFault::Empty { .. } =>
-                "`{}` is a {} (line {}); an image fills registers and files",
-            SectionFault::NoAddress { .. } => "`{}` is a file (line {}), and needs an address",
-            SectionFault::NeedlessAddress { .. } =>
-                "`{}` is a register (line {}), and has no address",
-            SectionFault::AddressBeyond { .. } =>
-                "the addresses of `{}` are 0 to {}, and {} isn't one of them",
-            SectionFault::WordBeyond { .. } =>
-                "this word lies after the last one of `{}`, whose address is {}",
-            SectionFault::SecondStart { .. } => "`{}` is a register, and has one value",
-            SectionFault::NoStage { .. } => "there is no stage {}: the stages are 0 to {}",
+impl<'t> Display for SectionMessage<'t> {
+    fn fmt<W: fmt::Write>(&self, f: &mut fmt::Formatter<W>) -> fmt::Result {
+        let SectionMessage { fault, name } = self;
+        sentences!(f, fault, {
+            SectionFault::LiteralWidth { width } => "{}" (literal_width(*width)),
+            SectionFault::LiteralValue { width, value } => "{}" (literal_value(*value, *width)),
+            SectionFault::ValueWidth { kind, width, found, .. } =>
+                "{}" (other_width(Kind::of(*kind), *name, u64::from(*found), *width)),
+            SectionFault::Unknown =>
+                "`{name}` is declared nowhere; an image fills registers and files",
+            SectionFault::Empty { kind, declared } =>
+                "`{name}` is a {} (line {}); an image fills registers and files" (Kind::of(*kind), declared.line),
+            SectionFault::NoAddress { declared } =>
+                "`{name}` is a file (line {}), and needs an address" (declared.line),
+            SectionFault::NeedlessAddress { declared } =>
+                "`{name}` is a register (line {}), and has no address" (declared.line),
+            SectionFault::AddressBeyond { words, address, .. } =>
+                "the addresses of `{name}` are 0 to {}, and {address} isn't one of them" (words.saturating_sub(1)),
+            SectionFault::WordBeyond { words, .. } =>
+                "this word lies after the last one of `{name}`, whose address is {}" (words.saturating_sub(1)),
+            SectionFault::SecondStart { .. } => "`{name}` is a register, and has one value",
+            SectionFault::NoStage { found, stages } =>
+                "there is no stage {found}: the stages are 0 to {}" (stages.saturating_sub(1)),
             SectionFault::UnknownSample =>
-                "`{}` is declared nowhere; inputs are the values of samples",
-            SectionFault::NoSample { .. } =>
-                "`{}` is a {} (line {}); inputs are the values of samples",
+                "`{name}` is declared nowhere; inputs are the values of samples",
+            SectionFault::NoSample { kind, declared } =>
+                "`{name}` is a {} (line {}); inputs are the values of samples" (Kind::of(*kind), declared.line),
             SectionFault::StallStep | SectionFault::InputStep => "a step is 1 or more",
-        }
-    }
-
-    // The terms of the sentence.
-    pub(crate) fn terms(&self) -> Terms<'t>
-        ensures { count result ≡ of_section self.now.fault }
-    {
-        let name = Term::Word(self.name);
-        match self.fault {
-            SectionFault::LiteralWidth { width } => Terms::One(Term::Number(width)),
-            SectionFault::LiteralValue { width, value } => value_terms(value, width),
-            SectionFault::ValueWidth {
-                kind,
-                width,
-                found,
-                ..
-            } => {
-                let (found, wanted) = (Term::Bits(u64::from(found)), Term::Bits(width));
-                Terms::Four(found, Term::Kind(Kind::of(kind)), name, wanted)
-            }
-            SectionFault::Unknown
-            | SectionFault::SecondStart { .. }
-            | SectionFault::UnknownSample => Terms::One(name),
-            SectionFault::NoAddress { declared } | SectionFault::NeedlessAddress { declared } => {
-                Terms::Two(name, line(declared))
-            }
-            SectionFault::Empty { kind, declared } | SectionFault::NoSample { kind, declared } => {
-                Terms::Three(name, Term::Kind(Kind::of(kind)), line(declared))
-            }
-            SectionFault::AddressBeyond { words, address, .. } => {
-                Terms::Three(name, last(words), Term::Number(address))
-            }
-            SectionFault::WordBeyond { words, .. } => Terms::Two(name, last(words)),
-            SectionFault::NoStage { found, stages } => {
-                Terms::Two(Term::Number(found), last(stages))
-            }
-            SectionFault::StallStep | SectionFault::InputStep => Terms::None,
-        }
+        })
     }
 }
 
@@ -137,13 +99,4 @@ fn entry_name(fault: SectionFault, place: Place) -> Place
         | SectionFault::SecondStart { name } => name,
         _ => place,
     }
-}
-
-fn line<'t>(place: Place) -> Term<'t> {
-    Term::Number(place.line as u64)
-}
-
-// The last of this many, counted from 0.
-fn last<'t>(count: u64) -> Term<'t> {
-    Term::Number(count.saturating_sub(1))
 }

@@ -1,8 +1,10 @@
 // Sentences on violated rules.
-ghost use Rattle.std.specs.Prelude.{◌≡◌, None};
+ghost use Rattle.std.specs.Prelude.{◌≡◌, None, Some};
+ghost use Rattle.kp_view_help.specs.Phrases.{phrase_text, terms_texts};
 ghost use Rattle.kp_view_message.specs.inner.Places.{count, places};
 
-use kp_view_help::{Help, Terms};
+use kp_view_help::{Help, Terms, write_phrase};
+use std::fmt::{self, Display};
 
 /// A sentence: a text with a `{}` for each of its terms; and what helps, in up to two lines.
 #[derive(Clone, Copy)]
@@ -27,14 +29,23 @@ impl<'t> Sentence<'t> {
         }
     }
 
-    /// The sentence with what helps.
-    pub(crate) fn with(self, first: Option<Help<'t>>, second: Option<Help<'t>>) -> Sentence<'t>
+    /// The sentence with what helps, if anything is known to.
+    pub(crate) fn with(self, help: Option<Help<'t>>) -> Sentence<'t>
         ensures text { result.text.now ≡ self.entry.text.now }
         ensures terms { result.terms ≡ self.entry.terms }
-        ensures helps { result.helps ≡ (first.entry, second.entry) }
+        ensures helps { result.helps ≡ (help.entry, None) }
     {
-        let Sentence { text, terms, .. } = self;
-        let helps = (first, second);
-        Sentence { text, terms, helps }
+        Sentence {
+            helps: (help, None),
+            ..self
+        }
+    }
+}
+
+impl<'t> Display for Sentence<'t> {
+    ghost output = { λ s. Some (phrase_text s.text.now (terms_texts s.terms)) };
+
+    fn fmt<W: fmt::Write>(&self, f: &mut fmt::Formatter<W>) -> fmt::Result {
+        write_phrase(f, self.text, &self.terms)
     }
 }

@@ -4,9 +4,9 @@ ghost use Rattle.std.specs.List.{list_any};
 ghost use Rattle.kp_width.specs.Declarations.{name_of};
 ghost use Rattle.kp_view_excerpt.specs.Tokens.{token_at};
 ghost use Rattle.kp_view_message.specs.Names.{bytes_of};
-ghost use Rattle.kp_view_message.specs.Sites.{binds, binds_before, binds_here, binds_in, declares, differs_in_case, holder, is_named_before, is_own, literal_at, other_case, pipe_in, puts, stmts_in};
+ghost use Rattle.kp_view_message.specs.Sites.{addresses_at, binds, binds_before, binds_here, binds_in, declares, differs_in_case, holder, is_named_before, is_own, literal_at, other_case, pipe_in, puts, stmts_in};
 
-use kp_ast::{Block, Decl, Job, NameKind, Named, Param, Scope, Stmt, StmtKind};
+use kp_ast::{Block, Decl, Job, NameKind, Named, Param, ResultDecl, Scope, Stmt, StmtKind};
 use kp_base::Place;
 use kp_bits::{Literal, read_literal};
 use kp_view_excerpt::token_at;
@@ -39,6 +39,14 @@ impl<'t> Site<'t> {
         }
     }
 
+    /// Whether the address of a result is at the place.
+    pub fn is_address(self) -> bool
+        ensures { result ≡ list_any (addresses_at self.entry.place) self.entry.job.now.decls }
+    {
+        let decls = self.job.decls.as_slice();
+        decls.iter().any(|decl| addresses_at(decl, self.place))
+    }
+
     /// The name of the declaration whose start value is at the place.
     pub fn started(self) -> Option<&'t Named> {
         let Place { line, col } = self.place;
@@ -52,6 +60,21 @@ impl<'t> Site<'t> {
             }
         }
         None
+    }
+}
+
+// Whether a declaration has an address at a place.
+fn addresses_at(decl: &Decl, place: Place) -> bool
+    ensures { result ≡ addresses_at place decl.now }
+{
+    match decl {
+        Decl::Target(
+            ResultDecl {
+                address: Some(pipe),
+                ..
+            },
+        ) => { pipe.at.line == place.line && pipe.at.col == place.col }
+        _ => false,
     }
 }
 

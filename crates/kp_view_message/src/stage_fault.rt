@@ -2,14 +2,14 @@
 ghost use Rattle.std.specs.Prelude.{◌≡◌};
 ghost use Rattle.kp_view_excerpt.specs.Tokens.{token_at};
 ghost use Rattle.kp_view_message.specs.{Earlier.earlier_line, Earlier.first_result, Helps.stage_help};
-ghost use Rattle.kp_view_message.specs.inner.Places.{count, of_numbers, of_stage, places};
 
 use crate::earlier::{earlier_line, first_result};
 use kp_ast::Job;
 use kp_base::Finding;
 use kp_stage::{Counted, StageFault};
 use kp_view_excerpt::token_at;
-use kp_view_help::{Help, Term, Terms, Word};
+use kp_view_help::{Help, Word, sentences};
+use std::fmt::{self, Display};
 
 /// A violation of a rule of stages, with what its sentence prints of the text.
 #[derive(Clone, Copy)]
@@ -68,125 +68,72 @@ impl<'t> StageMessage<'t> {
             _ => return None,
         })
     }
+}
 
-    // The sentence, in which the terms are printed.
-    pub(crate) fn text(&self) -> &'static str
-        ensures { places result.now ≡ of_stage self.now.fault }
-    {
-        match self.fault {
-            StageFault::StageCount { .. } => "a machine has 2 to 12 stages, not {}",
-            StageFault::FewBlocks { .. } => "{} stages are declared, but there are {} blocks",
-            StageFault::BlockNumber { .. } => "blocks stand in order: this is stage {}, not {}",
-            StageFault::BlockBeyond { .. } => "only {} stages are declared; this is one more",
-            StageFault::NoStage { .. } => "there is no stage {}: the stages are 0 to {}",
-            StageFault::NeverPut => "the pipe `{}` is never put",
+impl<'t> Display for StageMessage<'t> {
+    fn fmt<W: fmt::Write>(&self, f: &mut fmt::Formatter<W>) -> fmt::Result {
+        let StageMessage {
+            fault,
+            name,
+            first,
+            line,
+        } = self;
+        sentences!(f, fault, {
+            StageFault::StageCount { stages } => "a machine has 2 to 12 stages, not {stages}",
+            StageFault::FewBlocks { stages, blocks } =>
+                "{stages} stages are declared, but there are {blocks} blocks",
+            StageFault::BlockNumber { found, wanted } =>
+                "blocks stand in order: this is stage {wanted}, not {found}",
+            StageFault::BlockBeyond { stages } =>
+                "only {stages} stages are declared; this is one more",
+            StageFault::NoStage { found, stages } =>
+                "there is no stage {found}: the stages are 0 to {}" (stages.saturating_sub(1)),
+            StageFault::NeverPut => "the pipe `{name}` is never put",
             StageFault::PutAgain { .. } =>
-                "the pipe `{}` is put a second time; the first is in line {}",
-            StageFault::UsedEarly { .. } =>
-                "the pipe `{}` is put in stage {} (line {}), and can be used in later stages only; this is stage {}",
-            StageFault::ReadLate { .. } =>
-                "`{}` is written in stage {} (line {}), and can't be read in a later stage",
-            StageFault::PutLate { .. } =>
-                "the pipe `{}` is put in stage {}, which isn't before the write stage {}",
-            StageFault::SetLate { .. } =>
-                "`{}` is written at the end of stage {} (line {}), and can't be set later",
+                "the pipe `{name}` is put a second time; the first is in line {line}",
+            StageFault::UsedEarly { put, here, .. } =>
+                "the pipe `{name}` is put in stage {put} (line {line}), and can be used in later stages only; this is stage {here}",
+            StageFault::ReadLate { write, .. } =>
+                "`{name}` is written in stage {write} (line {line}), and can't be read in a later stage",
+            StageFault::PutLate { put, write } =>
+                "the pipe `{name}` is put in stage {put}, which isn't before the write stage {write}",
+            StageFault::SetLate { write, .. } =>
+                "`{name}` is written at the end of stage {write} (line {line}), and can't be set later",
             StageFault::SetAgain { .. } =>
-                "`{}` is set a second time in this stage; the first is in line {}",
-            StageFault::AimedAgain { .. } => "the hint `{}` is aimed already in line {}",
-            StageFault::SecondResult { .. } => "`{}` has a result already: `{}` (line {})",
-            StageFault::GuessedFile => "`{}` is a file, and only a register can be guessed",
+                "`{name}` is set a second time in this stage; the first is in line {line}",
+            StageFault::AimedAgain { .. } => "the hint `{name}` is aimed already in line {line}",
+            StageFault::SecondResult { .. } =>
+                "`{name}` has a result already: `{first}` (line {line})",
+            StageFault::GuessedFile => "`{name}` is a file, and only a register can be guessed",
             StageFault::GuessWithoutResult =>
-                "`{}` has no result: it never changes, and there is nothing to guess",
-            StageFault::GuessLate { .. } =>
-                "`{}` is written in stage {}; a guess stands at least two stages before, and this is stage {}",
-            StageFault::EarlyWrite { .. } =>
-                "beside a guess of a register that is written in stage {}, a result is written in stage {} at the earliest",
-            StageFault::HintAsValue => "`{}` is a hint, and counts in `guess` and `aim` alone",
+                "`{name}` has no result: it never changes, and there is nothing to guess",
+            StageFault::GuessLate { write, here } =>
+                "`{name}` is written in stage {write}; a guess stands at least two stages before, and this is stage {here}",
+            StageFault::EarlyWrite { top, .. } =>
+                "beside a guess of a register that is written in stage {top}, a result is written in stage {} at the earliest" (top.saturating_sub(1)),
+            StageFault::HintAsValue => "`{name}` is a hint, and counts in `guess` and `aim` alone",
             StageFault::TooLarge =>
                 "with this statement the expressions of the machine, functions written out, have more than 100,000 parts",
-            StageFault::TooMany(counted) => most(counted),
-            StageFault::SampleElsewhere { .. } =>
-                "the sample `{}` is seen in stage {} alone (line {})",
-            StageFault::EarlySample { .. } =>
-                "beside a guess of a register that is written in stage {}, a sample is taken in stage {} at the earliest",
-        }
-    }
-
-    // The terms of the sentence.
-    pub(crate) fn terms(&self) -> Terms<'t>
-        ensures { count result ≡ of_stage self.now.fault }
-    {
-        let (name, line) = (Term::Word(self.name), Term::Number(self.line as u64));
-        match self.fault {
-            StageFault::NeverPut
-            | StageFault::GuessedFile
-            | StageFault::GuessWithoutResult
-            | StageFault::HintAsValue => Terms::One(name),
-            StageFault::PutAgain { .. }
-            | StageFault::SetAgain { .. }
-            | StageFault::AimedAgain { .. } => Terms::Two(name, line),
-            StageFault::ReadLate { write: stage, .. }
-            | StageFault::SetLate { write: stage, .. }
-            | StageFault::SampleElsewhere { stage, .. } => {
-                Terms::Three(name, Term::Number(stage), line)
-            }
-            StageFault::SecondResult { .. } => Terms::Three(name, Term::Word(self.first), line),
-            StageFault::UsedEarly { put, here, .. } => {
-                Terms::Four(name, stage(put), line, stage(here))
-            }
-            StageFault::PutLate { put, write } => {
-                Terms::Three(name, stage(put), Term::Number(write))
-            }
-            StageFault::GuessLate { write, here } => {
-                Terms::Three(name, Term::Number(write), stage(here))
-            }
-            fault => numbers(fault),
-        }
+            StageFault::TooMany(counted) => "a machine has at most {}" (most(*counted)),
+            StageFault::SampleElsewhere { stage, .. } =>
+                "the sample `{name}` is seen in stage {stage} alone (line {line})",
+            StageFault::EarlySample { top, .. } =>
+                "beside a guess of a register that is written in stage {top}, a sample is taken in stage {} at the earliest" (top.saturating_sub(1)),
+        })
     }
 }
 
-// The terms of a sentence that has numbers alone.
-fn numbers<'t>(fault: StageFault) -> Terms<'t>
-    ensures { count result ≡ of_numbers fault }
-{
-    match fault {
-        StageFault::StageCount { stages } | StageFault::BlockBeyond { stages } => {
-            Terms::One(Term::Number(stages))
-        }
-        StageFault::FewBlocks { stages, blocks } => {
-            Terms::Two(Term::Number(stages), stage(blocks))
-        }
-        StageFault::BlockNumber { found, wanted } => {
-            Terms::Two(stage(wanted), Term::Number(found))
-        }
-        StageFault::NoStage { found, stages } => {
-            Terms::Two(Term::Number(found), Term::Number(stages.saturating_sub(1)))
-        }
-        StageFault::EarlyWrite { top, .. } | StageFault::EarlySample { top, .. } => {
-            Terms::Two(Term::Number(top), Term::Number(top.saturating_sub(1)))
-        }
-        _ => Terms::None,
-    }
-}
-
-// The number of a stage or of blocks.
-fn stage<'t>(number: usize) -> Term<'t> {
-    Term::Number(number as u64)
-}
-
-// The sentence for more than there may be.
-fn most(counted: Counted) -> &'static str
-    ensures { places result.now ≡ 0 }
-{
+// The most that there may be.
+fn most(counted: Counted) -> &'static str {
     match counted {
-        Counted::Registers => "a machine has at most 64 registers",
-        Counted::Files => "a machine has at most 16 files",
-        Counted::Pipes => "a machine has at most 128 pipes",
-        Counted::Results => "a machine has at most 64 results",
-        Counted::Hints => "a machine has at most 16 hints",
-        Counted::Functions => "a machine has at most 64 functions",
-        Counted::Reads => "a machine has at most 256 reads",
-        Counted::Guesses => "a machine has at most 8 guesses",
-        Counted::Samples => "a machine has at most 16 samples",
+        Counted::Registers => "64 registers",
+        Counted::Files => "16 files",
+        Counted::Pipes => "128 pipes",
+        Counted::Results => "64 results",
+        Counted::Hints => "16 hints",
+        Counted::Functions => "64 functions",
+        Counted::Reads => "256 reads",
+        Counted::Guesses => "8 guesses",
+        Counted::Samples => "16 samples",
     }
 }

@@ -1,9 +1,8 @@
 // What is said of an accepted job that may not be meant so.
 ghost use Rattle.std.specs.Prelude.{◌≡◌};
 ghost use Rattle.kp_view_message.specs.{Helps.warning_helps, Rules.warning_number};
-ghost use Rattle.kp_view_message.specs.inner.Places.{count, of_warning, places};
 
-use kp_view_help::{Help, Kind, Term, Terms, Word, write_phrase};
+use kp_view_help::{Help, Kind, Word, sentences};
 use std::fmt::{self, Display};
 
 /// A warning, with the facts that it rests on.
@@ -93,70 +92,27 @@ impl<'t> Warning<'t> {
             _ => [None; 3],
         }
     }
-
-    // The sentence, in which the terms are printed.
-    fn text(&self) -> &'static str
-        ensures { places result.now ≡ of_warning self.now }
-    {
-        match self {
-            Warning::NeverSet { .. } =>
-                "`{}` is never set: each instruction that writes `{}` makes it 0",
-            Warning::MaybeUnset { file: true, .. } =>
-                "an instruction that sets no `{}` writes 0 to `{}[..]`",
-            Warning::MaybeUnset { file: false, .. } =>
-                "an instruction that sets no `{}` writes 0 to `{}`",
-            Warning::SetInVain { .. } =>
-                "this `set` never takes place: stage {} (line {}) has set `{}` in every instruction",
-            Warning::UnusedPipe(_) => "the pipe `{}` is used nowhere",
-            Warning::UnusedLocal { .. } => "`{}` is used nowhere in stage {}",
-            Warning::UnusedName { .. } => "the {} `{}` is used nowhere",
-            Warning::PutLate { .. } =>
-                "the pipe `{}` can be put in stage {} already: instructions that read `{}` wait until it is put",
-            Warning::NoResult(_) => "the register `{}` has no result, and never changes",
-            Warning::KeywordPort(_) =>
-                "the port of this sample, `s_{}`, is a keyword of SystemVerilog: tools may reject the module",
-        }
-    }
-
-    // The terms of the sentence.
-    fn terms(&self) -> Terms<'t>
-        ensures { count result ≡ of_warning self.now }
-    {
-        match self {
-            Warning::NeverSet { result, target } | Warning::MaybeUnset { result, target, .. } =>
-                Terms::Two(Term::Word(*result), Term::Word(*target)),
-            Warning::SetInVain {
-                result,
-                stage,
-                line,
-            } => Terms::Three(
-                Term::Number(*stage as u64),
-                Term::Number(*line as u64),
-                Term::Word(*result),
-            ),
-            Warning::UnusedPipe(name) | Warning::NoResult(name) | Warning::KeywordPort(name) =>
-                Terms::One(Term::Word(*name)),
-            Warning::UnusedLocal { name, stage } => {
-                Terms::Two(Term::Word(*name), Term::Number(*stage as u64))
-            }
-            Warning::UnusedName { name, kind } => {
-                Terms::Two(Term::Kind(*kind), Term::Word(*name))
-            }
-            Warning::PutLate {
-                name,
-                target,
-                earliest,
-            } => Terms::Three(
-                Term::Word(*name),
-                Term::Number(*earliest as u64),
-                Term::Word(*target),
-            ),
-        }
-    }
 }
 
 impl<'t> Display for Warning<'t> {
     fn fmt<W: fmt::Write>(&self, f: &mut fmt::Formatter<W>) -> fmt::Result {
-        write_phrase(f, self.text(), &self.terms())
+        sentences!(f, self, {
+            Warning::NeverSet { result, target } =>
+                "`{result}` is never set: each instruction that writes `{target}` makes it 0",
+            Warning::MaybeUnset { result, target, file: true, .. } =>
+                "an instruction that sets no `{result}` writes 0 to `{target}[..]`",
+            Warning::MaybeUnset { result, target, file: false, .. } =>
+                "an instruction that sets no `{result}` writes 0 to `{target}`",
+            Warning::SetInVain { result, stage, line } =>
+                "this `set` never takes place: stage {stage} (line {line}) has set `{result}` in every instruction",
+            Warning::UnusedPipe(name) => "the pipe `{name}` is used nowhere",
+            Warning::UnusedLocal { name, stage } => "`{name}` is used nowhere in stage {stage}",
+            Warning::UnusedName { name, kind } => "the {kind} `{name}` is used nowhere",
+            Warning::PutLate { name, target, earliest } =>
+                "the pipe `{name}` can be put in stage {earliest} already: instructions that read `{target}` wait until it is put",
+            Warning::NoResult(name) => "the register `{name}` has no result, and never changes",
+            Warning::KeywordPort(name) =>
+                "the port of this sample, `s_{name}`, is a keyword of SystemVerilog: tools may reject the module",
+        })
     }
 }

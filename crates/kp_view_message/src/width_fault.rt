@@ -1,11 +1,10 @@
 // Sentences on names and widths (E5 to E14 and E26).
-ghost use Rattle.std.specs.Prelude.{◌≡◌, [], ◌∷◌, None, Some, is_some};
+ghost use Rattle.std.specs.Prelude.{◌≡◌, [], ◌∷◌, None, Some};
 ghost use Rattle.kp_width.specs.declared.fault.WidthFault.TheVariants as faults;
 ghost use Rattle.kp_view_help.specs.declared.phrase.Term.TheVariants as term;
 ghost use Rattle.kp_view_help.specs.declared.help.Help.TheVariants as help;
 ghost use Rattle.kp_view_message.specs.Sites.{literal_at};
-ghost use Rattle.kp_view_message.specs.inner.Places.{count, has_largest, of_value, places};
-ghost use Rattle.kp_view_message.specs.Widths.{AreNumberHelps, AreWidthHelps, AreNameHelps, IsWidthMessage, bits_in, fit, number_widths, value_widths, widen, widths_in, with_width};
+ghost use Rattle.kp_view_message.specs.Widths.{address_help, AreNumberHelps, AreWidthHelps, AreNameHelps, IsWidthMessage, bits_in, fit, number_widths, value_widths, widen, widths_in, with_width};
 
 use crate::message::Message;
 use crate::name_fault::{argument_count, called_early, declared_again, not_in_scope, wrong_kind};
@@ -73,6 +72,11 @@ fn name_sentence<'t>(site: Site<'t>, name: Word<'t>, fault: WidthFault) -> Sente
                 bits(found),
             ),
         ),
+        WidthFault::Address {
+            found,
+            wanted,
+            file,
+        } => address_width(site, name, found, wanted, declared(job, file)),
         fault => width_sentence(site, name, fault),
     }
 }
@@ -93,13 +97,10 @@ fn width_sentence<'t>(site: Site<'t>, word: Word<'t>, fault: WidthFault) -> Sent
             "the operands of `{}` have different widths: {} and {}",
             Terms::Three(Term::Word(word), bits(left), bits(right)),
         )
-        .with(
-            Some(widen(
-                (site.literal(left_at), left),
-                (site.literal(right_at), right),
-            )),
-            None,
-        ),
+        .with(Some(widen(
+            (site.literal(left_at), left),
+            (site.literal(right_at), right),
+        ))),
         WidthFault::Branches {
             left,
             right,
@@ -109,13 +110,10 @@ fn width_sentence<'t>(site: Site<'t>, word: Word<'t>, fault: WidthFault) -> Sent
             "the branches of this choice have different widths: {} and {}",
             Terms::Two(bits(left), bits(right)),
         )
-        .with(
-            Some(widen(
-                (site.literal(left_at), left),
-                (site.literal(right_at), right),
-            )),
-            None,
-        ),
+        .with(Some(widen(
+            (site.literal(left_at), left),
+            (site.literal(right_at), right),
+        ))),
         WidthFault::Value { found, wanted, to } => value_width(site, found, wanted, to),
         WidthFault::Start { found, wanted } => Sentence::new(
             "the start value has {}; `{}` has {}",
@@ -125,17 +123,12 @@ fn width_sentence<'t>(site: Site<'t>, word: Word<'t>, fault: WidthFault) -> Sent
                 Term::Bits(wanted),
             ),
         )
-        .with(with_width(site.literal(site.place), wanted), None),
+        .with(with_width(site.literal(site.place), wanted)),
         WidthFault::Condition { found } => Sentence::new(
             "a condition has 1 bit; this has {}",
             Terms::One(bits(found)),
         )
-        .with(Some(Help::Compare), None),
-        WidthFault::Address {
-            found,
-            wanted,
-            file,
-        } => address_width(site, found, wanted, declared(site.job, file)),
+        .with(Some(Help::Compare)),
         fault => number_sentence(fault),
     }
 }
@@ -166,7 +159,7 @@ fn number_sentence<'t>(fault: WidthFault) -> Sentence<'t>
             "an address has 1 to 16 bits, not {}",
             Terms::One(Term::Number(width)),
         )
-        .with(Help::words(width), None),
+        .with(Help::words(width)),
         _ => Sentence::new("the declaration of this name breaks a rule", Terms::None),
     }
 }
@@ -184,16 +177,15 @@ fn value_width<'t>(site: Site<'t>, found: u8, wanted: u64, to: Destination) -> S
 {
     let (kind, named) = destination(site.job, to);
     let found = u64::from(found);
-    other_width(kind, word_of(named), found, wanted).with(
-        Some(fit(site.literal(site.place), found, wanted)),
-        None,
-    )
+    other_width(kind, word_of(named), found, wanted).with(Some(fit(
+        site.literal(site.place),
+        found,
+        wanted,
+    )))
 }
 
 // A value for a name of this kind, with another width.
 pub(crate) fn other_width<'t>(kind: Kind, name: Word<'t>, found: u64, wanted: u64) -> Sentence<'t>
-    ensures places { places result.text.now ≡ 4 }
-    ensures terms { count result.terms ≡ 4 }
     ensures widths { bits_in result.terms ≡ found ∷ wanted ∷ [] }
 {
     Sentence::new(
@@ -219,8 +211,14 @@ fn destination(job: &Job, to: Destination) -> (Kind, Option<&Named>) {
 }
 
 // An address of another width than those of its file.
-fn address_width<'t>(site: Site<'t>, found: u8, wanted: u8, file: Option<&'t Named>) -> Sentence<'t>
-    ensures helps { result.helps ≡ (Some (fit (literal_at site.entry.text.now site.entry.place) found wanted), None) }
+fn address_width<'t>(
+    site: Site<'t>,
+    name: Word<'t>,
+    found: u8,
+    wanted: u8,
+    file: Option<&'t Named>,
+) -> Sentence<'t>
+    ensures helps { result.helps ≡ (Some (address_help site.entry.text.now site.entry.job.now site.entry.place name.entry found wanted), None) }
     ensures widths { bits_in result.terms ≡ found ∷ wanted ∷ [] }
 {
     Sentence::new(
@@ -232,14 +230,18 @@ fn address_width<'t>(site: Site<'t>, found: u8, wanted: u8, file: Option<&'t Nam
             bits(wanted),
         ),
     )
-    .with(
-        Some(fit(
-            site.literal(site.place),
-            u64::from(found),
-            u64::from(wanted),
-        )),
-        None,
-    )
+    .with(Some(address_help(site, name, found, wanted)))
+}
+
+// What helps there: at the address of a result, which is a pipe, another declaration.
+fn address_help<'t>(site: Site<'t>, name: Word<'t>, found: u8, wanted: u8) -> Help<'t>
+    ensures { result ≡ address_help site.entry.text.now site.entry.job.now site.entry.place name.entry found wanted }
+{
+    if site.is_address() {
+        return Help::AddressPipe(name, wanted);
+    }
+    let literal = site.literal(site.place);
+    fit(literal, u64::from(found), u64::from(wanted))
 }
 
 // Two values that are to have one width, each with the literal that it is, if it is one. A literal among them, with the width of the other, is what to
@@ -297,8 +299,6 @@ fn slice<'t>(hi: u64, lo: u64, width: u8) -> Sentence<'t>
 
 // A literal of a width that isn't one.
 pub(crate) fn literal_width<'t>(width: u64) -> Sentence<'t>
-    ensures places { places result.text.now ≡ 1 }
-    ensures terms { count result.terms ≡ 1 }
     ensures widths { bits_in result.terms ≡ [] }
     ensures helps { result.helps ≡ (None, None) }
 {
@@ -308,43 +308,24 @@ pub(crate) fn literal_width<'t>(width: u64) -> Sentence<'t>
     )
 }
 
-// A literal whose value doesn't fit in its width.
-fn literal_value<'t>(value: u64, width: u64) -> Sentence<'t>
+// A literal whose value doesn't fit in its width: the largest value is named that fits.
+pub(crate) fn literal_value<'t>(value: u64, width: u64) -> Sentence<'t>
     ensures helps { result.helps ≡ (Some (help.LiteralBits value), None) }
     ensures widths { bits_in result.terms ≡ width ∷ [] }
 {
-    Sentence::new(value_text(width), value_terms(value, width)).with(
-        Some(Help::LiteralBits(value)),
-        None,
-    )
-}
-
-// The text for it: the largest value is named that fits.
-pub(crate) fn value_text(width: u64) -> &'static str
-    ensures { places result.now ≡ of_value width }
-{
-    match largest(width) {
-        Some(_) => "{} doesn't fit {}: the largest value is {}",
-        None => "{} doesn't fit {}",
-    }
-}
-
-// Its terms.
-pub(crate) fn value_terms<'t>(value: u64, width: u64) -> Terms<'t>
-    ensures terms { count result ≡ of_value width }
-    ensures widths { bits_in result ≡ width ∷ [] }
-{
     let (number, bits) = (Term::Number(value), Term::Bits(width));
-    match largest(width) {
-        Some(most) => Terms::Three(number, bits, Term::Number(most)),
-        None => Terms::Two(number, bits),
-    }
+    let sentence = match largest(width) {
+        Some(most) => Sentence::new(
+            "{} doesn't fit {}: the largest value is {}",
+            Terms::Three(number, bits, Term::Number(most)),
+        ),
+        None => Sentence::new("{} doesn't fit {}", Terms::Two(number, bits)),
+    };
+    sentence.with(Some(Help::LiteralBits(value)))
 }
 
 // The largest value of a width of 1 to 63.
-fn largest(width: u64) -> Option<u64>
-    ensures { is_some result ≡ has_largest width }
-{
+fn largest(width: u64) -> Option<u64> {
     if width >= 1 && width < 64 {
         Some(u64::MAX >> (64 - width))
     } else {

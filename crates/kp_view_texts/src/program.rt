@@ -8,8 +8,9 @@ use crate::form::{form_text, piece_text};
 use kp_asm::{Piece, ProgramFault, token_length};
 use kp_base::{Finding, NoMemory};
 use kp_view_excerpt::{excerpt_at, offset_of, write_fault};
-use kp_view_help::{Line, Term, Terms, Word};
+use kp_view_help::{Byte, Line, Term, Terms, Word, sentences};
 use std::alloc::Global;
+use std::fmt::{self, Display};
 
 /// Appends what follows the head of a rule of programs: the message, the excerpt at its place, and what helps. The only error is out of memory; what
 /// `out` contains then isn't specified.
@@ -25,55 +26,57 @@ pub fn write_program(
     let rest = &text[offset_of(text, place)..];
     let length = token_length(rest);
     let token = Word(&rest[..length]);
-    let message = Line {
-        text: sentence(fault, length),
-        terms: terms(fault, token),
+    let message = Said {
+        fault,
+        token,
+        length,
     };
     let excerpt = excerpt_at(text, place, length);
     write_fault(alloc, out, &excerpt, &message, &help(fault, token))
 }
 
-// The sentence, in which the terms are printed, where the token that violates the rule is this long. Only the end of a line has no length.
-fn sentence(fault: ProgramFault, length: usize) -> &'static str {
-    match fault {
-        ProgramFault::NoToken { .. } => "no word of a program begins with {}",
-        ProgramFault::LongName { .. } =>
-            "a name has at most 64 letters, digits and `_`; this has {}",
-        ProgramFault::NoDigits => "decimal digits follow `-`",
-        ProgramFault::NoDirective => "the only word that begins with `.` is `.word`",
-        ProgramFault::NoMnemonic => "there is no instruction `{}`",
-        ProgramFault::Capitals => "there is no instruction `{}`: instructions have small letters",
-        ProgramFault::SecondLabel => "a line has one label at most, and `{}` would be a second one",
-        ProgramFault::WrongOperand { .. } if length == 0 =>
-            "expected {}, found the end of the line",
-        ProgramFault::NoInstruction | ProgramFault::WrongOperand { .. } =>
-            "expected {}, found `{}`",
-        ProgramFault::NoRegister => "there is no register `{}`: the registers are `r0` to `r31`",
-        ProgramFault::OutOfRange { .. } => "the number of `{}` is {}, not {}",
-        ProgramFault::LabelAgain { .. } => "the label `{}` is declared already in line {}",
-        ProgramFault::LabelNowhere => "the label `{}` is declared nowhere",
-        ProgramFault::TooMany => "a program has at most 1,024 words, and this would be one more",
-    }
+// What is said of a violated rule at this token.
+#[derive(Clone, Copy)]
+struct Said<'t> {
+    fault: ProgramFault,
+    token: Word<'t>,
+    /// The length of the token. Only the end of a line has no length.
+    length: usize,
 }
 
-// The terms of the sentence: the token, and other facts.
-fn terms<'t>(fault: ProgramFault, token: Word<'t>) -> Terms<'t> {
-    let word = Term::Word(token);
-    match fault {
-        ProgramFault::NoToken { byte } => Terms::One(Term::Byte(byte)),
-        ProgramFault::LongName { length } => Terms::One(Term::Number(length as u64)),
-        ProgramFault::NoInstruction => Terms::Two(Term::Text("an instruction"), word),
-        ProgramFault::WrongOperand { wanted, .. } => {
-            Terms::Two(Term::Text(piece_text(wanted)), word)
-        }
-        ProgramFault::OutOfRange { mnemonic, wanted } => {
-            let mnemonic = Term::Word(Word(mnemonic.spelling()));
-            Terms::Three(mnemonic, Term::Text(range(wanted)), word)
-        }
-        ProgramFault::LabelAgain { first } => {
-            Terms::Two(word, Term::Number(u64::from(first.line)))
-        }
-        _ => Terms::One(word),
+impl<'t> Display for Said<'t> {
+    fn fmt<W: fmt::Write>(&self, f: &mut fmt::Formatter<W>) -> fmt::Result {
+        let Said {
+            fault,
+            token,
+            length,
+        } = self;
+        sentences!(f, fault, {
+            ProgramFault::NoToken { byte } => "no word of a program begins with {}" (Byte(*byte)),
+            ProgramFault::LongName { length } =>
+                "a name has at most 64 letters, digits and `_`; this has {length}",
+            ProgramFault::NoDigits => "decimal digits follow `-`",
+            ProgramFault::NoDirective => "the only word that begins with `.` is `.word`",
+            ProgramFault::NoMnemonic => "there is no instruction `{token}`",
+            ProgramFault::Capitals =>
+                "there is no instruction `{token}`: instructions have small letters",
+            ProgramFault::SecondLabel =>
+                "a line has one label at most, and `{token}` would be a second one",
+            ProgramFault::WrongOperand { wanted, .. } if *length == 0 =>
+                "expected {}, found the end of the line" (piece_text(*wanted)),
+            ProgramFault::WrongOperand { wanted, .. } =>
+                "expected {}, found `{token}`" (piece_text(*wanted)),
+            ProgramFault::NoInstruction => "expected an instruction, found `{token}`",
+            ProgramFault::NoRegister =>
+                "there is no register `{token}`: the registers are `r0` to `r31`",
+            ProgramFault::OutOfRange { mnemonic, wanted } =>
+                "the number of `{}` is {}, not {token}" (Word(mnemonic.spelling()), range(*wanted)),
+            ProgramFault::LabelAgain { first } =>
+                "the label `{token}` is declared already in line {}" (first.line),
+            ProgramFault::LabelNowhere => "the label `{token}` is declared nowhere",
+            ProgramFault::TooMany =>
+                "a program has at most 1,024 words, and this would be one more",
+        })
     }
 }
 

@@ -4,13 +4,14 @@ ghost use Rattle.kp_view_excerpt.specs.Notes.{AppendsNoteAt};
 ghost use Rattle.kp_view_help.specs.Phrases.{printed};
 ghost use Rattle.kp_view_texts.specs.{Helps.example, Helps.fits, Helps.script_help, Marks.is_of_word, Marks.script_mark, Marks.word_length};
 
-use kp_ast::{Decl, Named};
+use kp_ast::Decl;
 use kp_base::{Finding, NoMemory, run_length};
 use kp_debug_script::{ScriptFault, Verb};
 use kp_view_excerpt::{excerpt_at, offset_of, token_at, write_fault};
-use kp_view_help::{Kind, Line, Term, Terms, Word};
+use kp_view_help::{Bits, Kind, Line, Term, Terms, Word, sentences};
 use kp_width::declared_name;
 use std::alloc::Global;
+use std::fmt::{self, Display};
 
 /// Appends what follows the head of a rule of scripts, for a job with these declarations: the message, the excerpt at its place, and what helps.
 /// The only error is out of memory; what `out` contains then isn't specified.
@@ -25,9 +26,11 @@ pub fn write_script(
 {
     let Finding { place, fault } = finding;
     let word = word_from(&text[offset_of(text, place)..]);
-    let message = Line {
-        text: sentence(fault),
-        terms: terms(text, decls, fault, Word(word)),
+    let message = Said {
+        text,
+        decls,
+        fault,
+        word: Word(word),
     };
     let excerpt = excerpt_at(text, place, word.len());
     write_fault(alloc, out, &excerpt, &message, &help(fault))
@@ -47,76 +50,70 @@ fn is_of_word(byte: u8) -> bool
     !matches!(byte, b'\n' | b' ' | b'\t' | b'\r')
 }
 
-// The sentence, in which the terms are printed.
-fn sentence(fault: ScriptFault) -> &'static str {
-    match fault {
-        ScriptFault::NoCommand => "a script has no command `{}`",
-        ScriptFault::Words { .. } => "`{}` is followed by {}",
-        ScriptFault::NoCount { .. } => "the number of cycles of `{}` is decimal digits, not `{}`",
-        ScriptFault::NoLiteral { .. } =>
-            "the value of `until` is a literal such as 8'h1f, not `{}`",
-        ScriptFault::ManyCycles => "a number of cycles is at most 100,000, not {}",
-        ScriptFault::Undeclared => "`{}` is declared nowhere; `until` watches a register",
-        ScriptFault::NoRegister { .. } => "`{}` is a {} (line {}); `until` watches a register",
-        ScriptFault::Width { .. } => "this value has {}; the register `{}` (line {}) has {}",
-        ScriptFault::Value { .. } => "{} doesn't fit {}",
-        ScriptFault::LargeValue => "a number of this literal is over 2^64-1",
-    }
+// What is said of a violated rule at this word of a text, for a job with these declarations.
+#[derive(Clone, Copy)]
+struct Said<'t> {
+    text: &'t [u8],
+    decls: &'t [Decl],
+    fault: ScriptFault,
+    word: Word<'t>,
 }
 
-// The terms of the sentence: the word at the place, and other facts.
-fn terms<'t>(text: &'t [u8], decls: &'t [Decl], fault: ScriptFault, word: Word<'t>) -> Terms<'t> {
-    let here = Term::Word(word);
-    match fault {
-        ScriptFault::Words { verb } => {
-            Terms::Two(Term::Text(spelling(verb)), Term::Text(rest(verb)))
-        }
-        ScriptFault::NoCount { verb, word } => {
-            Terms::Two(Term::Text(spelling(verb)), word_at(text, word))
-        }
-        ScriptFault::NoLiteral { word } => Terms::One(word_at(text, word)),
-        ScriptFault::NoRegister { number } => match decls.get(number) {
-            Some(decl) => {
-                let Named { at, .. } = declared_name(decl);
-                Terms::Three(here, Term::Kind(kind_of(decl)), line(at.line))
-            }
-            None => Terms::One(here),
-        },
-        ScriptFault::Width {
-            found,
-            wanted,
-            declared,
-            ..
-        } => Terms::Four(
-            Term::Bits(found),
-            Term::Word(Word(token_at(text, declared))),
-            line(declared.line),
-            Term::Bits(wanted),
-        ),
-        ScriptFault::Value { value, width } => Terms::Two(Term::Number(value), Term::Bits(width)),
-        _ => Terms::One(here),
+impl<'t> Display for Said<'t> {
+    fn fmt<W: fmt::Write>(&self, f: &mut fmt::Formatter<W>) -> fmt::Result {
+        let Said {
+            text,
+            decls,
+            fault,
+            word: here,
+        } = self;
+        sentences!(f, fault, {
+            ScriptFault::NoCommand => "a script has no command `{here}`",
+            ScriptFault::Words { verb } => "`{}` is followed by {}" (spelling(*verb), rest(*verb)),
+            ScriptFault::NoCount { verb, word } =>
+                "the number of cycles of `{}` is decimal digits, not `{}`" (spelling(*verb), word_at(text, *word)),
+            ScriptFault::NoLiteral { word } =>
+                "the value of `until` is a literal such as 8'h1f, not `{}`" (word_at(text, *word)),
+            ScriptFault::ManyCycles => "a number of cycles is at most 100,000, not {here}",
+            ScriptFault::Undeclared =>
+                "`{here}` is declared nowhere; `until` watches a register",
+            ScriptFault::NoRegister { number } =>
+                "`{here}` is a {}; `until` watches a register" (Declared(decls.get(*number))),
+            ScriptFault::Width { found, wanted, declared, .. } =>
+                "this value has {}; the register `{}` (line {}) has {}"
+                (Bits(*found), Word(token_at(text, *declared)), declared.line, Bits(*wanted)),
+            ScriptFault::Value { value, width } => "{value} doesn't fit {}" (Bits(*width)),
+            ScriptFault::LargeValue => "a number of this literal is over 2^64-1",
+        })
     }
 }
 
 // The word at an offset of the text.
-fn word_at(text: &[u8], at: u32) -> Term<'_> {
+fn word_at(text: &[u8], at: u32) -> Word<'_> {
     let (_before, rest) = text.split_at(text.len().min(at as usize));
-    Term::Word(Word(word_from(rest)))
+    Word(word_from(rest))
 }
 
-fn line<'t>(number: u32) -> Term<'t> {
-    Term::Number(u64::from(number))
-}
+// What a declaration declares, and its line.
+#[derive(Clone, Copy)]
+struct Declared<'t>(Option<&'t Decl>);
 
-fn kind_of(decl: &Decl) -> Kind {
-    match decl {
-        Decl::Reg(_, _, _) => Kind::Register,
-        Decl::File(_, _, _) => Kind::File,
-        Decl::Pipe(_, _) => Kind::Pipe,
-        Decl::Hint(_, _, _) => Kind::Hint,
-        Decl::Sample(_, _, _) => Kind::Sample,
-        Decl::Target(_) => Kind::Output,
-        Decl::Func(_) => Kind::Function,
+impl<'t> Display for Declared<'t> {
+    fn fmt<W: fmt::Write>(&self, f: &mut fmt::Formatter<W>) -> fmt::Result {
+        let Some(decl) = self.0 else {
+            return Ok(());
+        };
+        let kind = match decl {
+            Decl::Reg(_, _, _) => Kind::Register,
+            Decl::File(_, _, _) => Kind::File,
+            Decl::Pipe(_, _) => Kind::Pipe,
+            Decl::Hint(_, _, _) => Kind::Hint,
+            Decl::Sample(_, _, _) => Kind::Sample,
+            Decl::Target(_) => Kind::Output,
+            Decl::Func(_) => Kind::Function,
+        };
+        let line = declared_name(decl).at.line;
+        write!(f, "{kind} (line {line})")
     }
 }
 

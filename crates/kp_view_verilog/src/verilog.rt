@@ -1,19 +1,16 @@
 // Why a Verilog text is rejected.
 ghost use Rattle.std.specs.Prelude.{◌≡◌, ◌≤◌, ◌-◌, ◌^◌, ℕ, length, OnOk};
-ghost use Rattle.kp_view_excerpt.specs.{Excerpts.IsExcerpt, Lines.line_at, Notes.AppendsNote, Notes.AppendsNoteAt};
+ghost use Rattle.kp_view_excerpt.specs.{Excerpts.IsExcerpt, Lines.line_at, Notes.AppendsNoteAt};
 ghost use Rattle.kp_view_verilog.specs.{Marks.Marks, Marks.from_place, Marks.token_length, Marks.unread_length};
 
 use crate::lines::{from_place, offset_at, token_length, unread_length};
 use crate::syntax::{found, index_of, no_token};
-use kp_base::{Finding, NoMemory, Place, Refusal, Refused};
+use kp_base::{NoMemory, Place, Refusal, Refused};
 use kp_view_excerpt::{Excerpt, excerpt_at, write_fault};
-use kp_view_verilog_faults::{
-    ReadingFault, Source, driver_help, driver_sentence, following, name_help, name_sentence,
-    width_help, width_sentence,
-};
+use kp_view_verilog_faults::{ModuleMessage, ReadingFault, Source, following};
 use kp_vlog::{VModule, VToken, vlex};
 use kp_vread_parse::vparse;
-use kp_vread_rules::{ModuleFault, module_findings};
+use kp_vread_rules::module_findings;
 use std::alloc::Global;
 
 /// Appends what follows the head of one of V1 to V5 for a text that begins at an offset: the message, the excerpt at its place, and what
@@ -93,38 +90,19 @@ fn write_of_module(
     let excerpt = excerpt_of(text, refusal.place);
     let findings = module_findings(alloc, text, module, 1)?;
     match findings.as_slice() {
-        [finding, ..] => write_finding(alloc, out, text, &excerpt, *finding),
+        [finding, ..] => {
+            let source = Source(text);
+            let message = ModuleMessage {
+                source,
+                name: source.name_at(offset_at(text, finding.place)),
+                fault: finding.fault,
+            };
+            write_fault(alloc, out, &excerpt, &message, &message.help())
+        }
         // Not reached, since the module violates a rule.
         [] => {
             let fault = ReadingFault::Unknown;
             write_fault(alloc, out, &excerpt, &fault, &fault.help())
-        }
-    }
-}
-
-fn write_finding(
-    alloc: Global,
-    out: &mut Vec<u8>,
-    text: &[u8],
-    excerpt: &Excerpt<'_>,
-    finding: Finding<ModuleFault>,
-) -> Result<(), NoMemory>
-    ensures { OnOk result (AppendsNote excerpt.now out.old.items out.new.items) }
-{
-    let source = Source(text);
-    let name = source.name_at(offset_at(text, finding.place));
-    match finding.fault {
-        ModuleFault::Name(fault) => {
-            let sentence = name_sentence(source, name, fault);
-            write_fault(alloc, out, excerpt, &sentence, &name_help(name, fault))
-        }
-        ModuleFault::Width(fault) => {
-            let sentence = width_sentence(source, name, fault);
-            write_fault(alloc, out, excerpt, &sentence, &width_help(name, fault))
-        }
-        ModuleFault::Driver(fault) => {
-            let sentence = driver_sentence(source, name, fault);
-            write_fault(alloc, out, excerpt, &sentence, &driver_help(name, fault))
         }
     }
 }

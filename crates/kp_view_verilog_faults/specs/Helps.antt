@@ -1,11 +1,12 @@
 -- What helps where a rule of Verilog texts is violated: for which violations there is a line of help, and what of the violation it prints.
 use Rattle.std.specs.Prelude.{◌≡◌, ◌==◌, ◌||◌, ◌+◌, ◌*◌, ◌^◌, ◌<◌, ◌≤◌, ℕ, if◌then◌else◌, List, [], ◌∷◌, Option, Some, None, decimal}
 use Rattle.kp_view_help.specs.Texts.{bits_text, shown}
-use Rattle.kp_vread_rules.specs.declared.fault.{DriverFault.DriverFault, Kind.Kind, NameFault.NameFault, Wanted.Wanted, WidthFault.WidthFault}
+use Rattle.kp_vread_rules.specs.declared.fault.{DriverFault.DriverFault, Kind.Kind, ModuleFault.ModuleFault, NameFault.NameFault, Wanted.Wanted, WidthFault.WidthFault}
 use Rattle.kp_view_verilog_faults.specs.declared.reading_fault.ReadingFault.{ReadingFault}
 use Rattle.kp_vread_rules.specs.declared.fault.DriverFault.TheVariants as drivers
 use Rattle.kp_view_verilog_faults.specs.declared.reading_fault.ReadingFault.TheVariants as readings
 use Rattle.kp_vread_rules.specs.declared.fault.Kind.TheVariants as kinds
+use Rattle.kp_vread_rules.specs.declared.fault.ModuleFault.TheVariants as modules
 use Rattle.kp_vread_rules.specs.declared.fault.NameFault.TheVariants as names
 use Rattle.kp_vread_rules.specs.declared.fault.Wanted.TheVariants as wanted
 use Rattle.kp_vread_rules.specs.declared.fault.WidthFault.TheVariants as widths
@@ -57,3 +58,9 @@ driver_help name (drivers.AssignedLate assigned) = Some []
 driver_help name drivers.Wide = Some []
 driver_help name drivers.NoResetList = Some []
 driver_help name _ = None
+
+-- THE HELP for a violation of V3 to V5 by this name.
+abbrev pub HelpsModule : List ℕ → ModuleFault → Option (List (List ℕ)) → Type 0
+HelpsModule name (modules.Name fault) help = help ≡ name_help name fault
+HelpsModule name (modules.Width fault) help = HelpsWidth name fault help
+HelpsModule name (modules.Driver fault) help = help ≡ driver_help name fault

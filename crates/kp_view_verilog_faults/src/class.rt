@@ -1,9 +1,8 @@
 // Classes of tokens, and how they are written.
-ghost use Rattle.std.specs.Prelude.{◌≡◌, ◌==◌};
-ghost use Rattle.kp_vlog.specs.Language.{keyword_class, mark_class};
+ghost use Rattle.std.specs.Prelude.{◌≡◌};
 ghost use Rattle.kp_view_verilog_faults.specs.{Classes.class_of, Marks.IsRead, inner.Plain.number};
 
-use kp_view_help::{Line, Word};
+use kp_view_help::Word;
 use kp_vlog::{Keyword, Mark, VKind};
 use std::fmt::{self, Display};
 
@@ -37,8 +36,8 @@ impl kp_expected::Class for Class {
 
     fn is(self, other: Class) -> bool {
         match self {
-            Class::Keyword(keyword) => is_keyword(other, keyword),
-            Class::Mark(mark) => is_mark(other, mark),
+            Class::Keyword(keyword) => matches!(other, Class::Keyword(k) if k == keyword),
+            Class::Mark(mark) => matches!(other, Class::Mark(m) if m == mark),
             Class::Name => matches!(other, Class::Name),
             Class::Number => matches!(other, Class::Number),
             Class::Literal => matches!(other, Class::Literal),
@@ -46,29 +45,11 @@ impl kp_expected::Class for Class {
     }
 }
 
-fn is_keyword(class: Class, keyword: Keyword) -> bool
-    ensures { result ≡ (number class == keyword_class keyword) }
-{
-    match class {
-        Class::Keyword(k) => k == keyword,
-        _ => false,
-    }
-}
-
-fn is_mark(class: Class, mark: Mark) -> bool
-    ensures { result ≡ (number class == mark_class mark) }
-{
-    match class {
-        Class::Mark(m) => m == mark,
-        _ => false,
-    }
-}
-
 impl Display for Class {
     fn fmt<W: fmt::Write>(&self, f: &mut fmt::Formatter<W>) -> fmt::Result {
         match self {
-            Class::Keyword(word) => Line::of("`{}`", Word(word.spelling())).fmt(f),
-            Class::Mark(mark) => Line::of("`{}`", Word(mark_text(*mark).as_bytes())).fmt(f),
+            Class::Keyword(word) => write!(f, "`{}`", Word(word.spelling())),
+            Class::Mark(mark) => write!(f, "`{}`", mark_text(*mark)),
             Class::Name => f.write_str("a name"),
             Class::Number => f.write_str("a number"),
             Class::Literal => f.write_str("a literal such as 8'h1f"),

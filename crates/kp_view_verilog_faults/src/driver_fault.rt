@@ -4,60 +4,48 @@ ghost use Rattle.kp_view_help.specs.Phrases.{printed};
 ghost use Rattle.kp_view_verilog_faults.specs.Helps.{driver_help};
 
 use crate::source::Source;
-use kp_view_help::{Line, Term, Terms, Word};
+use kp_view_help::{Line, Word, sentences};
 use kp_vread_rules::DriverFault;
+use std::fmt;
 
-/// The sentence for a violated rule of drivers, in a text with this name at its place.
-pub fn driver_sentence<'t>(source: Source<'t>, name: Word<'t>, fault: DriverFault) -> Line<'t> {
-    let here = Term::Word(name);
-    Line {
-        text: text(fault),
-        terms: match earlier(fault) {
-            Some(at) => Terms::Two(here, Term::Number(source.line_at(at))),
-            None => Terms::One(here),
-        },
-    }
-}
-
-fn text(fault: DriverFault) -> &'static str {
-    match fault {
-        DriverFault::NeverAssigned => "`{}` is assigned nowhere",
-        DriverFault::NoValue => "the output `{}` is assigned nowhere",
-        DriverFault::Itself => "`{}` is used in its own value",
-        DriverFault::NoStart => "the register `{}` has no start value under `initial`",
-        DriverFault::NoUpdate => "the register `{}` has no update under `always`",
-        DriverFault::NoReset => "the register `{}` isn't in the reset list",
-        DriverFault::NoFill => "the file `{}` has no `for` under `initial`",
-        DriverFault::AssignedAgain { .. } => "`{}` is assigned already in line {}",
-        DriverFault::AssignedLate { .. } => "`{}` is assigned only in line {}, after this use",
-        DriverFault::StartedAgain { .. } => "`{}` has a start value already in line {}",
-        DriverFault::FilledLate => "the `for` of the file `{}` goes before its single words",
-        DriverFault::FilledAgain { .. } => "the file `{}` has a `for` already in line {}",
-        DriverFault::ResetAgain { .. } => "`{}` is in the reset list already in line {}",
-        DriverFault::UpdatedAgain { .. } => "`{}` is updated already in line {}",
-        DriverFault::Wide => "`{}` has another width than `ext`",
+// Writes the sentence for a violated rule of drivers, in a text with this name at its place.
+pub(crate) fn write_driver<W: fmt::Write>(
+    f: &mut fmt::Formatter<W>,
+    source: Source<'_>,
+    name: Word<'_>,
+    fault: DriverFault,
+) -> fmt::Result {
+    sentences!(f, fault, {
+        DriverFault::NeverAssigned => "`{name}` is assigned nowhere",
+        DriverFault::NoValue => "the output `{name}` is assigned nowhere",
+        DriverFault::Itself => "`{name}` is used in its own value",
+        DriverFault::NoStart => "the register `{name}` has no start value under `initial`",
+        DriverFault::NoUpdate => "the register `{name}` has no update under `always`",
+        DriverFault::NoReset => "the register `{name}` isn't in the reset list",
+        DriverFault::NoFill => "the file `{name}` has no `for` under `initial`",
+        DriverFault::AssignedAgain { first } =>
+            "`{name}` is assigned already in line {}" (source.line_at(first)),
+        DriverFault::AssignedLate { assigned } =>
+            "`{name}` is assigned only in line {}, after this use" (source.line_at(assigned)),
+        DriverFault::StartedAgain { first } =>
+            "`{name}` has a start value already in line {}" (source.line_at(first)),
+        DriverFault::FilledLate =>
+            "the `for` of the file `{name}` goes before its single words",
+        DriverFault::FilledAgain { first } =>
+            "the file `{name}` has a `for` already in line {}" (source.line_at(first)),
+        DriverFault::ResetAgain { first } =>
+            "`{name}` is in the reset list already in line {}" (source.line_at(first)),
+        DriverFault::UpdatedAgain { first } =>
+            "`{name}` is updated already in line {}" (source.line_at(first)),
+        DriverFault::Wide => "`{name}` has another width than `ext`",
         DriverFault::NoResetList => "the module has the port `rst`, and no reset list",
-        DriverFault::OtherStart { .. } =>
-            "`{}` has another value here than its start value in line {}",
-    }
+        DriverFault::OtherStart { start } =>
+            "`{name}` has another value here than its start value in line {}" (source.line_at(start)),
+    })
 }
 
-// The offset of the statement whose line is printed.
-fn earlier(fault: DriverFault) -> Option<u32> {
-    match fault {
-        DriverFault::AssignedAgain { first: at }
-        | DriverFault::AssignedLate { assigned: at }
-        | DriverFault::StartedAgain { first: at }
-        | DriverFault::FilledAgain { first: at }
-        | DriverFault::ResetAgain { first: at }
-        | DriverFault::UpdatedAgain { first: at }
-        | DriverFault::OtherStart { start: at } => Some(at),
-        _ => None,
-    }
-}
-
-/// What helps where this name violates a rule of drivers, if anything is known to.
-pub fn driver_help<'t>(name: Word<'t>, fault: DriverFault) -> Option<Line<'t>>
+// What helps where this name violates a rule of drivers, if anything is known to.
+pub(crate) fn driver_help<'t>(name: Word<'t>, fault: DriverFault) -> Option<Line<'t>>
     ensures { option_map printed result ≡ driver_help name.entry.0.now fault }
 {
     match fault {

@@ -5,6 +5,7 @@
 
 mod class;
 mod driver_fault;
+mod module_fault;
 mod name_fault;
 mod part;
 mod reading_fault;
@@ -12,9 +13,7 @@ mod set;
 mod source;
 mod width_fault;
 
-pub use driver_fault::{driver_help, driver_sentence};
-pub use name_fault::{name_help, name_sentence};
+pub use module_fault::ModuleMessage;
 pub use reading_fault::ReadingFault;
 pub use set::{Expected, following};
-pub use source::{Source, is_in_identifier, name_length};
-pub use width_fault::{width_help, width_sentence};
+pub use source::{Source, is_in_identifier};

@@ -4,66 +4,36 @@ ghost use Rattle.kp_view_help.specs.Phrases.{printed};
 ghost use Rattle.kp_view_verilog_faults.specs.Helps.{name_help};
 
 use crate::source::Source;
-use kp_view_help::{Line, Term, Terms, Word};
+use kp_view_help::{Line, Word, sentences};
 use kp_vread_rules::{Form, Kind, NameFault, Wanted};
+use std::fmt::{self, Display};
 
-/// The sentence for a violated rule of names, in a text with this name at its place.
-pub fn name_sentence<'t>(source: Source<'t>, name: Word<'t>, fault: NameFault) -> Line<'t> {
-    Line {
-        text: text(fault),
-        terms: terms(source, name, fault),
-    }
-}
-
-fn text(fault: NameFault) -> &'static str {
-    match fault {
-        NameFault::WrongForm(form) => form_text(form),
-        NameFault::WrongPort(_) => "this port is `{}`, not `{}`",
-        NameFault::DeclaredAgain { .. } => "`{}` is declared already in line {}",
-        NameFault::Undeclared(Wanted::Port(_)) => "`{}` is declared nowhere; `{}` is wanted here",
-        NameFault::Undeclared(_) => "`{}` is declared nowhere; {} is wanted here",
-        NameFault::DeclaredLate { .. } => "`{}` is declared only in line {}, after this use",
-        NameFault::WrongKind {
-            wanted: Wanted::Port(_),
-            ..
-        } => "`{}` is {} (line {}); `{}` is wanted here",
-        NameFault::WrongKind { .. } => "`{}` is {} (line {}); {} is wanted here",
-        NameFault::NoWire => "the output `{}` takes a wire alone",
-        NameFault::NoPort => "the module has no port `{}`",
-    }
-}
-
-fn form_text(form: Form) -> &'static str {
-    match form {
-        Form::Module => "the name of a module begins with `m_`",
-        Form::Sample => "the port of a sample is `s_` and a name",
-        Form::Register => "a register is `r_` or `q_` and a name",
-        Form::File => "a file is `f_` and a name",
-        Form::Integer => "the integer is `i`",
-        Form::Wire => "a wire is `n` and decimal digits",
-    }
-}
-
-fn terms<'t>(source: Source<'t>, name: Word<'t>, fault: NameFault) -> Terms<'t> {
-    let here = Term::Word(name);
-    match fault {
-        NameFault::WrongPort(port) => Terms::Two(Term::Word(Word(port.bytes())), here),
-        NameFault::DeclaredAgain { first: at } | NameFault::DeclaredLate { declared: at } => {
-            Terms::Two(here, Term::Number(source.line_at(at)))
-        }
-        NameFault::Undeclared(wanted) => Terms::Two(here, place(wanted)),
-        NameFault::WrongKind {
-            kind,
-            declared,
-            wanted,
-        } => Terms::Four(
-            here,
-            Term::Text(kind_text(kind)),
-            Term::Number(source.line_at(declared)),
-            place(wanted),
-        ),
-        _ => Terms::One(here),
-    }
+// Writes the sentence for a violated rule of names, in a text with this name at its place.
+pub(crate) fn write_name<W: fmt::Write>(
+    f: &mut fmt::Formatter<W>,
+    source: Source<'_>,
+    name: Word<'_>,
+    fault: NameFault,
+) -> fmt::Result {
+    sentences!(f, fault, {
+        NameFault::WrongForm(Form::Module) => "the name of a module begins with `m_`",
+        NameFault::WrongForm(Form::Sample) => "the port of a sample is `s_` and a name",
+        NameFault::WrongForm(Form::Register) => "a register is `r_` or `q_` and a name",
+        NameFault::WrongForm(Form::File) => "a file is `f_` and a name",
+        NameFault::WrongForm(Form::Integer) => "the integer is `i`",
+        NameFault::WrongForm(Form::Wire) => "a wire is `n` and decimal digits",
+        NameFault::WrongPort(port) => "this port is `{}`, not `{name}`" (Word(port.bytes())),
+        NameFault::DeclaredAgain { first } =>
+            "`{name}` is declared already in line {}" (source.line_at(first)),
+        NameFault::Undeclared(wanted) =>
+            "`{name}` is declared nowhere; {} is wanted here" (Wished(wanted)),
+        NameFault::DeclaredLate { declared } =>
+            "`{name}` is declared only in line {}, after this use" (source.line_at(declared)),
+        NameFault::WrongKind { kind, declared, wanted } =>
+            "`{name}` is {} (line {}); {} is wanted here" (kind_text(kind), source.line_at(declared), Wished(wanted)),
+        NameFault::NoWire => "the output `{name}` takes a wire alone",
+        NameFault::NoPort => "the module has no port `{name}`",
+    })
 }
 
 fn kind_text(kind: Kind) -> &'static str {
@@ -78,20 +48,25 @@ fn kind_text(kind: Kind) -> &'static str {
 }
 
 // What is wanted at a place.
-fn place<'t>(wanted: Wanted) -> Term<'t> {
-    Term::Text(match wanted {
-        Wanted::Register => "a register",
-        Wanted::File => "a file",
-        Wanted::Integer => "the integer `i`",
-        Wanted::Wire => "a wire",
-        Wanted::Port(port) => return Term::Word(Word(port.bytes())),
-        Wanted::WireOrOutput => "a wire or an output",
-        Wanted::Source => "a register, a sample or `ext`",
-    })
+#[derive(Clone, Copy)]
+struct Wished(Wanted);
+
+impl Display for Wished {
+    fn fmt<W: fmt::Write>(&self, f: &mut fmt::Formatter<W>) -> fmt::Result {
+        sentences!(f, self.0, {
+            Wanted::Register => "a register",
+            Wanted::File => "a file",
+            Wanted::Integer => "the integer `i`",
+            Wanted::Wire => "a wire",
+            Wanted::Port(port) => "`{}`" (Word(port.bytes())),
+            Wanted::WireOrOutput => "a wire or an output",
+            Wanted::Source => "a register, a sample or `ext`",
+        })
+    }
 }
 
-/// What helps where this name violates a rule of names, if anything is known to.
-pub fn name_help<'t>(name: Word<'t>, fault: NameFault) -> Option<Line<'t>>
+// What helps where this name violates a rule of names, if anything is known to.
+pub(crate) fn name_help<'t>(name: Word<'t>, fault: NameFault) -> Option<Line<'t>>
     ensures { option_map printed result ≡ name_help name.entry.0.now fault }
 {
     match fault {

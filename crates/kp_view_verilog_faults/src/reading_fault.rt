@@ -4,7 +4,7 @@ ghost use Rattle.kp_view_help.specs.Phrases.{printed};
 ghost use Rattle.kp_view_verilog_faults.specs.Helps.{reading_help};
 
 use crate::set::Expected;
-use kp_view_help::{FoundToken, Line, Term};
+use kp_view_help::{Byte, FoundToken, Line, sentences};
 use std::fmt::{self, Display};
 
 /// Why a text is no module of the subset.
@@ -25,33 +25,16 @@ pub enum ReadingFault<'t> {
     Unknown,
 }
 
-impl<'t> ReadingFault<'t> {
-    // The sentence, or what is before the term that it ends with.
-    fn text(&self) -> &'static str {
-        match self {
-            ReadingFault::NoToken(_) => "no word of the subset begins with ",
-            ReadingFault::LongName(_) => "a name has at most 70 bytes; this has ",
-            ReadingFault::OpenComment => "no `*/` closes this comment",
-            ReadingFault::NoNumber => "neither a number below 2^64 nor a literal such as 8'h1f",
-            ReadingFault::Unexpected { .. } => "expected ",
-            ReadingFault::Unknown => "this violates a rule (docs/VERILOG.md)",
-        }
-    }
-}
-
 impl<'t> Display for ReadingFault<'t> {
     fn fmt<W: fmt::Write>(&self, f: &mut fmt::Formatter<W>) -> fmt::Result {
-        f.write_str(self.text())?;
-        match self {
-            ReadingFault::NoToken(byte) => Term::Byte(*byte).fmt(f),
-            ReadingFault::LongName(length) => length.fmt(f),
-            ReadingFault::Unexpected { found, expected } => {
-                expected.fmt(f)?;
-                f.write_str(", found ")?;
-                found.fmt(f)
-            }
-            _ => Ok(()),
-        }
+        sentences!(f, self, {
+            ReadingFault::NoToken(byte) => "no word of the subset begins with {}" (Byte(*byte)),
+            ReadingFault::LongName(length) => "a name has at most 70 bytes; this has {length}",
+            ReadingFault::OpenComment => "no `*/` closes this comment",
+            ReadingFault::NoNumber => "neither a number below 2^64 nor a literal such as 8'h1f",
+            ReadingFault::Unexpected { found, expected } => "expected {expected}, found {found}",
+            ReadingFault::Unknown => "this violates a rule (docs/VERILOG.md)",
+        })
     }
 }
 

@@ -37,7 +37,7 @@ impl<'t> Source<'t> {
 }
 
 /// The length of the run of letters, digits, `_` and `$` at the head of a text.
-pub fn name_length(text: &[u8]) -> usize
+fn name_length(text: &[u8]) -> usize
     ensures value { result ≡ run_length is_in_identifier text.now }
     ensures within { result ≤ length text.now }
 {

@@ -4,140 +4,83 @@ ghost use Rattle.kp_view_help.specs.Phrases.{printed};
 ghost use Rattle.kp_view_verilog_faults.specs.Helps.{HasBits, HelpsWidth};
 
 use crate::source::Source;
-use kp_bits::BinOp;
-use kp_view_help::{Line, Term, Terms, Word};
+use kp_view_help::{Bits, Line, Term, Terms, Word, sentences};
 use kp_vread_rules::{Side, WidthFault};
+use std::fmt::{self, Display};
 
-/// The sentence for a violated rule of widths, in a text with this name at its place.
-pub fn width_sentence<'t>(source: Source<'t>, name: Word<'t>, fault: WidthFault) -> Line<'t> {
-    Line {
-        text: text(fault),
-        terms: terms(source, name, fault),
-    }
-}
-
-fn text(fault: WidthFault) -> &'static str {
-    match fault {
+// Writes the sentence for a violated rule of widths, in a text with this name at its place.
+pub(crate) fn write_width<W: fmt::Write>(
+    f: &mut fmt::Formatter<W>,
+    source: Source<'_>,
+    name: Word<'_>,
+    fault: WidthFault,
+) -> fmt::Result {
+    sentences!(f, fault, {
         WidthFault::Range => "a range is `[h:0]`, where h is 63 at most",
-        WidthFault::StallRange => "the range of `{}` is `[h:0]`, where h is 1 to 11",
+        WidthFault::StallRange => "the range of `{name}` is `[h:0]`, where h is 1 to 11",
         WidthFault::BackRange => "the range of `back` is `[3:0]`",
         WidthFault::Words =>
             "the words of a file are `[0:w]`, where w + 1 is 2, 4, 8 or another power of 2 up to 65,536",
         WidthFault::Files => "a module has at most 16 files",
-        WidthFault::Value { .. } => "{}, and this value has {}",
-        WidthFault::Operands { .. } =>
-            "the target and the operands of `{}` have different widths: {}, {} and {}",
-        WidthFault::Compared { .. } => "the operands of `{}` have different widths: {} and {}",
-        WidthFault::Comparison { .. } => "{}, and `{}` gives 1 bit",
-        WidthFault::Shifted { .. } =>
-            "the target and the left operand of `{}` have different widths: {} and {}",
-        WidthFault::Test(_) => "a test has 1 bit; {}",
-        WidthFault::Branches { .. } =>
-            "the target and the branches have different widths: {}, {} and {}",
+        WidthFault::Value { target, found } =>
+            "{}, and this value has {}" (Sized(source, target), bits(found)),
+        WidthFault::Operands { op, a, b, target } =>
+            "the target and the operands of `{}` have different widths: {}, {} and {}"
+            (op.symbol(), Sized(source, target), Sized(source, a), Sized(source, b)),
+        WidthFault::Compared { op, a, b } =>
+            "the operands of `{}` have different widths: {} and {}" (op.symbol(), Sized(source, a), Sized(source, b)),
+        WidthFault::Comparison { op, target } =>
+            "{}, and `{}` gives 1 bit" (Sized(source, target), op.symbol()),
+        WidthFault::Shifted { op, a, target } =>
+            "the target and the left operand of `{}` have different widths: {} and {}"
+            (op.symbol(), Sized(source, target), Sized(source, a)),
+        WidthFault::Test(side) => "a test has 1 bit; {}" (Sized(source, side)),
+        WidthFault::Branches { a, b, target } =>
+            "the target and the branches have different widths: {}, {} and {}"
+            (Sized(source, target), Sized(source, a), Sized(source, b)),
         WidthFault::Slice { high, low, .. } if high < low =>
-            "the high number is written first: `[{}:{}]`",
-        WidthFault::Slice { .. } => "bits {} to {} of {}: the bits are numbered {} to 0",
-        WidthFault::Address { .. } => "an address of `{}` has {}; {}",
-        WidthFault::LiteralWidth(_) => "a literal has 1 to 64 bits, not {}",
-        WidthFault::LiteralValue { .. } => "{} doesn't fit {}",
-        WidthFault::Index { .. } =>
-            "the words of `{}` are numbered 0 to {}, and {} isn't one of them",
-        WidthFault::Loop { .. } => "the `for` of `{}` goes over all its {} words",
-    }
+            "the high number is written first: `[{low}:{high}]`",
+        WidthFault::Slice { high, low, width } =>
+            "bits {high} to {low} of {}: the bits are numbered {} to 0"
+            (bits(width), bits(width).0.saturating_sub(1)),
+        WidthFault::Address { address, file, wanted } =>
+            "an address of `{}` has {}; {}"
+            (source.name_at(file as usize), bits(u128::from(wanted)), Sized(source, address)),
+        WidthFault::LiteralWidth(width) => "a literal has 1 to 64 bits, not {width}",
+        WidthFault::LiteralValue { value, width } => "{value} doesn't fit {}" (Bits(width)),
+        WidthFault::Index { words, found } =>
+            "the words of `{name}` are numbered 0 to {}, and {found} isn't one of them"
+            (words.saturating_sub(1)),
+        WidthFault::Loop { words } => "the `for` of `{name}` goes over all its {words} words",
+    })
 }
 
-fn terms<'t>(source: Source<'t>, name: Word<'t>, fault: WidthFault) -> Terms<'t> {
-    match fault {
-        WidthFault::Value { target, found } => Terms::Two(sized(source, target), bits(found)),
-        WidthFault::Operands { op, a, b, target } => Terms::Four(
-            symbol(op),
-            sized(source, target),
-            sized(source, a),
-            sized(source, b),
-        ),
-        WidthFault::Compared { op, a, b } => {
-            Terms::Three(symbol(op), sized(source, a), sized(source, b))
-        }
-        WidthFault::Comparison { op, target } => Terms::Two(sized(source, target), symbol(op)),
-        WidthFault::Shifted { op, a, target } => {
-            Terms::Three(symbol(op), sized(source, target), sized(source, a))
-        }
-        WidthFault::Test(side) => Terms::One(sized(source, side)),
-        WidthFault::Branches { a, b, target } => Terms::Three(
-            sized(source, target),
-            sized(source, a),
-            sized(source, b),
-        ),
-        WidthFault::Address {
-            address,
-            file,
-            wanted,
-        } => Terms::Three(
-            Term::Word(source.name_at(file as usize)),
-            Term::Bits(u64::from(wanted)),
-            sized(source, address),
-        ),
-        fault => numbers(name, fault),
-    }
-}
+// A name of the text, with its width and the line of its declaration.
+#[derive(Clone, Copy)]
+struct Sized<'t>(Source<'t>, Side);
 
-// The terms of a sentence with numbers, of this name.
-fn numbers<'t>(name: Word<'t>, fault: WidthFault) -> Terms<'t> {
-    let here = Term::Word(name);
-    match fault {
-        WidthFault::Slice { high, low, .. } if high < low => {
-            Terms::Two(Term::Number(low), Term::Number(high))
-        }
-        WidthFault::Slice { high, low, width } => {
-            let last = printed_width(width).saturating_sub(1);
-            Terms::Four(
-                Term::Number(high),
-                Term::Number(low),
-                bits(width),
-                Term::Number(last),
-            )
-        }
-        WidthFault::LiteralWidth(width) => Terms::One(Term::Number(width)),
-        WidthFault::LiteralValue { value, width } => {
-            Terms::Two(Term::Number(value), Term::Bits(width))
-        }
-        WidthFault::Index { words, found } => Terms::Three(
-            here,
-            Term::Number(words.saturating_sub(1)),
-            Term::Number(found),
-        ),
-        WidthFault::Loop { words } => Terms::Two(here, Term::Number(words)),
-        _ => Terms::One(here),
+impl<'t> Display for Sized<'t> {
+    fn fmt<W: fmt::Write>(&self, f: &mut fmt::Formatter<W>) -> fmt::Result {
+        let Sized(source, side) = *self;
+        let (name, line) = (
+            source.name_at(side.name as usize),
+            source.line_at(side.declared),
+        );
+        let width = bits(side.width);
+        write!(f, "`{name}` (line {line}) has {width}")
     }
-}
-
-// A name with its width and the line of its declaration.
-fn sized<'t>(source: Source<'t>, side: Side) -> Term<'t> {
-    Term::Sized {
-        name: source.name_at(side.name as usize),
-        line: source.line_at(side.declared),
-        bits: printed_width(side.width),
-    }
-}
-
-fn bits<'t>(width: u128) -> Term<'t> {
-    Term::Bits(printed_width(width))
 }
 
 // A width as it is printed: the greatest 64-bit number where it is greater.
-fn printed_width(width: u128) -> u64 {
+fn bits(width: u128) -> Bits {
     match u64::try_from(width) {
-        Ok(width) => width,
-        Err(_) => u64::MAX,
+        Ok(width) => Bits(width),
+        Err(_) => Bits(u64::MAX),
     }
 }
 
-fn symbol<'t>(op: BinOp) -> Term<'t> {
-    Term::Text(op.symbol())
-}
-
-/// What helps where this name violates a rule of widths, if anything is known to.
-pub fn width_help<'t>(name: Word<'t>, fault: WidthFault) -> Option<Line<'t>>
+// What helps where this name violates a rule of widths, if anything is known to.
+pub(crate) fn width_help<'t>(name: Word<'t>, fault: WidthFault) -> Option<Line<'t>>
     ensures { HelpsWidth name.entry.0.now fault (option_map printed result) }
 {
     match fault {
