@@ -1,5 +1,5 @@
 // The parts of a page before and after the states.
-ghost use Rattle.std.specs.Prelude.{◌++◌, ◌≤◌, length};
+ghost use Rattle.std.specs.Prelude.{[], ◌++◌, ◌≤◌, length};
 ghost use Rattle.kp_base.specs.Bytes.{Writes};
 ghost use Rattle.kp_base.specs.Causes.{HasCause};
 ghost use Rattle.kp_diagram_svg.specs.Picture.{svg_text};
@@ -27,7 +27,7 @@ pub(crate) fn write_start<K: Sink>(
 ) -> Result<(), SinkFault>
     requires drawable { IsDrawable chart.now }
     requires few { length chart.now.rows.now ≤ 1000 }
-    ensures text { Writes (K.held sink.old) (K.held sink.new) (page_start (figure_of chart.now) (rows_of chart.now) source.now (paths_text paths.now)) result }
+    ensures text { Writes (K.held sink.old) (K.held sink.new) (page_start (figure_of chart.now) (rows_of chart.now) source.now (paths_text [] paths.now)) result }
     ensures cause { HasCause (K.faults sink.old) (K.faults sink.new) result }
 {
     write_head(chart.name, sink)?;
@@ -70,7 +70,7 @@ fn write_source_and_diagram<K: Sink>(
 ) -> Result<(), SinkFault>
     requires drawable { IsDrawable chart.now }
     requires few { length chart.now.rows.now ≤ 1000 }
-    ensures text { Writes (K.held sink.old) (K.held sink.new) (source_text source.now ++ diagram_part (figure_of chart.now) (rows_of chart.now) (paths_text paths.now)) result }
+    ensures text { Writes (K.held sink.old) (K.held sink.new) (source_text source.now ++ diagram_part (figure_of chart.now) (rows_of chart.now) (paths_text [] paths.now)) result }
     ensures cause { HasCause (K.faults sink.old) (K.faults sink.new) result }
 {
     write_source(source, sink)?;
@@ -85,7 +85,7 @@ fn write_diagram<K: Sink>(
 ) -> Result<(), SinkFault>
     requires drawable { IsDrawable chart.now }
     requires few { length chart.now.rows.now ≤ 1000 }
-    ensures text { Writes (K.held sink.old) (K.held sink.new) (diagram_part (figure_of chart.now) (rows_of chart.now) (paths_text paths.now)) result }
+    ensures text { Writes (K.held sink.old) (K.held sink.new) (diagram_part (figure_of chart.now) (rows_of chart.now) (paths_text [] paths.now)) result }
     ensures cause { HasCause (K.faults sink.old) (K.faults sink.new) result }
 {
     write_before_diagram(sink)?;
@@ -100,7 +100,7 @@ fn write_picture_and_paths<K: Sink>(
 ) -> Result<(), SinkFault>
     requires drawable { IsDrawable chart.now }
     requires few { length chart.now.rows.now ≤ 1000 }
-    ensures text { Writes (K.held sink.old) (K.held sink.new) (svg_text chart.now ++ paths_part (paths_text paths.now) (names_of chart.now) chart.now.stages) result }
+    ensures text { Writes (K.held sink.old) (K.held sink.new) (svg_text chart.now ++ paths_part (paths_text [] paths.now) (names_of chart.now) chart.now.stages) result }
     ensures cause { HasCause (K.faults sink.old) (K.faults sink.new) result }
 {
     write_svg(chart, sink)?;
@@ -110,7 +110,7 @@ fn write_picture_and_paths<K: Sink>(
 #[tactic(auto, using(kp_base::proofs::Bytes::writes_next, kp_base::proofs::Bytes::part_more))]
 fn write_table<K: Sink>(chart: &Chart<'_>, paths: &Paths<'_>, sink: &mut K) -> Result<(), SinkFault>
     requires { IsDrawable chart.now }
-    ensures text { Writes (K.held sink.old) (K.held sink.new) (paths_part (paths_text paths.now) (names_of chart.now) chart.now.stages) result }
+    ensures text { Writes (K.held sink.old) (K.held sink.new) (paths_part (paths_text [] paths.now) (names_of chart.now) chart.now.stages) result }
     ensures cause { HasCause (K.faults sink.old) (K.faults sink.new) result }
 {
     write_before_paths(sink)?;
@@ -124,10 +124,10 @@ fn write_paths_and_stages<K: Sink>(
     sink: &mut K,
 ) -> Result<(), SinkFault>
     requires { IsDrawable chart.now }
-    ensures text { Writes (K.held sink.old) (K.held sink.new) (paths_text paths.now ++ stages_part (names_of chart.now) chart.now.stages) result }
+    ensures text { Writes (K.held sink.old) (K.held sink.new) (paths_text [] paths.now ++ stages_part (names_of chart.now) chart.now.stages) result }
     ensures cause { HasCause (K.faults sink.old) (K.faults sink.new) result }
 {
-    write_paths(paths, sink)?;
+    write_paths(paths, &[], sink)?;
     write_stages(chart, sink)
 }
 

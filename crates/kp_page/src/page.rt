@@ -1,5 +1,5 @@
 // The page of a run.
-ghost use Rattle.std.specs.Prelude.{◌≡◌, ◌≤◌, ◌++◌, length};
+ghost use Rattle.std.specs.Prelude.{[], ◌≡◌, ◌≤◌, ◌++◌, length};
 ghost use Rattle.kp_base.specs.Bytes.{Writes};
 ghost use Rattle.kp_base.specs.Causes.{HasCause};
 ghost use Rattle.kp_diagram_text.specs.Charts.{IsDrawable, figure_of, rows_of};
@@ -39,7 +39,7 @@ pub fn write_page<K: Sink>(
     requires before { before.old ≡ after_cycles job.now.design.job now.old.net 0 }
     requires room { length room.old ≡ length job.now.sections.inputs }
     ensures text { Writes (K.held sink.old) (K.held sink.new)
-        (page (figure_of chart.now) (rows_of chart.now) source.now (paths_text paths.now) (states_text job.now.design.job count)) result }
+        (page (figure_of chart.now) (rows_of chart.now) source.now (paths_text [] paths.now) (states_text job.now.design.job count)) result }
     ensures cause { HasCause (K.faults sink.old) (K.faults sink.new) result }
 {
     write_start(chart, source, paths, sink)?;

@@ -6,17 +6,18 @@ use Rattle.kp_paths.specs.{declared.cell.Cell.Cell, Table.cell_at, Arrows.arrow_
 use Rattle.kp_paths.specs.Picture.{arrow_text, arrows_text, column_text, columns_text, rows_from, rows_in, rows_of}
 use Rattle.kp_paths.specs.Places.{middle, row_end, rows_end}
 
-pub columns_next : (low count j : ℕ) → j < count → columns_text low j (count - j) ≡ column_text j (middle j) low ++ columns_text low (j + 1) (count - (j + 1))
-columns_next low count j h = let one : count - j ≡ suc (count - (j + 1)) = omega arith in ap (λ (m : ℕ). columns_text low j m) one
+pub columns_next : (names : List (List ℕ)) (low count j : ℕ) → j < count
+    → columns_text names low j (count - j) ≡ column_text names j (middle j) low ++ columns_text names low (j + 1) (count - (j + 1))
+columns_next names low count j h = let one : count - j ≡ suc (count - (j + 1)) = omega arith in ap (λ (m : ℕ). columns_text names low j m) one
 
 -- the arrows of one stage more
 module _ (job : Job) (r : ReadStmt) (k count j : ℕ) (h : j < count) where
   pub more_arrows : arrows_from job r k j (count - j) ≡ arrow_of j (cell_at job r k j) ++ arrows_from job r k (j + 1) (count - (j + 1))
   more_arrows = let one : count - j ≡ suc (count - (j + 1)) = omega arith in ap (λ (m : ℕ). arrows_from job r k j m) one
 
-  pub arrows_next : arrows_text k (arrows_from job r k j (count - j))
-      ≡ arrows_text k (arrow_of j (cell_at job r k j)) ++ arrows_text k (arrows_from job r k (j + 1) (count - (j + 1)))
-  arrows_next = ap (arrows_text k) more_arrows ∙ flat_map-append (arrow_text k) (arrow_of j (cell_at job r k j)) (arrows_from job r k (j + 1) (count - (j + 1)))
+  pub arrows_next : (names : List (List ℕ)) → arrows_text names k (arrows_from job r k j (count - j))
+      ≡ arrows_text names k (arrow_of j (cell_at job r k j)) ++ arrows_text names k (arrows_from job r k (j + 1) (count - (j + 1)))
+  arrows_next names = ap (arrows_text names k) more_arrows ∙ flat_map-append (arrow_text names k) (arrow_of j (cell_at job r k j)) (arrows_from job r k (j + 1) (count - (j + 1)))
 
   counted : (c : Cell) (b : Bool) → is_shown c ≡ b → length (arrow_of j c) ≡ cond b 1 0
   counted c true e = rw e refl
@@ -33,8 +34,8 @@ module _ (job : Job) (k top : ℕ) (stmts : List Stmt) (i : ℕ) (s : Stmt) (b :
   one_stmt : drop i stmts ≡ s ∷ drop (i + 1) stmts
   one_stmt = drop_more stmts i s b ∙ ap (λ (x : Stmt). x ∷ drop (i + 1) stmts) (sym is)
 
-  pub rows_next : rows_in job k top (drop i stmts) ≡ rows_of job k top s.kind ++ rows_in job k (row_end job k top s.kind) (drop (i + 1) stmts)
-  rows_next = ap (rows_in job k top) one_stmt
+  pub rows_next : (names : List (List ℕ)) → rows_in names job k top (drop i stmts) ≡ rows_of names job k top s.kind ++ rows_in names job k (row_end job k top s.kind) (drop (i + 1) stmts)
+  rows_next names = ap (rows_in names job k top) one_stmt
 
   pub ends_next : rows_end job k top (drop i stmts) ≡ rows_end job k (row_end job k top s.kind) (drop (i + 1) stmts)
   ends_next = ap (rows_end job k top) one_stmt
@@ -43,5 +44,5 @@ module _ (job : Job) (top : ℕ) (blocks : List Block) (k : ℕ) (x : Block) (b 
   one_block : drop k blocks ≡ x ∷ drop (k + 1) blocks
   one_block = drop_more blocks k x b ∙ ap (λ (y : Block). y ∷ drop (k + 1) blocks) (sym is)
 
-  pub blocks_next : rows_from job k top (drop k blocks) ≡ rows_in job k top x.stmts ++ rows_from job (k + 1) (rows_end job k top x.stmts) (drop (k + 1) blocks)
-  blocks_next = ap (rows_from job k top) one_block
+  pub blocks_next : (names : List (List ℕ)) → rows_from names job k top (drop k blocks) ≡ rows_in names job k top x.stmts ++ rows_from names job (k + 1) (rows_end job k top x.stmts) (drop (k + 1) blocks)
+  blocks_next names = ap (rows_from names job k top) one_block

@@ -1,5 +1,5 @@
 // The arrows.
-ghost use Rattle.std.specs.Prelude.{◌≡◌};
+ghost use Rattle.std.specs.Prelude.{◌≡◌, map, string_bytes};
 ghost use Rattle.kp_base.specs.Writer.{Wrote};
 ghost use Rattle.kp_paths.specs.Arrows.{arrow_of};
 ghost use Rattle.kp_paths.specs.Picture.{arrow_text, arrows_text, look as look_of};
@@ -7,27 +7,35 @@ ghost use Rattle.kp_paths.specs.Picture.{arrow_text, arrows_text, look as look_o
 use crate::cell::Cell;
 use crate::ends::is_shown;
 use crate::places::{landing, level, middle};
-use crate::texts::ARROW;
+use crate::stage_names::write_stage;
+use crate::texts::{ARROW, ARROW_START};
 use kp_base::{Piece, Sink, Writer};
 
 /// What the picture shows of stage j for a read in stage k: an arrow, or nothing.
 #[tactic(auto, using(kp_base::proofs::Writing::wrote_none))]
-pub(crate) fn write_cell<K: Sink>(k: usize, j: usize, cell: Cell, out: &mut Writer<'_, K>)
-    ensures { Wrote K.held K.faults out.old out.new (arrows_text k (arrow_of j cell)) }
+pub(crate) fn write_cell<K: Sink>(
+    names: &[String],
+    k: usize,
+    j: usize,
+    cell: Cell,
+    out: &mut Writer<'_, K>,
+)
+    ensures { Wrote K.held K.faults out.old out.new (arrows_text (map string_bytes names.now) k (arrow_of j cell)) }
 {
     if is_shown(cell) {
-        write_arrow(k, j, cell, out)
+        write_arrow(names, k, j, cell, out)
     }
 }
 
-fn write_arrow<K: Sink>(k: usize, j: usize, cell: Cell, out: &mut Writer<'_, K>)
-    ensures { Wrote K.held K.faults out.old out.new (arrow_text k (record { stage = j; cell = cell })) }
+fn write_arrow<K: Sink>(names: &[String], k: usize, j: usize, cell: Cell, out: &mut Writer<'_, K>)
+    ensures { Wrote K.held K.faults out.old out.new (arrow_text (map string_bytes names.now) k (record { stage = j; cell = cell })) }
 {
     let (x, up) = (middle(j), level(k, j));
+    out.put(ARROW_START);
+    write_stage(names, j, out);
     out.fill(
         ARROW,
         &[
-            Piece::Number(j as u64),
             Piece::Text(cell.word()),
             Piece::Number(x as u64),
             Piece::Number(up as u64),

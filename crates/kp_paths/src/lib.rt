@@ -22,6 +22,7 @@ mod pieces;
 mod places;
 mod rows;
 mod sets;
+mod stage_names;
 mod table;
 mod text;
 mod texts;

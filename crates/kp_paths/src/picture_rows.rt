@@ -1,5 +1,5 @@
 // The rows of the reads.
-ghost use Rattle.std.specs.Prelude.{◌≡◌, ◌≤◌};
+ghost use Rattle.std.specs.Prelude.{◌≡◌, ◌≤◌, map, string_bytes};
 ghost use Rattle.kp_base.specs.Writer.{Wrote};
 ghost use Rattle.kp_paths.specs.Arrows.{arrows_from};
 ghost use Rattle.kp_paths.specs.Picture.{arrows_text, note as note_of, read_box, row_start, row_text, rows_from, rows_in, rows_of};
@@ -17,16 +17,17 @@ use kp_base::{Piece, Sink, Writer};
 #[tactic(auto, using(kp_base::proofs::Writing::up_none))]
 pub(crate) fn write_blocks<K: Sink>(
     paths: &Paths<'_>,
+    names: &[String],
     blocks: &[Block],
     from: usize,
     out: &mut Writer<'_, K>,
 )
     requires { from ≤ LOWEST }
-    ensures { Wrote K.held K.faults out.old out.new (rows_from paths.now 0 from blocks.now) }
+    ensures { Wrote K.held K.faults out.old out.new (rows_from (map string_bytes names.now) paths.now 0 from blocks.now) }
 {
     let mut top = from;
     for (k, block) in blocks.iter().enumerate() {
-        write_block(paths, block.stmts.as_slice(), k, top, out);
+        write_block(paths, names, block.stmts.as_slice(), k, top, out);
         top = rows_end(paths, block.stmts.as_slice(), k, top);
     }
 }
@@ -34,17 +35,18 @@ pub(crate) fn write_blocks<K: Sink>(
 #[tactic(auto, using(kp_base::proofs::Writing::up_none))]
 fn write_block<K: Sink>(
     paths: &Paths<'_>,
+    names: &[String],
     stmts: &[Stmt],
     k: usize,
     from: usize,
     out: &mut Writer<'_, K>,
 )
     requires { from ≤ LOWEST }
-    ensures { Wrote K.held K.faults out.old out.new (rows_in paths.now k from stmts.now) }
+    ensures { Wrote K.held K.faults out.old out.new (rows_in (map string_bytes names.now) paths.now k from stmts.now) }
 {
     let mut top = from;
     for stmt in stmts {
-        write_stmt(paths, &stmt.kind, k, top, out);
+        write_stmt(paths, names, &stmt.kind, k, top, out);
         top = row_end(paths, &stmt.kind, k, top);
     }
 }
@@ -53,35 +55,37 @@ fn write_block<K: Sink>(
 #[tactic(auto, using(kp_base::proofs::Writing::wrote_none))]
 fn write_stmt<K: Sink>(
     paths: &Paths<'_>,
+    names: &[String],
     stmt: &StmtKind,
     k: usize,
     top: usize,
     out: &mut Writer<'_, K>,
 )
     requires { top ≤ LOWEST }
-    ensures { Wrote K.held K.faults out.old out.new (rows_of paths.now k top stmt.now) }
+    ensures { Wrote K.held K.faults out.old out.new (rows_of (map string_bytes names.now) paths.now k top stmt.now) }
 {
     match stmt {
-        StmtKind::Read(read) => write_row(paths, read, k, top, out),
+        StmtKind::Read(read) => write_row(paths, names, read, k, top, out),
         _ => (),
     }
 }
 
 fn write_row<K: Sink>(
     paths: &Paths<'_>,
+    names: &[String],
     read: &ReadStmt,
     k: usize,
     top: usize,
     out: &mut Writer<'_, K>,
 )
     requires { top ≤ LOWEST }
-    ensures { Wrote K.held K.faults out.old out.new (row_text paths.now k top read.now) }
+    ensures { Wrote K.held K.faults out.old out.new (row_text (map string_bytes names.now) paths.now k top read.now) }
 {
     let line = line_in(top, arrow_count(paths, read, k));
     write_row_start(line, right_end(paths.stages()), out);
     write_row_label(read, note(paths, read), out);
     write_box(middle(k), out);
-    write_arrows(paths, read, k, paths.stages(), out);
+    write_arrows(paths, names, read, k, paths.stages(), out);
     out.put(ROW_END)
 }
 
@@ -111,14 +115,15 @@ fn write_box<K: Sink>(x: usize, out: &mut Writer<'_, K>)
 #[tactic(auto, using(kp_base::proofs::Writing::up_none))]
 fn write_arrows<K: Sink>(
     paths: &Paths<'_>,
+    names: &[String],
     read: &ReadStmt,
     k: usize,
     count: usize,
     out: &mut Writer<'_, K>,
 )
-    ensures { Wrote K.held K.faults out.old out.new (arrows_text k (arrows_from paths.now read.now k 0 count)) }
+    ensures { Wrote K.held K.faults out.old out.new (arrows_text (map string_bytes names.now) k (arrows_from paths.now read.now k 0 count)) }
 {
     for j in 0..count {
-        write_cell(k, j, paths.cell(read, k, j), out);
+        write_cell(names, k, j, paths.cell(read, k, j), out);
     }
 }

@@ -1,9 +1,9 @@
 // Pieces of a row.
-ghost use Rattle.std.specs.Prelude.{◌≡◌, ◌≤◌, ◌++◌, codes, decimal, length};
+ghost use Rattle.std.specs.Prelude.{◌≡◌, ◌≤◌, ◌++◌, codes, decimal, length, map, string_bytes};
 ghost use Rattle.kp_base.specs.Writer.{Wrote};
 ghost use Rattle.kp_paths.specs.Text.{brackets as brackets_of, label, place_text};
 
-use itoa::Buffer;
+use crate::stage_names::write_stage_left;
 use kp_ast::ReadStmt;
 use kp_base::{Piece, Sink, Writer};
 
@@ -39,17 +39,19 @@ pub(crate) fn write_label<'a, K: Sink>(read: &'a ReadStmt, out: &mut Writer<'_, 
 }
 
 // Spaces, a line and a stage.
-#[tactic(auto, unfolding(crate::specs::Text::place_text))]
-pub(crate) fn write_place<K: Sink>(pad: usize, line: u32, k: usize, out: &mut Writer<'_, K>)
-    ensures { Wrote K.held K.faults out.old out.new (place_text pad line k) }
+pub(crate) fn write_place<K: Sink>(
+    names: &[String],
+    pad: usize,
+    line: u32,
+    k: usize,
+    out: &mut Writer<'_, K>,
+)
+    ensures { Wrote K.held K.faults out.old out.new (place_text (map string_bytes names.now) pad line k) }
 {
-    let mut digits = Buffer::new();
-    let stage = digits.format(k as u64).as_bytes();
     out.pieces(&[
         Piece::Spaces(pad),
         Piece::Column(6, u64::from(line)),
-        Piece::Text(b"  stage "),
-        Piece::Text(stage),
-        Piece::Spaces(2usize.saturating_sub(stage.len())),
-    ])
+        Piece::Text(b"  "),
+    ]);
+    write_stage_left(names, k, out)
 }

@@ -17,9 +17,12 @@ pub const HEAD: &[u8] =
 <text x='16' y='26' font-size='15' font-weight='bold'>@: where each read takes its value from</text>\n\
 <g transform='translate(@,0)'>\n";
 
-/// A column: its middle, the end of the line at its left side, and the number of the stage.
+/// A column, up to its stage: its middle, and the end of the line at its left side.
 pub const COLUMN: &[u8] =
-    b"<g transform='translate(@,0)'><path d='M-55,76V@' stroke='#b4bcc6' stroke-dasharray='2 4'/><rect x='-49' y='44' width='98' height='26' rx='4' fill='#eef3f9' stroke='#5a6b7d'/><text y='62' font-weight='bold' text-anchor='middle'>stage @</text></g>\n";
+    b"<g transform='translate(@,0)'><path d='M-55,76V@' stroke='#b4bcc6' stroke-dasharray='2 4'/><rect x='-49' y='44' width='98' height='26' rx='4' fill='#eef3f9' stroke='#5a6b7d'/><text y='62' font-weight='bold' text-anchor='middle'>";
+
+/// The end of a column, after its stage.
+pub const COLUMN_END: &[u8] = b"</text></g>\n";
 
 /// A row begins: its line, across all columns.
 pub const ROW: &[u8] =
@@ -33,9 +36,12 @@ pub const LABEL: &[u8] =
 pub const READ_BOX: &[u8] =
     b"<g transform='translate(@,0)'><rect x='-48' y='-11' width='96' height='22' rx='4' fill='#fff' stroke='#111'/><text y='4' text-anchor='middle'>reads</text></g>\n";
 
-/// An arrow: what a pointer on it shows, the line up, to the left, and down, its look, and its word.
+/// An arrow begins, up to its stage.
+pub const ARROW_START: &[u8] = b"<g><title>";
+
+/// An arrow, after its stage: what a pointer on it shows, the line up, to the left, and down, its look, and its word.
 pub const ARROW: &[u8] =
-    b"<g><title>stage @: @</title><path d='M@,0V-@H@V-12' fill='none' stroke-width='1.5' marker-start='url(#dot)' @/><text x='@' y='-@' dx='-6' dy='-4' font-size='11' text-anchor='end'>@</text></g>\n";
+    b": @</title><path d='M@,0V-@H@V-12' fill='none' stroke-width='1.5' marker-start='url(#dot)' @/><text x='@' y='-@' dx='-6' dy='-4' font-size='11' text-anchor='end'>@</text></g>\n";
 
 pub const ROW_END: &[u8] = b"</g>\n";
 

@@ -49,9 +49,9 @@ IsText (labelled from run beside) input job text =
     (label_text job beside.label labels (entries_of beside.listing) (from + run.count)) from (job_window run.names from run.count job))
 IsText (svg run) input job text = text ≡ picture (figure_drawn run job) (rows_drawn run job)
 IsText (page run) input job text =
-    text ≡ page_text (figure_drawn run job) (rows_drawn run job) input (paths_text job) (states_text job run.count)
-IsText paths input job text = text ≡ paths_text job
-IsText paths_svg input job text = text ≡ paths_svg_text job
+    text ≡ page_text (figure_drawn run job) (rows_drawn run job) input (paths_text [] job) (states_text job run.count)
+IsText (paths names) input job text = text ≡ paths_text names job
+IsText (paths_svg names) input job text = text ≡ paths_svg_text names job
 IsText (stalls run) input job text = text ≡ stalls_text run.names (labels_from job.blocks) (job_stalls run.count job)
 IsText (depth memories) input job text = IsDepthText job (are_inside memories) text
 
@@ -71,8 +71,8 @@ IsShown (window from run) job = ShowsRun job (from + run.count) (job_figure run.
 IsShown (labelled from run beside) job = ShowsRun job (from + run.count) (job_figure run.names (from + run.count) job)
 IsShown (svg run) job = ShowsRun job run.count (figure_drawn run job)
 IsShown (page run) job = ShowsRun job run.count (figure_drawn run job) × ArePaths job × ShowsStates job run.count
-IsShown paths job = ArePaths job
-IsShown paths_svg job = ArePaths job × ShowsCells job
+IsShown (paths names) job = ArePaths job
+IsShown (paths_svg names) job = ArePaths job × ShowsCells job
 IsShown (stalls run) job = ShowCauses job run.count
 IsShown (depth memories) job = Unit {0}
 

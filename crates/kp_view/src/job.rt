@@ -176,8 +176,8 @@ fn drawn<K: Sink>(
         Order::Labelled(shown) => labelled(alloc, shown, labels, job, out),
         Order::Svg(run) => svg(alloc, run, job, out),
         Order::Page(run) => page(alloc, run, input, job, out),
-        Order::Paths => paths(alloc, job, out),
-        Order::PathsSvg => paths_svg(alloc, job, out),
+        Order::Paths(names) => paths(alloc, *names, job, out),
+        Order::PathsSvg(names) => paths_svg(alloc, *names, job, out),
         Order::Stalls(cycles) => stalls(alloc, cycles, job, out),
         Order::Depth(memories) => depth(alloc, *memories, job, out),
     }

@@ -1,5 +1,5 @@
 // `page`: a run as a page of HTML.
-ghost use Rattle.std.specs.Prelude.{◌≡◌, ◌≤◌, None, length, true};
+ghost use Rattle.std.specs.Prelude.{[], ◌≡◌, ◌≤◌, None, length, true};
 ghost use Rattle.kp_view_words.specs.Asked.{run_seen};
 ghost use Rattle.kp_diagram_text.specs.Charts.{IsDrawable, are_names, figure_of, rows_of};
 ghost use Rattle.kp_page.specs.States.{states_text};
@@ -30,7 +30,7 @@ pub fn page<K: Sink>(
 ) -> Result<(), Failure>
     requires { are_names (run_seen run.now).names job.now.design.job.stages.value ≡ true }
     ensures { Ends K.held K.faults ⊥ (Says 0 (page_text (figure_drawn (run_seen run.now) job.now.design.job) (rows_drawn (run_seen run.now) job.now.design.job)
-        input.now (paths_text job.now.design.job) (states_text job.now.design.job run.now.count))) None out.old out.new result }
+        input.now (paths_text [] job.now.design.job) (states_text job.now.design.job run.now.count))) None out.old out.new result }
 {
     let job_run = run_job(alloc, job, run.count)?;
     let paths = Paths::of(alloc, &job.design)?;
@@ -53,7 +53,7 @@ fn with_states<K: Sink>(
 ) -> Result<(), Failure>
     requires drawable { IsDrawable chart.now }
     requires few { length chart.now.rows.now ≤ 1000 }
-    ensures { Ends K.held K.faults ⊥ (Says 0 (page_text (figure_of chart.now) (rows_of chart.now) input.now (paths_text paths.now)
+    ensures { Ends K.held K.faults ⊥ (Says 0 (page_text (figure_of chart.now) (rows_of chart.now) input.now (paths_text [] paths.now)
         (states_text job.now.design.job count))) None out.old out.new result }
 {
     // The invariant of the type, for the proof only.

@@ -3,15 +3,15 @@ use Rattle.std.proofs.Common.{◌≡◌, ◌∙◌, ◌-◌, ◌≤◌, Bool, co
 use Rattle.std.proofs.lemmas.List.{length-drop, take_all}
 use Rattle.std.specs.{Borrow.Bor, List.find, List.list_any, Option.option_copied, Prelude.not, Prelude.option_map}
 use Rattle.kp_command_line.{specs.Words.Text, specs.Words.has_flag, specs.Words.is_flag, proofs.Parses.any_text}
-use Rattle.kp_view_words.specs.Words.{asks_files, asks_picture, depth_with, is_name, names_in, paths_svg, takes_names, with_file, with_flag, wrong_name}
+use Rattle.kp_view_words.specs.Words.{asks_files, asks_picture, depth_with, is_name, names_in, picture_with, takes_names, with_flag, wrong_name}
 
 -- a flag for files
 by_files : (word flag : Text) (files : List Text) → false ≡ has_flag files → false ≡ asks_picture word flag → true ≡ asks_files word flag
     → depth_with files ≡ with_flag word (flag ∷ files)
 by_files word flag files none picture asks =
     ap (λ (b : Bool). cond b (depth_with files) None) asks
-    ∙ ap (λ (b : Bool). cond b (with_file paths_svg files) (cond (asks_files word flag) (depth_with files) None)) picture
-    ∙ ap (λ (b : Bool). cond b None (cond (asks_picture word flag) (with_file paths_svg files) (cond (asks_files word flag) (depth_with files) None))) none
+    ∙ ap (λ (b : Bool). cond b (picture_with files) (cond (asks_files word flag) (depth_with files) None)) picture
+    ∙ ap (λ (b : Bool). cond b None (cond (asks_picture word flag) (picture_with files) (cond (asks_files word flag) (depth_with files) None))) none
 
 module _ {X : Type 0} (text : X → Text) where
   abbrev after : List X → List X

@@ -27,8 +27,8 @@ order_seen (orders.Window later) = window later.from (run_seen later.run)
 order_seen (orders.Labelled shown) = labelled shown.later.from (run_seen shown.later.run) (beside_seen shown)
 order_seen (orders.Svg run) = svg (run_seen run)
 order_seen (orders.Page run) = page (run_seen run)
-order_seen orders.Paths = paths
-order_seen orders.PathsSvg = paths_svg
+order_seen (orders.Paths names) = paths (map string_bytes names.now)
+order_seen (orders.PathsSvg names) = paths_svg (map string_bytes names.now)
 order_seen (orders.Stalls cycles) = stalls (cycles_seen cycles)
 order_seen (orders.Depth memories) = depth memories
 

@@ -32,8 +32,9 @@ pub data Order : Type 0 where
   labelled : ℕ → Run → Beside → Order
   svg : Run → Order
   page : Run → Order
-  paths : Order
-  paths_svg : Order
+  -- with names of the stages
+  paths : List Text → Order
+  paths_svg : List Text → Order
   stalls : Run → Order
   depth : Memories → Order
 
@@ -55,8 +56,8 @@ names_for (window from run) = run.names
 names_for (labelled from run beside) = run.names
 names_for (svg run) = run.names
 names_for (page run) = run.names
-names_for paths = []
-names_for paths_svg = []
+names_for (paths names) = names
+names_for (paths_svg names) = names
 names_for (stalls run) = run.names
 names_for (depth memories) = []
 
@@ -73,8 +74,8 @@ named listed (window from run) = window from (run_named listed run)
 named listed (labelled from run beside) = labelled from (run_named listed run) beside
 named listed (svg run) = svg (run_named listed run)
 named listed (page run) = page (run_named listed run)
-named listed paths = paths
-named listed paths_svg = paths_svg
+named listed (paths names) = paths (names_or listed names)
+named listed (paths_svg names) = paths_svg (names_or listed names)
 named listed (stalls run) = stalls (run_named listed run)
 named listed (depth memories) = depth memories
 
@@ -249,12 +250,22 @@ abbrev pub stalls_with : List Text → Option Task
 stalls_with [] = None
 stalls_with (number ∷ rest) = option_and_then (λ count. option_map stalls_of (run_with count rest)) (count_of 100000 number)
 
+-- the paths of a job, as a table or as a picture: names of the stages and a file
+abbrev pub paths_of : Named → Task
+paths_of named = record { order = paths named.names; file = named.file }
+
+abbrev pub picture_of : Named → Task
+picture_of named = record { order = paths_svg named.names; file = named.file }
+
+abbrev pub picture_with : List Text → Option Task
+picture_with rest = option_map picture_of (named_in rest)
+
 -- what a word asks for, with these words after it: `same` nothing about a job alone
 abbrev pub task_with : Word → List Text → Option Task
 task_with words.Diagram rest = diagram_with rest
 task_with words.Svg rest = option_map (λ asked. record { order = svg asked.run; file = asked.file }) (run_in rest)
 task_with words.Page rest = option_map (λ asked. record { order = page asked.run; file = asked.file }) (run_in rest)
-task_with words.Paths rest = with_file paths rest
+task_with words.Paths rest = option_map paths_of (named_in rest)
 task_with words.Stalls rest = stalls_with rest
 task_with words.Depth rest = with_file (depth Inside) rest
 task_with words.Same rest = None
@@ -264,7 +275,7 @@ abbrev pub task_named : List Text → Option Task
 task_named [] = None
 task_named (name ∷ rest) = if nat_lt 14 (length rest) then None else option_and_then (λ word. task_with word rest) (word_named name)
 
--- THE FLAGS of words: `paths --svg`, and `depth --files 0`, with at most a file after them.
+-- THE FLAGS of words: `paths --svg`, with names of the stages and a file after it, and `depth --files 0`, with at most a file.
 abbrev pub asks_picture : Text → Text → Bool
 asks_picture word flag = bytes_eq word (codes "paths") && bytes_eq flag (codes "--svg")
 
@@ -279,7 +290,7 @@ abbrev pub with_flag : Text → List Text → Option Task
 with_flag word [] = None
 with_flag word (flag ∷ files) =
     if has_flag files then None
-    else (if asks_picture word flag then with_file paths_svg files
+    else (if asks_picture word flag then picture_with files
     else (if asks_files word flag then depth_with files else None))
 
 -- A DIAGRAM WITH LABELS: `--label` and a word that names the labels, of at most 16,777,216 bytes, and maybe `--listing` and a file, are between the words of a

@@ -16,7 +16,8 @@ impl<'w> Order<'w> {
             Order::Window(later) => later.run.names,
             Order::Labelled(shown) => shown.later.run.names,
             Order::Stalls(cycles) => cycles.names,
-            Order::Paths | Order::PathsSvg | Order::Depth(_) => &[],
+            Order::Paths(names) | Order::PathsSvg(names) => *names,
+            Order::Depth(_) => &[],
         }
     }
 
@@ -30,8 +31,10 @@ impl<'w> Order<'w> {
             Order::Labelled(shown) => Order::Labelled(shown.named(listed)),
             Order::Svg(run) => Order::Svg(run.named(listed)),
             Order::Page(run) => Order::Page(run.named(listed)),
+            Order::Paths(names) => Order::Paths(names_or(listed, names)),
+            Order::PathsSvg(names) => Order::PathsSvg(names_or(listed, names)),
             Order::Stalls(cycles) => Order::Stalls(cycles.named(listed)),
-            Order::Paths | Order::PathsSvg | Order::Depth(_) => self,
+            Order::Depth(_) => self,
         }
     }
 
@@ -46,8 +49,8 @@ impl<'w> Order<'w> {
             | Order::Window(_)
             | Order::Svg(_)
             | Order::Page(_)
-            | Order::Paths
-            | Order::PathsSvg
+            | Order::Paths(_)
+            | Order::PathsSvg(_)
             | Order::Stalls(_)
             | Order::Depth(_) => &[],
         }
@@ -63,8 +66,8 @@ impl<'w> Order<'w> {
             | Order::Window(_)
             | Order::Svg(_)
             | Order::Page(_)
-            | Order::Paths
-            | Order::PathsSvg
+            | Order::Paths(_)
+            | Order::PathsSvg(_)
             | Order::Stalls(_)
             | Order::Depth(_) => None,
         }
@@ -80,8 +83,8 @@ impl<'w> Order<'w> {
             | Order::Window(_)
             | Order::Svg(_)
             | Order::Page(_)
-            | Order::Paths
-            | Order::PathsSvg
+            | Order::Paths(_)
+            | Order::PathsSvg(_)
             | Order::Stalls(_)
             | Order::Depth(_) => self,
         }
@@ -98,8 +101,8 @@ impl<'w> Order<'w> {
             | Order::Window(_)
             | Order::Svg(_)
             | Order::Page(_)
-            | Order::Paths
-            | Order::PathsSvg
+            | Order::Paths(_)
+            | Order::PathsSvg(_)
             | Order::Stalls(_)
             | Order::Depth(_) => self,
         }
@@ -119,8 +122,8 @@ impl<'w> Order<'w> {
             Order::Labelled(_)
             | Order::Svg(_)
             | Order::Page(_)
-            | Order::Paths
-            | Order::PathsSvg
+            | Order::Paths(_)
+            | Order::PathsSvg(_)
             | Order::Stalls(_)
             | Order::Depth(_) => self,
         }

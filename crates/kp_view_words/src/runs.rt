@@ -3,7 +3,7 @@ ghost use Rattle.std.specs.Prelude.{◌≡◌, ◌&&◌, ltb, leb, ◌≤◌, If
 ghost use Rattle.std.specs.List.{list_any, list_all};
 ghost use Rattle.kp_base.specs.Characters.{is_word};
 ghost use Rattle.kp_view_words.specs.{Asked.order_seen, Asked.run_seen, Asked.task_seen, inner.Asking.named_seen, inner.Asking.run_asked, inner.Asking.span_seen};
-ghost use Rattle.kp_view_words.specs.Words.{diagram_of, diagram_with, from_cycle, named_in, stalls_of, stalls_with, with_file, run_in, run_with, span_after, span_between, span_of, count_of, names_in, file_in, is_file_after, is_name, is_path};
+ghost use Rattle.kp_view_words.specs.Words.{diagram_of, diagram_with, from_cycle, named_in, paths_of, picture_with, stalls_of, stalls_with, with_file, run_in, run_with, span_after, span_between, span_of, count_of, names_in, file_in, is_file_after, is_name, is_path};
 
 use crate::task::{Cycles, Later, Order, Run, Span, Task};
 use kp_base::{is_digit, is_word, run_length};
@@ -120,6 +120,28 @@ fn listed_with<'w>(count: u32, rest: &'w [String]) -> Option<Task<'w>>
     let Named { names, file } = named_in(rest)?;
     Some(Task {
         order: Order::Stalls(Cycles { count, names }),
+        file,
+    })
+}
+
+// The paths of a job: names of stages and a file.
+pub(crate) fn paths_with<'w>(rest: &'w [String]) -> Option<Task<'w>>
+    ensures { option_map task_seen result ≡ option_map paths_of (named_in (map string_bytes rest.now)) }
+{
+    let Named { names, file } = named_in(rest)?;
+    Some(Task {
+        order: Order::Paths(names),
+        file,
+    })
+}
+
+// The same as a picture.
+pub(crate) fn picture_with<'w>(rest: &'w [String]) -> Option<Task<'w>>
+    ensures { option_map task_seen result ≡ picture_with (map string_bytes rest.now) }
+{
+    let Named { names, file } = named_in(rest)?;
+    Some(Task {
+        order: Order::PathsSvg(names),
         file,
     })
 }

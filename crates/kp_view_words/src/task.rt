@@ -22,10 +22,10 @@ pub enum Order<'w> {
     Svg(Run<'w>),
     /// A run with the states of its cycles, as an HTML page.
     Page(Run<'w>),
-    /// Where each read can take its value from, as a table.
-    Paths,
+    /// Where each read can take its value from, as a table, with names of the stages, or none.
+    Paths(&'w [String]),
     /// The same as a picture.
-    PathsSvg,
+    PathsSvg(&'w [String]),
     /// Why instructions wait or are squashed.
     Stalls(Cycles<'w>),
     /// The longest path of each stage.

@@ -11,7 +11,7 @@ pub const VERSION: &str = "kpview 0.10.0\n";
 pub const USAGE: &str = "usage: kpview diagram N [NAMES] [--label L,L [--listing FILE]] [FILE]
        kpview svg N [NAMES] [FILE]
        kpview page N [NAMES] [FILE]
-       kpview paths [--svg] [FILE]
+       kpview paths [--svg] [NAMES] [FILE]
        kpview stalls N [NAMES] [FILE]
        kpview depth [--files 0] [FILE]
        kpview same FILE FILE
@@ -39,7 +39,8 @@ N is 0 to 1000; a name has 1 to 8 letters, digits or `_`
 ";
 
 /// How `paths` is called.
-pub const USAGE_PATHS: &str = "usage: kpview paths [--svg] [FILE]
+pub const USAGE_PATHS: &str = "usage: kpview paths [--svg] [NAMES] [FILE]
+a name has 1 to 8 letters, digits or `_`
 ";
 
 /// How `stalls` is called.
@@ -66,7 +67,8 @@ words:
                              N cycles of the pipeline, as text
   svg N [NAMES] [FILE]       the same as a picture
   page N [NAMES] [FILE]      the same as an HTML page, with the states
-  paths [--svg] [FILE]       where each read takes its value from
+  paths [--svg] [NAMES] [FILE]
+                             where each read takes its value from
   stalls N [NAMES] [FILE]    why instructions wait or are squashed
   depth [--files 0] [FILE]   the longest path of each stage
   same FILE FILE             whether two jobs describe the same instruction
@@ -161,11 +163,15 @@ pub const HELP_PATHS: &str =
     "Prints a table of the forwarding paths of the pipelined machine of a job: a row
 for each read, with its line and its stage, and a column for each stage.
 
-usage: kpview paths [--svg] [FILE]
+usage: kpview paths [--svg] [NAMES] [FILE]
 
   --svg   draw a picture, in SVG 1.1: the stages as columns, the reads as rows,
           and for each cell but `.` an arrow to the stage of the read
-  FILE    the job; without it, standard input is read
+  NAMES   a name for each stage, of 1 to 8 letters, digits or `_`, as in
+          IF ID EX ME WB; without names the stages are numbered
+  FILE    the job; without it, standard input is read. A single word is a file.
+          Of several, the last one is a file if it has a character other than
+          letters, digits and `_`, as in ./job
 
 A cell says what an older instruction in that stage has for the read:
   bypass  the value, once the stage isn't stalled

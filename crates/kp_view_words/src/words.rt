@@ -6,7 +6,7 @@ ghost use Rattle.kp_command_line.specs.Words.{has_flag, matched_seen};
 ghost use Rattle.kp_view_words.specs.Words.{asked_for, listing_asked, listing_given, topic_of, topic_named, help_place, is_help_word, is_help_flag, is_version_flag, asks_help, task_of, task_named, task_with, flagged_task, asks_diagram, asks_files, asks_picture, depth_with, with_flag, word_named};
 
 use crate::labels::labelled_task;
-use crate::runs::{diagram_with, run_in, stalls_with, with_file};
+use crate::runs::{diagram_with, paths_with, picture_with, run_in, stalls_with, with_file};
 use crate::task::{Memories, Order, Task};
 use kp_base::NoMemory;
 use kp_command_line::{Matched, has_flag, match_words, source_in};
@@ -255,7 +255,7 @@ fn task_with<'w>(word: Word, rest: &'w [String]) -> Option<Task<'w>>
                 file: asked.file,
             })
         }
-        Word::Paths => with_file(Order::Paths, rest),
+        Word::Paths => paths_with(rest),
         Word::Stalls => stalls_with(rest),
         Word::Depth => with_file(Order::Depth(Memories::Inside), rest),
         Word::Same => None,
@@ -284,7 +284,7 @@ fn asks_diagram(word: &str) -> bool
     word == "diagram"
 }
 
-// `paths --svg` or `depth --files 0`, with at most a file.
+// `paths --svg` with names of stages and a file, or `depth --files 0` with at most a file.
 fn with_flag<'w>(word: &str, rest: &'w [String]) -> Option<Task<'w>>
     ensures { option_map task_seen result ≡ with_flag word.now (map string_bytes rest.now) }
 {
@@ -293,7 +293,7 @@ fn with_flag<'w>(word: &str, rest: &'w [String]) -> Option<Task<'w>>
             if has_flag(files) {
                 None
             } else if asks_picture(word, flag.as_str()) {
-                with_file(Order::PathsSvg, files)
+                picture_with(files)
             } else if asks_files(word, flag.as_str()) {
                 depth_with(files)
             } else {

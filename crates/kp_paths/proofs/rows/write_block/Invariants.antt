@@ -1,8 +1,8 @@
-use Rattle.std.proofs.Common.{drop}
+use Rattle.std.proofs.Common.{drop, map, string_bytes}
 use Rattle.kp_base.specs.inner.Writing.{WroteUpTo}
 use Rattle.kp_paths.specs.Text.{rows_in}
 use Rattle.kp_paths.proofs.rows.write_block.Given as goal
 
 abbrev pub invariant-loop-stmt : goal.invariant-loop-stmt
 invariant-loop-stmt g l =
-    WroteUpTo g.K.Sink.held g.K.Sink.faults (rows_in l.paths l.width l.k l.stmts) (rows_in l.paths l.width l.k (drop l.stmt-index l.stmts)) l.initial.out l.out
+    WroteUpTo g.K.Sink.held g.K.Sink.faults (rows_in (map string_bytes l.names) l.paths l.width l.k l.stmts) (rows_in (map string_bytes l.names) l.paths l.width l.k (drop l.stmt-index l.stmts)) l.initial.out l.out

@@ -5,4 +5,4 @@ use Rattle.kp_paths.proofs.rows.write_cells.Given as goal
 
 abbrev pub invariant-loop-j : goal.invariant-loop-j
 invariant-loop-j g l =
-    WroteUpTo g.K.Sink.held g.K.Sink.faults (cells_text l.paths l.read l.k 0 l.count) (cells_text l.paths l.read l.k l.j (l.count - l.j)) l.initial.out l.out
+    WroteUpTo g.K.Sink.held g.K.Sink.faults (cells_text l.paths l.read l.width l.k 0 l.count) (cells_text l.paths l.read l.width l.k l.j (l.count - l.j)) l.initial.out l.out

@@ -1,4 +1,4 @@
-use Rattle.std.proofs.Common.{◌≡◌, ◌+◌, ℕ, List, None, Ok, All, ap, subst}
+use Rattle.std.proofs.Common.{◌≡◌, ◌+◌, ℕ, List, None, Ok, All, ap, map, string_bytes, subst}
 use Rattle.kp_diagram_run.specs.Windows.{job_window}
 use Rattle.kp_diagram_text.specs.Labelled.{labelled_text}
 use Rattle.kp_diagram_labels.specs.{Labels.IsLabel, Labels.labels_of, Texts.heading, Texts.label_text}
@@ -60,12 +60,13 @@ returns-in-Page g c =
 pub returns-in-Paths : goal.returns-in-Paths
 returns-in-Paths g c =
     let job = c.args.job.now.design.job in
-    λ file. drawn_by g.K.Sink.held g.K.Sink.faults file (order_seen c.args.order.now) paths c.args.input.now job (ap order_seen c.in-Paths.is) (c.the_cells_are_the_paths.ensures job) _ _ _ c.paths.ensures
+    λ file. drawn_by g.K.Sink.held g.K.Sink.faults file (order_seen c.args.order.now) (paths (map string_bytes c.in-Paths.names.now)) c.args.input.now job (ap order_seen c.in-Paths.is)
+    (c.the_cells_are_the_paths.ensures job) _ _ _ c.paths.ensures
 
 pub returns-in-PathsSvg : goal.returns-in-PathsSvg
 returns-in-PathsSvg g c =
     let job = c.args.job.now.design.job in
-    λ file. drawn_by g.K.Sink.held g.K.Sink.faults file (order_seen c.args.order.now) paths_svg c.args.input.now job (ap order_seen c.in-PathsSvg.is)
+    λ file. drawn_by g.K.Sink.held g.K.Sink.faults file (order_seen c.args.order.now) (paths_svg (map string_bytes c.in-PathsSvg.names.now)) c.args.input.now job (ap order_seen c.in-PathsSvg.is)
     (c.the_cells_are_the_paths.ensures job, c.the_arrows_are_the_cells.ensures job) _ _ _ c.paths_svg.ensures
 
 pub returns-in-Stalls : goal.returns-in-Stalls

@@ -1,4 +1,4 @@
-use Rattle.std.proofs.Common.{◌≡◌, ◌∙◌, ℕ, List, length, refl, ap, sym, subst}
+use Rattle.std.proofs.Common.{◌≡◌, ◌∙◌, ℕ, List, [], length, refl, ap, sym, subst}
 use Rattle.std.proofs.lemmas.Result.{err_from_is_err_and}
 use Rattle.kp_bits.specs.Word.{Word}
 use Rattle.kp_cycle.specs.Steps.{Running}
@@ -44,6 +44,6 @@ returns-in_err-end g c =
     let exit = err_from_is_err_and c.from_residual-in_err-end.result c.from_residual-in_err-end.ensures.1 in
     let due = c.in_err-end.ensures in
     let text : List ℕ =
-    page_text (figure_of c.args.chart.now) (rows_of c.args.chart.now) c.args.input.now (paths_text c.args.paths.now)
+    page_text (figure_of c.args.chart.now) (rows_of c.args.chart.now) c.args.input.now (paths_text [] c.args.paths.now)
     (states_text c.args.job.now.design.job c.args.count) in
     rw (exit.1, exit.2) (due.cause.failed, text, (refl, refl), due.text)
