@@ -5,6 +5,17 @@ use Rattle.std.specs.{Borrow.Bor, List.find, List.list_any, Option.option_copied
 use Rattle.kp_command_line.{specs.Words.Text, specs.Words.has_flag, specs.Words.is_flag, proofs.Parses.any_text}
 use Rattle.kp_view_words.specs.Words.{asks_files, asks_picture, depth_with, is_name, names_in, picture_with, takes_names, with_flag, wrong_name}
 
+-- a second word that begins with `-`, and others that do
+by_none : (word flag : Text) (files : List Text) → true ≡ has_flag files → None ≡ with_flag word (flag ∷ files)
+by_none word flag files some =
+    ap (λ (b : Bool). cond b None (cond (asks_picture word flag) (picture_with files) (cond (asks_files word flag) (depth_with files) None))) some
+
+-- a flag for a picture
+by_picture : (word flag : Text) (files : List Text) → false ≡ has_flag files → true ≡ asks_picture word flag → picture_with files ≡ with_flag word (flag ∷ files)
+by_picture word flag files none picture =
+    ap (λ (b : Bool). cond b (picture_with files) (cond (asks_files word flag) (depth_with files) None)) picture
+    ∙ ap (λ (b : Bool). cond b None (cond (asks_picture word flag) (picture_with files) (cond (asks_files word flag) (depth_with files) None))) none
+
 -- a flag for files
 by_files : (word flag : Text) (files : List Text) → false ≡ has_flag files → false ≡ asks_picture word flag → true ≡ asks_files word flag
     → depth_with files ≡ with_flag word (flag ∷ files)
@@ -26,14 +37,27 @@ module _ {X : Type 0} (text : X → Text) where
   all_left : (words : List X) → left words ≡ drop 1 words
   all_left words = let l = length-drop 1 words in take_all (length words - 1) (drop 1 words) (omega (arith, l))
 
+  seen_flag : (x : X) (rest : List X) (b : Bool) → b ≡ list_any (λ w. is_flag (text w)) (left (x ∷ rest)) → b ≡ has_flag (map text rest)
+  seen_flag x rest b is = is ∙ any_text text is_flag (left (x ∷ rest)) ∙ ap (λ (ws : List X). has_flag (map text ws)) (all_left (x ∷ rest))
+
+  pub flagged_none : (word : Text) (rest : List X) → 1 ≤ length rest → true ≡ list_any (λ w. is_flag (text w)) (left rest) → None ≡ with_flag word (map text rest)
+  flagged_none word [] b some = absurd (omega (arith, b))
+  flagged_none word (x ∷ rest) b some = by_none word (text x) (map text rest) (seen_flag x rest true some)
+
+  pub flagged_picture : (word : Text) (rest : List X) (flag : X) → 1 ≤ length rest → flag ≡ get_or rest 0 flag
+      → false ≡ list_any (λ w. is_flag (text w)) (left rest) → true ≡ asks_picture word (text flag) → picture_with (map text (left rest)) ≡ with_flag word (map text rest)
+  flagged_picture word [] flag b first none picture = absurd (omega (arith, b))
+  flagged_picture word (x ∷ rest) flag b first none picture =
+      ap (λ (ws : List X). picture_with (map text ws)) (all_left (x ∷ rest))
+      ∙ by_picture word (text x) (map text rest) (seen_flag x rest false none) (picture ∙ ap (λ (f : X). asks_picture word (text f)) first)
+
   pub flagged_files : (word : Text) (rest : List X) (flag : X) → 1 ≤ length rest → flag ≡ get_or rest 0 flag
       → false ≡ list_any (λ w. is_flag (text w)) (left rest) → false ≡ asks_picture word (text flag) → true ≡ asks_files word (text flag)
       → depth_with (map text (left rest)) ≡ with_flag word (map text rest)
   flagged_files word [] flag b first none picture asks = absurd (omega (arith, b))
   flagged_files word (x ∷ rest) flag b first none picture asks =
-      let all = all_left (x ∷ rest) in
-      ap (λ (ws : List X). depth_with (map text ws)) all
-      ∙ by_files word (text x) (map text rest) (none ∙ any_text text is_flag (left (x ∷ rest)) ∙ ap (λ (ws : List X). has_flag (map text ws)) all)
+      ap (λ (ws : List X). depth_with (map text ws)) (all_left (x ∷ rest))
+      ∙ by_files word (text x) (map text rest) (seen_flag x rest false none)
       (picture ∙ ap (λ (f : X). asks_picture word (text f)) first) (asks ∙ ap (λ (f : X). asks_files word (text f)) first)
 
   -- the first word that can't be the name of a stage
