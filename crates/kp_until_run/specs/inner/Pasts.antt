@@ -5,7 +5,7 @@ use Rattle.kp_bits.specs.Word.{Word, word}
 use Rattle.kp_implements.specs.Naming.{value_shown}
 use Rattle.kp_machine.specs.{Slots.targets_of, Words.HasWord, Words.target}
 use Rattle.kp_net.specs.Netlist.{Net, last_of}
-use Rattle.kp_pipeline.specs.Rows.{bit, bits, one_if, passed}
+use Rattle.kp_pipeline.specs.{Machine.State, Rows.bit, Rows.bits, Rows.one_if, Rows.passed}
 use Rattle.kp_run.specs.{Cycles.inputs_to, Homes.AreHomes, Homes.home_of, Places.places_in, inner.Lanes.passes_after}
 use Rattle.kp_sched.specs.Rows.{bit_of}
 use Rattle.kp_until.specs.declared.until.Until.{Until, TheVariants.Halt}
@@ -17,11 +17,11 @@ use Rattle.kp_until_run.specs.declared.{history.History.History, hunt.Found.Foun
 -- ---- updates of targets
 
 -- how many updates target t has had in n cycles
-abbrev pub updates_in : Job → ℕ → ℕ → ℕ
+abbrev pub updates_in : Job → (cycles target : ℕ) → ℕ
 updates_in job n t = passes_after job (own_rows job n) n (home_of job t)
 
 -- the words of target t after c instructions of a run over `limit` cycles
-abbrev pub words_after : Job → ℕ → ℕ → ℕ → ℕ → Word
+abbrev pub words_after : Job → (limit target count address : ℕ) → Word
 words_after job limit t c a = word (target job t).width (states_in job limit c t a)
 
 -- in each state of a run over `limit` cycles a netlist shows the words after the updates so far
@@ -59,21 +59,21 @@ pub record IsPast (job : Job) (net : Net) (limit n : ℕ) (p : Past) : Type 0 wh
 -- ---- conditions
 
 -- for a condition that holds after r instructions, so many fewer are counted
-pub record CountsBack (job : Job) (s : ℕ → ℕ → ℕ → ℕ) (u : Until) (r back : ℕ) : Type 0 where
+pub record CountsBack (job : Job) (s : ℕ → State) (u : Until) (r back : ℕ) : Type 0 where
   pub few : back ≤ 4
   pub within : back ≤ r
   pub counts : CountsFor job s u r (r - back)
 
 -- no condition holds after r instructions
-abbrev pub NoneAt : Job → (ℕ → ℕ → ℕ → ℕ) → List Until → ℕ → Type 0
+abbrev pub NoneAt : Job → (ℕ → State) → List Until → ℕ → Type 0
 NoneAt job s untils r = (m : ℕ) → m < length untils → Holds job s r (get_or untils m Halt) → ⊥
 
 -- or after fewer
-abbrev pub NoneBelow : Job → (ℕ → ℕ → ℕ → ℕ) → List Until → ℕ → Type 0
+abbrev pub NoneBelow : Job → (ℕ → State) → List Until → ℕ → Type 0
 NoneBelow job s untils r = (i m : ℕ) → i < r → m < length untils → Holds job s i (get_or untils m Halt) → ⊥
 
 -- the first of the conditions that holds after r instructions
-pub record IsFoundAt (job : Job) (s : ℕ → ℕ → ℕ → ℕ) (untils : List Until) (r : ℕ) (f : Found) : Type 0 where
+pub record IsFoundAt (job : Job) (s : ℕ → State) (untils : List Until) (r : ℕ) (f : Found) : Type 0 where
   pub which : f.which < length untils
   pub holds : Holds job s r (get_or untils f.which Halt)
   pub before : (m : ℕ) → m < f.which → Holds job s r (get_or untils m Halt) → ⊥
